@@ -1,5 +1,5 @@
 """Whole copies of an office, and the way back. A copy is a folder by date and time: the office's files, and their digests."""
-import collections, contextlib, csv, datetime, hashlib, io, json, os, re, shutil, threading
+import collections, contextlib, csv, datetime, fcntl, hashlib, io, json, os, re, shutil
 
 import clerks, election, log
 from election import Fault
@@ -12,6 +12,11 @@ def digest_of(data):
     return hashlib.sha256(data).hexdigest()
 
 
+def words_of(why):
+    """What failed, in words."""
+    return f'{why.filename}: {why.strerror}' if isinstance(why, OSError) and why.filename else str(why)
+
+
 def put(path, data):
     """Writes a new file for this account alone, and waits until it is on the disk."""
     with os.fdopen(os.open(path, os.O_WRONLY | os.O_CREAT | os.O_EXCL, 0o600), 'wb') as file:
@@ -20,10 +25,13 @@ def put(path, data):
         os.fsync(file.fileno())
 
 
-def sync(folder):
-    """Waits until the names in a folder are on the disk."""
+@contextlib.contextmanager
+def synced(folder):
+    """Has a folder alone, and at the end waits until its names are on the disk."""
     number = os.open(folder, os.O_RDONLY | os.O_DIRECTORY)
     try:
+        fcntl.flock(number, fcntl.LOCK_EX)
+        yield
         os.fsync(number)
     finally:
         os.close(number)
@@ -73,9 +81,11 @@ def files_of(parts):
             with open(path, 'rb') as file:
                 data = file.read()
         except FileNotFoundError:
-            if part in ('log', 'belongs', 'words'):
-                continue
-            raise
+            if part not in ('log', 'belongs', 'words'):
+                raise
+            continue
+        if b'PRIVATE KEY' in data and part == 'certificate':    # Some have both in one file.
+            continue
         files[name] = text_of(data) if part == 'journal' else data[:data.rfind(b'\n') + 1] if part == 'log' else data
     return files
 
@@ -90,8 +100,7 @@ class Copies:
     """The copies of an office in the folder that --backup names."""
 
     def __init__(self, folder, program, parts):
-        self.folder, self.program, self.parts, self.turn = folder, program, parts, threading.Lock()
-        self.device = os.stat(folder).st_dev
+        self.folder, self.program, self.parts, self.device = folder, program, parts, os.stat(folder).st_dev
         self.form = re.escape(os.path.basename(parts['journal'])) + r'\.\d{4}-\d\d-\d\d_\d\d\.\d\d\.\d\d\.\d{3}Z(-evening)?'
 
     def lacks(self):
@@ -118,24 +127,23 @@ class Copies:
         name = f"{os.path.basename(self.parts['journal'])}.{now:%Y-%m-%d_%H.%M.%S}.{now.microsecond // 1000:03}Z"
         name += '-evening' * is_evening
         beside, whole = os.path.join(self.folder, f'.{name}'), os.path.join(self.folder, name)
-        with self.turn:
-            if self.lacks():
-                raise OSError(self.lacks())
+        if lacks := self.lacks():
+            raise OSError(lacks)
+        with synced(self.folder):
             self.clear()
             os.mkdir(beside, 0o700)
             try:
-                for it, data in files.items():
-                    put(os.path.join(beside, it), data)
-                audited(self.program, beside, self.parts)
-                sums = ''.join(f'{digest_of(data)}  {it}\n' for it, data in files.items())
-                put(os.path.join(beside, SUMS), sums.encode())
-                sync(beside)
+                with synced(beside):
+                    for it, data in files.items():
+                        put(os.path.join(beside, it), data)
+                    audited(self.program, beside, self.parts)
+                    sums = ''.join(f'{digest_of(data)}  {it}\n' for it, data in files.items())
+                    put(os.path.join(beside, SUMS), sums.encode())
                 os.rename(beside, whole)
-                sync(self.folder)
             except BaseException:
                 shutil.rmtree(beside, ignore_errors=True)
                 raise
-            self.thin()
+        self.thin()
         return whole
 
     def clear(self):
@@ -145,7 +153,7 @@ class Copies:
 
     def thin(self):
         """Deletes old copies: the newest ones and each evening's are kept. A copy that is being deleted is no copy any more."""
-        with contextlib.suppress(OSError):
+        with contextlib.suppress(OSError), synced(self.folder):
             for name in self.names()[:-KEPT]:
                 if not name.endswith('-evening'):
                     os.rename(os.path.join(self.folder, name), os.path.join(self.folder, f'.{name}'))
@@ -167,13 +175,13 @@ def restore(copy, program):
         try:
             parts, found = together(files, program)
         except (Fault, OSError, ValueError, KeyError, TypeError) as why:
-            raise Fault(f'{copy}: its files do not belong together: {why}. Nothing was put back; take another copy') from None
+            raise Fault(f'{copy}: its files do not belong together: {words_of(why)}. Nothing was put back; take another copy') from None
         # Without FILE nothing starts: it comes last.
-        for name in sorted(files, key=lambda it: (it == parts['file'], it != parts['journal'])):
-            os.rename(os.path.join(CHECKED, name), name)
+        with synced(here):
+            for name in sorted(files, key=lambda it: (it == parts['file'], it != parts['journal'])):
+                os.rename(os.path.join(CHECKED, name), name)
     finally:
         shutil.rmtree(CHECKED, ignore_errors=True)
-    sync(here)
     return [f'{copy} is whole: {len(files)} files, each with its digest.', *found, f"Put back into {here}: {', '.join(sorted(files))}."]
 
 
@@ -195,7 +203,7 @@ def as_copied(copy):
             raise ValueError('; '.join(wrong))
         return files
     except (OSError, ValueError) as why:
-        raise Fault(f'{copy} is not a whole copy: {why}. Nothing was put back; take another copy') from None
+        raise Fault(f'{copy} is not a whole copy: {words_of(why)}. Nothing was put back; take another copy') from None
 
 
 def together(files, program):
@@ -216,6 +224,6 @@ def together(files, program):
     if 'log' in parts and log.Log(os.path.join(CHECKED, parts['log'])).entries > count:
         raise ValueError('the log has an answer that the journal lacks')
     found.append(f"Copied at {state['time'][:19].replace('T', ', ')} UTC. What was answered later is not here: it has to be taken again.")
-    if 'certificate' in parts:
+    if state['has_key']:
         found.append("The certificate's key is in no copy: bring it yourself.")
     return parts, found

@@ -111,7 +111,7 @@ class Keeper:
         files = copies.files_of(self.parts)
         text, parts = files[os.path.basename(self.given.journal)], {part: os.path.basename(path) for part, path in self.parts.items()}
         state = {'time': time, 'journal': {'length': len(text), 'sha256': copies.digest_of(text)}, 'entries': copies.entries_of(text),
-                 **self.now, 'parts': {part: name for part, name in parts.items() if name in files}}
+                 **self.now, 'has_key': bool(self.given.cert), 'parts': {part: name for part, name in parts.items() if name in files}}
         name = os.path.basename(f'{self.given.journal}.window')
         return {**files, name: (json.dumps(state, indent=1) + '\n').encode()}, name
 
@@ -175,4 +175,4 @@ class Keeper:
         try:
             self.keep(is_copied)
         except (Fault, OSError, ValueError, csv.Error) as why:
-            self.tell(f'No copy was made: {why}')
+            self.tell(f'No copy was made: {copies.words_of(why)}')

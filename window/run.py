@@ -109,6 +109,7 @@ class Day:
                 if whole:
                     print(f'Copied to {whole}', flush=True)
             except (OSError, ValueError, csv.Error, election.Fault) as why:
+                why = copies.words_of(why)
                 self.keeper.tell(f'No copy was made: {why}')
                 return f'No copy was made: {why}. Copy the folder by hand. If {self.given.journal} was moved, look for {self.given.journal}.kept.'
 
@@ -133,11 +134,6 @@ def copied_or_restored(given):
     return [f'Copied to {whole}']
 
 
-def words_of(why):
-    """What failed, in words."""
-    return f'{why.filename}: {why.strerror}' if isinstance(why, OSError) and why.filename else str(why)
-
-
 def tls_of(given):
     """The TLS of the window, if it has a certificate. A Fault where this, its key or the address cannot be used."""
     host, port = given.address
@@ -153,7 +149,7 @@ def tls_of(given):
     try:
         return server.Tls(given.cert, given.key) if given.cert else None
     except (OSError, ValueError) as why:
-        raise election.Fault(f'the certificate {given.cert} with the key {given.key} cannot be used: {words_of(why)}') from None
+        raise election.Fault(f'the certificate {given.cert} with the key {given.key} cannot be used: {copies.words_of(why)}') from None
 
 
 def opened(given):
@@ -176,7 +172,7 @@ def main():
     try:
         made = opened(given)
     except (election.Fault, OSError, ValueError, csv.Error) as why:
-        sys.exit(f'run.py: {words_of(why)}')
+        sys.exit(f'run.py: {copies.words_of(why)}')
     if not made:
         return
     pages.office, tls = made
@@ -193,7 +189,7 @@ def main():
         stop.wait()
         web.stop()
     except OSError as why:
-        failure = f'run.py: {words_of(why)}'
+        failure = f'run.py: {copies.words_of(why)}'
         print(failure, file=sys.stderr)
     sys.exit(day.end(is_over=True) or (1 if failure else None))
 
