@@ -1,7 +1,7 @@
 """Tries what keeps an office through its days: whole copies and the way back, settings, and what changed overnight."""
 import hashlib, os, pty, re, select, shutil, signal, socket, stat, subprocess, time
 
-from window_clerk import LIMIT, PYTHON, RUN, TOP, Clerk, Window, passphrase_of
+from window_clerk import CLERKS, LIMIT, PYTHON, RUN, TOP, Clerk, Window, passphrase_of, typed_at_terminal
 from window_office import until
 from window_seen import CITY, new_folder, see
 
@@ -135,6 +135,7 @@ def try_copies(program, work):
         there = {it.name for it in copies_of(copies)[-2].iterdir()} | {it.name for it in copies_of(copies)[-1].iterdir()}
         see(done.returncode == 0 and not {'both.pem', 'key.pem'} & there, 'no key is in a copy', done, there)
     see('cert.pem' in there, 'but the certificate is', there)
+    try_open(program, folder)
     try_killed(program, folder, copies)
     before = copies_of(copies)
     window.journal.write_bytes(window.journal.read_bytes().replace(b';cast;', b';cost;'))
@@ -174,7 +175,7 @@ def try_killed(program, folder, copies):
         done = run(program, folder, number, 'city.pb', 'city.journal', '--clerks', 'clerks.json', '--backup', copies, '--copy', script=script)
         outcomes.append(done.returncode)
         see(done.returncode in (0, -signal.SIGKILL) and 'not synced' not in done.stdout, f'killed at call {number}', done)
-        see(all(map(is_whole, copies_of(copies))), f'killed at call {number}: whole or absent', *copies_of(copies))
+        see(all(map(is_whole, copies_of(copies))), f'killed at call {number}: whole or absent', *[it for it in copies_of(copies) if not is_whole(it)])
         see(len(set(copies_of(copies)) - set(before)) <= 1 and len(copies_of(copies)) >= 20, 'and the older ones are kept')
         if number > 200 or done.returncode not in (0, -signal.SIGKILL):
             break
@@ -216,6 +217,64 @@ def try_hours(program, work):
         said, status = window.end()
         see(status == 1 and said.count(words) >= 1 and f'No copy was made: {copies} is not there' in said, 'told at the terminal too', said)
         see('Traceback' not in said, 'in words', said)
+
+
+def try_open(program, folder):
+    """A copy by hand while `serve` runs; an id may have an empty line."""
+    copies = folder / 'by hand'
+    copies.mkdir()
+    rows = '0;cast;"an\n\nid\n\n";0\n0;cast;"9;""\n\n7;b";1\n'
+    with subprocess.Popen([program, 'serve', folder / 'city.pb', folder / 'open.journal'], stdin=subprocess.PIPE, stdout=subprocess.PIPE,
+                          stderr=subprocess.DEVNULL, text=True) as serve:
+        serve.stdout.readline()
+        for count in (1, 2):
+            serve.stdin.write(rows if count == 1 else '0;cast;late;0\n')
+            serve.stdin.flush()
+            while ('\n3;' if count == 2 else '\n2;') not in (folder / 'open.journal').read_text():
+                time.sleep(0.05)
+            done = run(program, folder, 'city.pb', 'open.journal', '--backup', copies, '--copy')
+            copy = copies_of(copies)[-1]
+            text = (folder / 'open.journal').read_text()
+            see(done.returncode == 0 and text.startswith((copy / 'open.journal').read_text()) and text != (copy / 'open.journal').read_text()
+                and (copy / 'open.journal').read_text().endswith((';done\n')), 'a copy while serve runs ends where the text ends', done)
+            see(f'"entries": {count + 1},' in (copy / 'open.journal.window').read_text(), 'and has all entries', copy)
+        serve.communicate()
+
+
+def try_names(program, work):
+    """Names are the same in capital and small letters; the clerks are listed; turnout by day and clerk."""
+    folder = new_folder(work, 'names')
+    path = folder / 'clerks.json'
+    clerks = lambda *words: subprocess.run([str(it) for it in (PYTHON, '-B', CLERKS, '--clerks', path, *words)], capture_output=True, text=True,
+                                           stdin=subprocess.DEVNULL)
+    see(clerks('close', 'cY').stdout == 'Cy is clerk 3, and can no longer sign in\n', 'a name in other letters')
+    done = clerks('list')
+    see(done.stdout == '0 Head, the head clerk\n1 Ann\n2 Ben & "Co" <b>\n3 Cy, closed\n' and done.returncode == 0, 'the clerks are listed', done)
+    see(clerks('list', 'Ann').returncode == 2 and clerks('add').returncode == 2, 'list takes no name, and add takes one')
+    said, status = typed_at_terminal([PYTHON, CLERKS, '--clerks', path, 'add', 'ANN'], ['long enough it is'] * 2)
+    see(status == 1 and 'there is a clerk Ann already' in said, 'no second name in other letters', said)
+    with Window(program, folder).start() as window:
+        ann, head = Clerk(window), Clerk(window)
+        see('clerk 1' in ann.sign_in('aNN', passphrase_of('Ann')).seen, 'a clerk signs in by other letters')
+        head.sign_in('HEAD', passphrase_of('Head'))
+        ann.ask('cast', 'v1', ['12']), ann.ask('cast', 'v2', ['12']), ann.ask('replace', 'v2', ['7']), ann.ask('withdraw', 'old1')
+        head.ask('cast', 'v3', ['12']), ann.ask('cast', 'v4', ['nowhere'])
+        turnout = r'Withdrawn ?(20\d\d-\d\d-\d\d) ?Head \(clerk 0, you\) ?1 ?0 ?0 ?\1 ?Ann \(clerk 1\) ?2 ?1 ?1 '
+        see(re.search(turnout, head.get('/head').seen), 'what was recorded by day and clerk', head.get('/head').seen)
+        window.end()
+        yesterday = (folder / 'city.journal.log').read_text().replace('{"time": "20', '{"time": "19')
+        (folder / 'city.journal.log').write_text(yesterday)
+        window.start()
+        ann.cookies, head.cookies = {}, {}
+        ann.sign_in('ann', passphrase_of('Ann')), head.sign_in('Head')
+        ann.ask('cast', 'v5', ['12'])
+        see(re.search(turnout.replace('20', '19') + r'?20\d\d-\d\d-\d\d ?Ann \(clerk 1\) ?1 ?0 ?0 ', head.get('/head').seen),
+            'each day by itself, also after a start', head.get('/head').seen)
+        # Wrong tries count for a name in any letters.
+        for name in ('Ben', 'BEN', 'bEN'):
+            page = Clerk(window, '127.0.0.9').sign_in(name + ' & "Co" <b>', 'wrong')
+        see(page.status == 429, 'and so do wrong tries', page.seen)
+        window.end()
 
 
 def try_restore(program, work):

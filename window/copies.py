@@ -1,5 +1,5 @@
 """Whole copies of an office, and the way back. A copy is a folder by date and time: the office's files, and their digests."""
-import collections, contextlib, csv, datetime, fcntl, hashlib, io, json, os, re, shutil
+import contextlib, datetime, fcntl, hashlib, json, os, re, shutil
 
 import clerks, election, log
 from election import Fault
@@ -40,25 +40,18 @@ def synced(folder):
 def text_of(data):
     """The text of a journal: a `serve` that runs has line ends, and may have begun rows, behind its first empty line."""
     end = data.find(b'\n\n') + 1
-    if b'"' not in data[:end]:
-        return data[:end] if end else data
-    ends = [0]          # An id may hold an empty line, so records are read.
-
-    def lines():
-        for line in io.BytesIO(data):
-            ends.append(ends[-1] + len(line))
-            yield line.decode('latin-1')
-    for row in csv.reader(lines(), delimiter=';'):
-        if not row:
-            return data[:ends[-2]]
-    return data
+    while data[:end].count(b'"') % 2:       # This one is in an id.
+        end = data.find(b'\n\n', end) + 1
+    return data[:end] if end else data
 
 
 def entries_of(text):
-    """How many entries the text of a journal has: the number in its last row."""
-    rows = text if b'"' in text else text[text.rfind(b'\n', 0, -1) + 1:]
-    last = collections.deque(election.records(io.StringIO(rows.decode('latin-1'), newline='')), 1)
-    return int(last[0][0]) if last and last[0][0].isdecimal() else 0
+    """How many entries the text of a journal has: the number in its last row, whose id may have line ends."""
+    begin = text.rfind(b'\n', 0, -1)
+    while begin > 0 and text[begin:].count(b'"') % 2:
+        begin = text.rfind(b'\n', 0, begin)
+    number = text[begin + 1:].split(b';')[0]
+    return int(number) if number.isdigit() else 0
 
 
 def parts_of(given):
@@ -124,8 +117,8 @@ class Copies:
     def make(self, files, is_evening=False):
         """Makes a copy of these files, and gives its path. It is written beside and renamed: it is whole or absent."""
         now = datetime.datetime.now(datetime.timezone.utc)
-        name = f"{os.path.basename(self.parts['journal'])}.{now:%Y-%m-%d_%H.%M.%S}.{now.microsecond // 1000:03}Z"
-        name += '-evening' * is_evening
+        time = f'{now:%Y-%m-%d_%H.%M.%S}.{now.microsecond // 1000:03}Z{"-evening" * is_evening}'
+        name = f"{os.path.basename(self.parts['journal'])}.{time}"
         beside, whole = os.path.join(self.folder, f'.{name}'), os.path.join(self.folder, name)
         if lacks := self.lacks():
             raise OSError(lacks)

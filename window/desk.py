@@ -147,6 +147,7 @@ class Desk:
         elif row[1:4] == [str(asked.clerk), asked.request, asked.voter]:
             entry = self.note(row)
             asked.outcome, told = Outcome('entry', entry), {'entry': entry.number, 'answer': entry.answer}
+            self.log.turnout[time.strftime('%Y-%m-%d', time.gmtime()), asked.clerk, asked.request] += entry.answer == 'done'
         else:
             raise ValueError('the answer of another request')
         self.log.write('answered', form=asked.form, clerk=asked.clerk, request=asked.request, **told)

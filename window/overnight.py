@@ -1,5 +1,5 @@
 """What changed overnight: JOURNAL.window has what a day left behind, and the next morning is compared with it."""
-import contextlib, csv, datetime, getpass, hashlib, json, os, sys, threading
+import contextlib, datetime, getpass, hashlib, json, os, sys, threading
 
 import clerks, copies
 from election import Fault
@@ -109,11 +109,11 @@ class Keeper:
         """The files of the office as they are now, by their names, and what JOURNAL.window has of them."""
         time = datetime.datetime.now(datetime.timezone.utc).isoformat(timespec='milliseconds')
         files = copies.files_of(self.parts)
-        text, parts = files[os.path.basename(self.given.journal)], {part: os.path.basename(path) for part, path in self.parts.items()}
+        name, parts = os.path.basename(self.given.journal), {part: os.path.basename(path) for part, path in self.parts.items()}
+        text = files[name]
         state = {'time': time, 'journal': {'length': len(text), 'sha256': copies.digest_of(text)}, 'entries': copies.entries_of(text),
-                 **self.now, 'has_key': bool(self.given.cert), 'parts': {part: name for part, name in parts.items() if name in files}}
-        name = os.path.basename(f'{self.given.journal}.window')
-        return {**files, name: (json.dumps(state, indent=1) + '\n').encode()}, name
+                 **self.now, 'has_key': bool(self.given.cert), 'parts': {part: it for part, it in parts.items() if it in files}}
+        return {**files, f'{name}.window': (json.dumps(state, indent=1) + '\n').encode()}
 
     def keep(self, is_copied=True, is_evening=False):
         """Writes JOURNAL.window, and makes a copy. Gives the path of the copy."""
@@ -121,17 +121,17 @@ class Keeper:
             state, path, failure, whole = load(self.given.journal), f'{self.given.journal}.window', None, None
             if told := journal_changed(state, self.given.journal) if state and is_copied else []:
                 raise Fault(told[0])
-            files, name = self.files()
+            files = self.files()
             try:
                 with contextlib.suppress(FileNotFoundError):
                     os.remove(f'{path}.new')
-                copies.put(f'{path}.new', files[name])
+                copies.put(f'{path}.new', files[os.path.basename(path)])
                 os.replace(f'{path}.new', path)
             except OSError as why:      # A full disk here is one more reason for a copy elsewhere.
                 failure = why
             if self.copies and is_copied:
-                whole = self.copies.make(files, is_evening)
-                self.last, self.trouble = whole, None
+                whole = self.last = self.copies.make(files, is_evening)
+                self.trouble = None
                 self.log.write('copied', name=os.path.basename(whole))
                 self.warn(whole)
             if failure:
@@ -174,5 +174,5 @@ class Keeper:
         """Keeps what can be kept, and tells what failed."""
         try:
             self.keep(is_copied)
-        except (Fault, OSError, ValueError, csv.Error) as why:
+        except (Fault, OSError, ValueError) as why:
             self.tell(f'No copy was made: {copies.words_of(why)}')

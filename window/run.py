@@ -1,6 +1,6 @@
 #!/usr/bin/python3
 """The clerks' window: web pages on which clerks cast, replace and withdraw ballots. README.md says how an office uses it."""
-import argparse, csv, errno, ipaddress, os, shlex, shutil, signal, socket, sys, threading
+import argparse, errno, ipaddress, os, shlex, shutil, signal, socket, sys, threading
 
 sys.dont_write_bytecode = True
 import copies, desk, election, log, overnight, roll, sessions, settings, sign_in
@@ -108,7 +108,7 @@ class Day:
                 whole = self.keeper.keep(is_evening=True)
                 if whole:
                     print(f'Copied to {whole}', flush=True)
-            except (OSError, ValueError, csv.Error, election.Fault) as why:
+            except (OSError, ValueError, election.Fault) as why:
                 why = copies.words_of(why)
                 self.keeper.tell(f'No copy was made: {why}')
                 return f'No copy was made: {why}. Copy the folder by hand. If {self.given.journal} was moved, look for {self.given.journal}.kept.'
@@ -121,17 +121,6 @@ class Day:
         report = [given.program, 'audit', given.file, given.journal, '--digests', '--require-shut', *rule]
         shown = [given.program, 'page', given.file, '--journal', given.journal, *shows, *rule]
         return {'report.txt': election.told_by(*report), 'result.html': election.told_by(*shown)}
-
-
-def copied_or_restored(given):
-    """Makes a copy, or puts one back, without a window; gives in words what was done."""
-    if given.restore:
-        more = 'Leave the other machine switched off. Then start the window as each morning.'
-        return [*copies.restore(given.restore, given.program), more]
-    keeper = overnight.Keeper(given, None)
-    whole = keeper.copies.make(keeper.files()[0])
-    keeper.warn(whole)
-    return [f'Copied to {whole}']
 
 
 def tls_of(given):
@@ -160,8 +149,13 @@ def opened(given):
         signal.signal(number, end_early)
     if not shutil.which(given.program):
         raise election.Fault(f'--program: {given.program} is not a program that can be run')
-    if given.restore or given.copy:
-        return print(*copied_or_restored(given), sep='\n')
+    if given.restore:
+        print(*copies.restore(given.restore, given.program), sep='\n')
+        return print('Leave the other machine switched off. Then start the window as each morning.')
+    if given.copy:
+        keeper = overnight.Keeper(given, None)
+        keeper.warn(whole := keeper.copies.make(keeper.files()))
+        return print(f'Copied to {whole}')
     tls = tls_of(given)
     return Day(given), tls
 
@@ -171,7 +165,7 @@ def main():
     os.umask(0o077)
     try:
         made = opened(given)
-    except (election.Fault, OSError, ValueError, csv.Error) as why:
+    except (election.Fault, OSError, ValueError) as why:
         sys.exit(f'run.py: {copies.words_of(why)}')
     if not made:
         return

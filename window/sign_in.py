@@ -39,10 +39,10 @@ class Door:
 
     def judge(self, name, passphrase, address, mark):
         """The clerk and 0; or None and the seconds to wait, 0 where name or passphrase is wrong."""
-        clerk = next((it for it in self.clerks() if it['name'] == name), None)
+        clerk = clerks.named(self.clerks(), name)
         is_head = clerk is self.known[0]
         is_marked = is_head and hmac.compare_digest(mark.encode(), self.mark_of(mark.split('.')[0]).encode())
-        keys = [('browser', mark)] if is_marked else [('head', address)] if is_head else [('name', name), ('address', address)]
+        keys = [('browser', mark)] if is_marked else [('head', address)] if is_head else [('name', clerks.folded(name)), ('address', address)]
         with self.turn:
             wait = max(self.wrong.get(key, (0, 0))[1] - time.monotonic() for key in keys)
             if wait > 0:
