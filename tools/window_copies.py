@@ -1,5 +1,5 @@
 """Tries what keeps an office through its days: whole copies and the way back, settings, and what changed overnight."""
-import hashlib, os, pty, re, select, shutil, signal, socket, stat, subprocess, time
+import concurrent.futures, hashlib, os, pty, re, select, shutil, signal, socket, stat, subprocess, time
 
 from window_clerk import CLERKS, LIMIT, PYTHON, RUN, TOP, Clerk, Window, passphrase_of, typed_at_terminal
 from window_office import until
@@ -277,6 +277,32 @@ def try_names(program, work):
         window.end()
 
 
+def try_after_shut(program, work):
+    """After a shut no page invites to ask again."""
+    folder = new_folder(work, 'after')
+    with Window(program, folder).start() as window:
+        ann, head = Clerk(window), Clerk(window)
+        ann.sign_in('Ann'), head.sign_in('Head')
+        form, number = ann.look('cast', 'v1', ['12']), window.serve_id()
+        os.kill(number, signal.SIGSTOP)
+        with concurrent.futures.ThreadPoolExecutor(1) as pool:
+            waiting = pool.submit(ann.record, form)
+            window.await_asked('v1')
+            os.kill(number, signal.SIGKILL)
+            see('not known' in waiting.result().seen, 'a request without an answer')
+        see('ask again' in ann.get('/').seen, 'which a page speaks of')
+        head.get('/head')
+        page = head.post('/shut', {'word': 'shut'})
+        see('Entry 1 ' in page.seen, 'the desk is shut', page.seen)
+        for clerk, path in ((ann, '/'), (head, '/head'), (head, '/')):
+            page = clerk.get(path)
+            see('ask again' not in page.seen and ('It was not recorded.' in page.seen) == (path == '/head' or clerk is ann),
+                f'{path} says what came of it, and not to ask again', page.seen)
+        page = ann.post('/voter', {'voter': 'v1'})
+        see('ask again' not in page.seen and '/look' not in page.text, 'nor does the page of the voter', page.seen)
+        window.end()
+
+
 def try_restore(program, work):
     """An office goes on elsewhere; a copy that is not as it was made is not put back."""
     window, folder, copies = made_office(program, work, 'dead')
@@ -383,6 +409,19 @@ def try_overnight(program, work):
             it.write_bytes(data)
         for it in set(copies_of(copies)) - {copy}:
             shutil.rmtree(it)
+    # A journal that was cut behind what JOURNAL.window has: the log knows more.
+    (folder / 'city.journal.window').unlink()
+    journal.write_bytes(text[:text.index(b'\n2;') + 1])
+    done = run(program, folder, *words)
+    see(done.returncode == 1 and 'lacks entry 2, which was answered (its entries: 1)' in done.stderr and str(copy) in done.stderr
+        and 'Give the right journal this name' in done.stderr, 'a journal with less than the log says is told', done)
+    told, status = at_terminal(window, passphrase_of('Head'))
+    see(status is None and 'Entries in the journal: 1.' in told, 'and opened when the head clerk confirms', told)
+    ended(window)
+    for it in set(copies_of(copies)) - {copy}:
+        shutil.rmtree(it)
+    for it, data in kept.items():
+        it.write_bytes(data)
     journal.unlink()
     told, status = at_terminal(window, passphrase_of('Head'))
     see(status == 1 and 'city.journal is gone' in told and str(copy) in told and 'log' not in told and not journal.exists(),

@@ -97,9 +97,9 @@ class Desk:
             return file.read(4096)
 
     def lacking(self, number, count):
-        """What is wrong with a journal that has not all that was answered, and what to do."""
+        """What is wrong with a journal that has not all that was answered, and what to do. At a start the head clerk can confirm."""
         return (f'{self.files[1]} lacks entry {number}, which was answered (its entries: {count}). Give the right '
-                f'journal this name. To go on without what this one lacks, move {self.files[1]}.log to another folder')
+                'journal this name. To go on without what this one lacks, end the window and start it again: the head clerk confirms it there')
 
     def note(self, row):
         """Takes an entry."""

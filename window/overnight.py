@@ -98,10 +98,16 @@ class Keeper:
     def compare(self, head):
         """Tells what changed overnight, and lets the head clerk confirm it."""
         state, given = load(self.given.journal), self.given
-        told = changes(state, given, self.now) if state else []
+        told, found = changes(state, given, self.now) if state else [], b''
+        with contextlib.suppress(FileNotFoundError):
+            with open(given.journal, 'rb') as file:
+                found = copies.text_of(file.read())
+        if not told and copies.entries_of(found) < self.log.entries:
+            told = [f'{given.journal} lacks entry {self.log.entries}, which was answered (its entries: {copies.entries_of(found)}). '
+                    'Give the right journal this name.']
         newest = self.copies.newest() if self.copies else None
         if told and not os.path.exists(given.journal):
-            raise Fault(f'{told[0]} Get it back' + (f', or restore the newest copy in a new folder: {newest}' if newest else ''))
+            raise Fault(told[0] + (f' Get it back, or restore the newest copy in a new folder: {newest}' if newest else ' Get it back.'))
         if told:
             confirm(told, newest, head, self.log)
 
