@@ -378,8 +378,8 @@ def try_overnight(program, work):
     text, city = journal.read_bytes(), (folder / 'city.pb').read_bytes()
     since = r'has changed since \d+ \w+ 20\d\d, \d\d:\d\d: '
     for what, path, data, said in (
-            ('another ballot', journal, text.replace(b';v1;0;', b';v1;1;'), since + 'what it had then is not the same. It had 2 entries then.'),
-            ('a journal that was cut', journal, text[:text.index(b'\n2;') + 1], since + 'it is shorter. It had 2 entries then.'),
+            ('another ballot', journal, text.replace(b';v1;0;', b';v1;1;'), since + 'what it had then is not the same. Its entries then: 2.'),
+            ('a journal that was cut', journal, text[:text.index(b'\n2;') + 1], since + 'it is shorter. Its entries then: 2.'),
             ('an empty journal', journal, b'', since + 'it is shorter'),
             ('another FILE', folder / 'city.pb', city.replace(b'Library', b'Theatre'), 'city.pb has changed since .*: its SHA-256 was '
              + hashlib.sha256(city).hexdigest())):
@@ -460,7 +460,7 @@ def try_settings(program, work):
                        ('title = 5', 'the setting title is a text'), ('title = "<b>Budget</b>"', 'the setting title has < or >'), ('title = "two\\nlines"', 'title'), ('title = ""', 'title'),
                        ('roll = ["voters.csv"]', 'roll'), ('name = ["a", 5]', 'name'), ('name = []', 'name'), ('name = "<x>"', 'the setting name has <'),
                        (f'name = {["a"] * 1000}', 'name'), ('currency = {a = 1}', 'the setting currency is'), ('backup-every = 0', 'backup-every'),
-                       ('listen = "here"', 'listen'), ('"<script>" = 1', 'script'), ('[a.b]', "'a'"), ('title = "a"\ntitle = "b"', 'office.toml'),
+                       ('listen = "here"', 'listen'), ('listen = "127.0.0.1:99999"', 'listen'), ('"<script>" = 1', 'script'), ('[a.b]', "'a'"), ('title = "a"\ntitle = "b"', 'office.toml'),
                        ('title = ' + '[' * 30000, 'office.toml'), ('#' * 70000, 'office.toml'), ('title =', 'office.toml'),
                        ('title = "\ud800"', 'office.toml')):
         path.write_bytes(('file = "city.pb"\njournal = "city.journal"\nclerks = "clerks.json"\n' + text).encode(errors='surrogatepass'))

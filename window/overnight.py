@@ -25,7 +25,7 @@ def load(journal):
     try:
         with open(f'{journal}.window', encoding='utf-8') as file:
             state = json.load(file)
-        day_of(state['time']), state['journal']['length'] + 0, state['journal']['sha256'], state['file'], state['roll'], state['settings']
+        day_of(state['time']), state['journal']['length'] + 0, state['journal']['sha256'], state['file'], state['roll'], state['settings'], state['entries']
         return state
     except FileNotFoundError:
         return None
@@ -37,7 +37,7 @@ def load(journal):
 def journal_changed(state, journal):
     """What is not as it was in the part of the journal that the last day left behind, in words; entries may have been added."""
     since, kept = day_of(state['time']), state['journal']
-    had = f'It had {state["entries"]} entries then.'
+    had = f'Its entries then: {state["entries"]}.'
     if not os.path.exists(journal):
         return [f'{journal} is gone: it was there on {since}. {had}']
     with open(journal, 'rb') as file:
@@ -78,7 +78,11 @@ def confirm(told, newest, head, log):
     log.write('changed-overnight', changes=told)
     if not sys.stdin.isatty():
         raise Fault('The head clerk has to confirm this at a terminal. Nothing was opened')
-    if not clerks.is_right(head, getpass.getpass(f"To go on as it is, {head['name']} types the passphrase: ")):
+    try:
+        passphrase = getpass.getpass(f"To go on as it is, {head['name']} types the passphrase: ")
+    except EOFError:
+        passphrase = ''
+    if not clerks.is_right(head, passphrase):
         log.write('not-confirmed')
         raise Fault("this is not the head clerk's passphrase. Nothing was opened")
     # From here on the log asks for no entry that this journal does not have.

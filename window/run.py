@@ -59,6 +59,8 @@ def arguments():
     host, _, port = given.listen.rpartition(':')
     try:
         address, given.address = ipaddress.ip_address(host.strip('[]')), (host.strip('[]'), int(port))
+        if given.address[1] not in range(65536):
+            raise ValueError
     except ValueError:
         parser.error('--listen takes an address and a port, such as 127.0.0.1:8080')
     if bool(given.cert) != bool(given.key) or not (given.cert or address.is_loopback):
