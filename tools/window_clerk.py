@@ -29,7 +29,8 @@ def free_port():
 
 
 def typed_at_terminal(command, answers):
-    """Runs a command at a terminal of its own: types an answer whenever it asks. Gives what it wrote, and its status."""
+    """Runs a command at a terminal of its own: types an answer whenever it asks, or what a function among them gives then. Gives
+    what it wrote, and its status."""
     child, terminal = pty.fork()
     if not child:
         os.execv(command[0], [str(word) for word in command])
@@ -43,7 +44,8 @@ def typed_at_terminal(command, answers):
             break
         written += more
         if more.endswith(b': ') and answers:
-            os.write(terminal, answers.pop(0).encode() + b'\n')
+            answer = answers.pop(0)
+            os.write(terminal, (answer() if callable(answer) else answer).encode() + b'\n')
     os.close(terminal)
     return written.decode(), os.waitstatus_to_exitcode(os.waitpid(child, 0)[1])
 
@@ -70,8 +72,10 @@ class Window:
                                       stdout=subprocess.PIPE, stderr=subprocess.STDOUT, text=True, start_new_session=True)
         if is_awaited:
             assert select.select([self.child.stdout], [], [], LIMIT)[0], 'the window does not start'
-            self.first = self.child.stdout.readline()
-            assert 'is open at' in self.first, self.first
+            self.first, self.told = self.child.stdout.readline(), ''    # What it tells before it is open.
+            while self.first and 'is open at' not in self.first:
+                self.first, self.told = self.child.stdout.readline(), self.told + self.first
+            assert self.first, self.told
         return self
 
     def end(self, number=signal.SIGINT):
@@ -145,6 +149,7 @@ class Answer:
 
 class Clerk:
     """A clerk without a browser, from an address of its own."""
+    patience = LIMIT    # How many seconds a page may take.
 
     def __init__(self, window, address='127.0.0.1', tls=None):
         self.window, self.address, self.cookies, self.token, self.tls = window, address, {}, '', tls
@@ -158,7 +163,7 @@ class Clerk:
         given |= headers or {}
         kind = http.client.HTTPSConnection if self.tls else http.client.HTTPConnection
         more = {'context': self.tls} if self.tls else {}
-        link = kind('127.0.0.1', self.window.port, timeout=LIMIT, source_address=(self.address, 0), **more)
+        link = kind('127.0.0.1', self.window.port, timeout=self.patience, source_address=(self.address, 0), **more)
         link.request(method, path, body, {key: it for key, it in given.items() if it is not None})
         answer = Answer(link.getresponse())
         link.close()

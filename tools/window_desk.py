@@ -184,7 +184,7 @@ def try_shut(program, work):
         page = ben.record(late)
         see('Not recorded: nothing was sent. You asked for this: cast, voter late. The desk was shut by entry 4.' in page.seen
             and len(window.entries()) == 4, 'a late form is not sent', page.seen)
-        see([it['why'] for it in window.log() if it['what'] == 'unsent'] == ['stopped'], 'which is in the log')
+        see([it['why'] for it in window.log() if it['what'] == 'unsent'] == ['refused', 'refused', 'stopped'], 'which is in the log')
         see('taken by Ann (clerk 1)' in ben.post('/voter', {'voter': 'v1'}).seen, 'a voter can still be looked up')
         report = head.get('/result/report.txt').body
         see(report.decode() == window.audit('--digests', '--require-shut', '--measure', 'cost').stdout and b'digest;journal;sha256;' in report,

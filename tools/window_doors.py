@@ -24,7 +24,7 @@ def try_doors(program, work):
         page = ann.post('/sign-in', {'name': 'Ann', 'passphrase': passphrase_of('Ann')})
         session = next(it for it in page.headers.get_all('Set-Cookie'))
         see(page.status == 303 and 'HttpOnly' in session and 'SameSite=Strict' in session and before.items() <= ann.cookies.items()
-            and len(ann.cookies) == len(before) + 1, 'a new session at the sign-in', session)
+            and len(ann.cookies) == len(before) + 2, 'a new session and a mark at the sign-in', session)
         one = dict(ann.cookies)
         ann.sign_in('Ann')
         see(ann.cookies != one and 'clerk 1' in ann.get('/').seen, 'another session at the next sign-in')
@@ -99,7 +99,7 @@ def try_limits(window, ann):
     stranger, before = Clerk(window, '127.0.0.11'), len(window.log())
     for _ in range(220):
         stranger.post('/sign-out', {})
-    see(0 < len(window.log()) - before <= 201, 'strangers fill no more than 100 lines of the log a minute', len(window.log()) - before)
+    see(0 < len(window.log()) - before <= 102, 'strangers fill no more than 50 lines of a kind a minute', len(window.log()) - before)
     drips = {}
     for what, beginning in (('headers', b'GET / HTTP/1.1\r\nA: '), ('a body', b'POST /sign-in HTTP/1.1\r\nHost: x\r\nContent-Length: 1000\r\n\r\n'),
                             ('nothing', b'')):
@@ -157,12 +157,12 @@ def try_ids(window, ann):
     page = ann.ask('replace', MARKUP, [MARKUP])
     see('Recorded.' in page.seen and window.entries()[-1] == [str(count + 1), '1', 'replace', MARKUP, '2', 'done'],
         'a voter and a project of markup', page.seen, window.entries()[-1:])
-    for voter in ('a\nb', 'a\rb', 'a\0b', '   ', '', '\u2003'):
+    for voter in ('a\nb', 'a\rb', 'a\0b', '   ', '', '\u2003', '\u202eturned', 'a\u200bb', 'a\u2028b', 'a\u2029b', 'a\x85b', 'x' * 201, 'é' * 101):
         page = ann.post('/voter', {'voter': voter})
         see(page.status == 400, f'{voter!r} is no id', page.status)
     see('Recorded.' in ann.ask('cast', ' \u2003 spaced one\t', [' 12 ', '7', '7', '']).seen
         and window.entries()[-1][3:] == ['spaced one', '0,1', 'done'], 'ids are trimmed', window.entries()[-1:])
-    for odd in ('q"uote', 'semi;colon', 'co,mma', '=1+1', "it's", 'naïve 公園', '\u202eturned', '-', '#', 'META'):
+    for odd in ('q"uote', 'semi;colon', 'co,mma', '=1+1', "it's", 'naïve 公園', '-', '#', 'META', 'x' * 200, 'é' * 100):
         see('Recorded.' in ann.ask('cast', odd, []).seen and window.entries()[-1][2:] == ['cast', odd, '', 'done'],
             f'{odd!r} is an id', window.entries()[-1:])
     page = ann.ask('cast', 'too many', ['12', '7', '99', MARKUP])
@@ -212,7 +212,10 @@ def try_wrong_passphrases(window, head, other):
             found = re.search(r'Wait (\d+) seconds', page.seen)
     see(len(waits) >= 3 and waits == sorted(waits) and waits[-1] >= 2 * waits[0], 'each wrong passphrase delays more', waits)
     page = Clerk(window, '127.0.0.6').sign_in('Cy')
-    see('Wait' in page.seen, 'a name is delayed at other addresses too, with the right passphrase', page.seen)
+    see('clerk 3' in page.seen, 'and nobody at another address, with the right passphrase', page.seen)
+    found = re.search(r'Wait (\d+) seconds', bad.sign_in('Cy').seen)
+    time.sleep(int(found[1]) if found else 0)
+    see(not found or int(found[1]) <= 10 and 'clerk 3' in bad.sign_in('Cy').seen, 'and at the same address for 10 seconds at most', found)
     for number in range(4):
         other.sign_in(f'nobody {number}', 'wrong')
     see('Recorded' not in other.get('/').seen and 'Wait' in other.sign_in('nobody 9', 'wrong').seen + other.sign_in('nobody 8', 'wrong').seen
@@ -225,7 +228,7 @@ def try_wrong_passphrases(window, head, other):
     see('Wait' in Clerk(window).sign_in('Head').seen, 'the address is delayed now')
     see('clerk 0' in head.sign_in('Head').seen, 'and not the browser in which the head clerk had signed in')
     forged = Clerk(window)
-    forged.cookies[f'window-{window.port}-head'] = 'a' * 32 + '.' + 'b' * 64
+    forged.cookies[f'window-{window.port}-mark-0'] = 'a' * 32 + '.' + 'b' * 64
     see('Wait' in forged.sign_in('Head').seen, 'a made-up mark of that browser does not help')
     times = {True: [], False: []}
     for number, name in enumerate(['Ann', 'no a', NAMES[2], 'no b', 'Head', 'no c']):

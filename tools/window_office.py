@@ -67,6 +67,14 @@ def try_roll(program, work):
         words = pathlib.Path(f'/proc/{asked[0]}/cmdline').read_text().split('\0')
         journal = pathlib.Path(words[words.index('--min') + 3])
         see(len(asked) == 1 and journal.read_text().strip() == 'journal;2', 'no voter stands in the journal beside', journal)
+        # Held, it tells nothing, and holds up no page; later it tells again, and of nobody what was asked of another.
+        os.kill(asked[0], signal.SIGSTOP)
+        begun = time.monotonic()
+        ann.patience = 15
+        see(all(warning not in ann.post('/voter', {'voter': voter}).seen for voter in ('annb', 'annc')) and time.monotonic() - begun < 4,
+            'a serve for the roll that is held holds up no page', time.monotonic() - begun)
+        os.kill(asked[0], signal.SIGCONT)
+        see(warning not in ann.post('/voter', {'voter': 'anna'}).seen and warning in ann.post('/voter', {'voter': 'annb'}).seen, 'and then it tells again')
         os.kill(asked[0], signal.SIGKILL)
         see(until(lambda: warning not in ann.post('/voter', {'voter': 'annb'}).seen), 'without it nothing is told')
         see('this voter is not on the roll' in ann.ask('cast', 'annb', ['12', '7']).seen, 'and serve decides')
@@ -126,16 +134,16 @@ def try_words(program, work):
     wordy = folder / 'wordy'
     wordy.write_text(WORDY.format(program))
     wordy.chmod(0o755)
-    with Window(wordy, folder) as window:
+    with Window(wordy, folder, options=['--min', 1]) as window:
         window.start()
         ann, words = Clerk(window), folder / 'city.journal.words'
         ann.sign_in('Ann')
         see('Entry 1 ' in ann.ask('cast', 'v1', ['12']).seen, 'a ballot beside many words')
-        see('no project has' in ann.ask('cast', 'v2', ['nowhere']).seen, 'a refusal')
+        see('too few projects' in ann.ask('cast', 'v2').seen, 'a refusal')
         window.kill_serve()
         see('Entry 2 ' in ann.ask('cast', 'v2', ['12']).seen, 'and started again, with as many words')
         said, status = window.end()
         text = words.read_bytes()
-        see(status == 0 and text.count(b'x') >= 2_000_000 and b'no project has the id "nowhere"' in text,
+        see(status == 0 and text.count(b'x') >= 2_000_000 and b'row 2' in text,
             'the words are in their file', said, len(text))
         see(stat.S_IMODE(words.stat().st_mode) == 0o600, 'for this account alone')

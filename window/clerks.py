@@ -9,14 +9,15 @@ usage: clerks.py add NAME           a new clerk, with the next number; the first
 The file is clerks.json here, or the one that --clerks CLERKS names. A passphrase is typed at the terminal, twice, and has
 at least 12 characters.
 """
-import argparse, getpass, hashlib, hmac, json, os, secrets, sys, unicodedata
+import argparse, contextlib, fcntl, getpass, hashlib, hmac, json, os, secrets, sys, unicodedata
 
-LEAST = 12
+# How many characters a passphrase has at least and at most.
+LEAST, MOST = 12, 1000
 
 
 def hashed(passphrase, salt):
     """What scrypt makes of a passphrase, with 32 MiB and in about a tenth of a second."""
-    text = unicodedata.normalize('NFC', passphrase).encode()
+    text = unicodedata.normalize('NFC', passphrase[:MOST]).encode()
     return hashlib.scrypt(text, salt=bytes.fromhex(salt), n=2 ** 15, r=8, p=1, maxmem=2 ** 26, dklen=32).hex()
 
 
@@ -70,12 +71,38 @@ def typed(name):
     if not sys.stdin.isatty():
         sys.exit('clerks.py: a passphrase is typed at a terminal')
     passphrase = getpass.getpass(f'Passphrase for {name}: ')
-    if len(passphrase) < LEAST:
-        sys.exit(f'clerks.py: a passphrase has at least {LEAST} characters; nothing was changed')
+    if not LEAST <= len(passphrase) <= MOST:
+        sys.exit(f'clerks.py: a passphrase has at least {LEAST} characters, and at most {MOST}; nothing was changed')
     if getpass.getpass('Once more: ') != passphrase:
         sys.exit('clerks.py: the two differ; nothing was changed')
     salt = secrets.token_hex(16)
     return {'salt': salt, 'hash': hashed(passphrase, salt)}
+
+
+@contextlib.contextmanager
+def alone(path):
+    """Lets one run of this program at a time change the file: whoever has the lock of its folder."""
+    folder = os.open(os.path.dirname(os.path.abspath(path)), os.O_RDONLY)
+    try:
+        fcntl.flock(folder, fcntl.LOCK_EX)
+        yield
+        os.fsync(folder)
+    finally:
+        os.close(folder)
+
+
+def found(path, what, name):
+    """The clerks of the file, and the one of this name, or a new one. Ends the program where this cannot be done with it."""
+    clerks = load(path) if os.path.exists(path) or what != 'add' else []
+    clerk = named(clerks, name) or {'number': len(clerks), 'name': name}
+    refusals = {'a name has at least one character, and only characters that can be seen': not name.isprintable() or not name,
+                f"there is a clerk {clerk['name']} already; give the new one another name": what == 'add' and clerk in clerks,
+                f"there is no clerk {name}; the clerks are {', '.join(it['name'] for it in clerks)}": what != 'add' and clerk not in clerks,
+                'the head clerk cannot be closed: nobody else can shut the desk': what == 'close' and clerk['number'] == 0,
+                'there can be 64 clerks at most': what == 'add' and len(clerks) == 64}
+    for words in filter(refusals.get, refusals):
+        sys.exit(f'clerks.py: {words}')
+    return clerks, clerk
 
 
 def main():
@@ -90,18 +117,15 @@ def main():
         for it in load(given.clerks):
             print(f"{it['number']} {it['name']}{', the head clerk' * (it['number'] == 0)}{'' if it['hash'] else ', closed'}")
         return
-    clerks = load(given.clerks) if os.path.exists(given.clerks) or given.what != 'add' else []
     name = given.name.strip()
-    clerk = named(clerks, name) or {'number': len(clerks), 'name': name}
-    refusals = {'a name has at least one character, and only characters that can be seen': not name.isprintable() or not name,
-                f"there is a clerk {clerk['name']} already; give the new one another name": given.what == 'add' and clerk in clerks,
-                f"there is no clerk {name}; the clerks are {', '.join(it['name'] for it in clerks)}": given.what != 'add' and clerk not in clerks,
-                'the head clerk cannot be closed: nobody else can shut the desk': given.what == 'close' and clerk['number'] == 0,
-                'there can be 64 clerks at most': given.what == 'add' and len(clerks) == 64}
-    for words in filter(refusals.get, refusals):
-        sys.exit(f'clerks.py: {words}')
-    clerk.update({'salt': '', 'hash': ''} if given.what == 'close' else typed(name))
-    save(given.clerks, clerks[:clerk['number']] + [clerk] + clerks[clerk['number'] + 1:])
+    before = found(given.clerks, given.what, name)[1]
+    change = {'salt': '', 'hash': ''} if given.what == 'close' else typed(name)
+    # A passphrase may take minutes to type, and another terminal may change the file meanwhile: so it is read once more.
+    with alone(given.clerks):
+        clerks, clerk = found(given.clerks, given.what, name)
+        if given.what != 'add' and clerk != before:
+            sys.exit(f'clerks.py: {name} was changed at another terminal meanwhile; nothing was changed here')
+        save(given.clerks, clerks[:clerk['number']] + [clerk | change] + clerks[clerk['number'] + 1:])
     print(f"{clerk['name']} is clerk {clerk['number']}", end=', the head clerk' * (clerk['number'] == 0) + ', and can no longer sign in' * (given.what == 'close') + '\n')
 
 

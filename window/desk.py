@@ -1,15 +1,16 @@
 """The desk: `pb_app serve --by-id`, the window's child, which alone writes the journal. Here its answers are read."""
 import collections, contextlib, csv, io, os, secrets, subprocess, threading, time
 
-from election import Fault, records
+from election import Fault, is_fit, records
 from log import opened
 
-# How many seconds the start waits for a journal that another run has, and a clerk for an answer.
-LOCKED, ANSWERS = 10, 60
+# How many seconds the start waits for a journal that another run has, and a clerk for an answer; after how many without an
+# answer a `serve` is held; how many pages may wait for answers, so that there are workers for others, and how long for that.
+LOCKED, ANSWERS, HELD, SEATS, PATIENCE = 10, 60, 3, 32, 1.5
 Entry = collections.namedtuple('Entry', 'number clerk request voter places answer')
 NOTHING = Entry(0, 0, '', '', '', '')
-# How a request ended: with an 'entry'; 'refused', by this name; not sent, since the voter's last entry had 'changed' or the
-# desk had 'stopped'; or sent, and it is 'unknown' what came of it.
+# How a request ended: with an 'entry'; 'refused', by this name; not sent, since the voter's last entry had 'changed', the desk
+# had 'stopped' or is 'held'; or sent, and it is 'unknown' what came of it.
 Outcome = collections.namedtuple('Outcome', 'kind value', defaults=[None])
 
 
@@ -19,6 +20,8 @@ class Request:
     def __init__(self, clerk, request, voter='', ids=(), seen=0, form=None):
         self.form, self.clerk, self.request, self.voter = form or secrets.token_urlsafe(16), clerk, request, voter
         self.ids, self.seen, self.outcome, self.turn, self.ended = ids, seen, None, threading.Lock(), threading.Event()
+        # What its answer has to have: its places, and its number among the rows that its `serve` was sent; and when that was.
+        self.places, self.number, self.sent = '', 0, 0
 
 
 def started(command, errors):
@@ -29,9 +32,9 @@ def started(command, errors):
 
 
 def send(child, *row):
-    """Writes a row to a `serve`."""
+    """Writes a row to a `serve`. Each field is quoted, so that no line end within one ends the row."""
     text = io.StringIO()
-    csv.writer(text, delimiter=';', lineterminator='\n').writerow(row)
+    csv.writer(text, delimiter=';', lineterminator='\n', quoting=csv.QUOTE_ALL).writerow(row)
     child.stdin.write(text.getvalue().encode())
     child.stdin.flush()
 
@@ -39,9 +42,12 @@ def send(child, *row):
 class Desk:
     """The child, and what its journal says of each voter."""
 
-    def __init__(self, serve, file, journal, log, votes):
+    def __init__(self, serve, file, journal, log, election):
         self.command, self.files, self.words = [*serve, file, journal], (file, journal), opened(f'{journal}.words')
-        self.log, self.votes, self.sending = log, votes, threading.RLock()
+        self.log, self.election, self.votes = log, election, election.votes
+        # Whoever sends, or starts the child, does it alone; no page waits for that. How many rows this child was sent.
+        self.sending, self.seats, self.sent = threading.RLock(), threading.BoundedSemaphore(SEATS), 0
+        self.starting, self.begun, self.guard = threading.Thread(), 0, threading.Lock()
         self.waiting, self.busy, self.newest, self.shut, self.mark = collections.deque(), set(), NOTHING, None, None
         # The child that runs, the line with which one has stopped, and why none was started after that.
         self.child, self.fault, self.failure = None, None, None
@@ -73,7 +79,7 @@ class Desk:
         if lacking:
             child.communicate()
             raise Fault(lacking)
-        self.mark, self.child, self.fault, self.failure = mark, child, None, None
+        self.mark, self.child, self.fault, self.failure, self.sent = mark, child, None, None, 0
         self.log.write('started', entries=int(first[1]), state=first[2])
         self.listener = threading.Thread(target=self.listen, args=(child, rows), daemon=True)
         self.listener.start()
@@ -141,10 +147,10 @@ class Desk:
             self.fault = ';'.join(row)
             return
         asked = self.waiting[0]
-        if row[0] == 'fault':
+        if row[0] == 'fault' and row[4:] == [str(asked.number)]:
             asked.outcome, told = Outcome('refused', row[3]), {'refused': row[3]}
             self.log.refused[asked.clerk, row[3]] += 1
-        elif row[1:4] == [str(asked.clerk), asked.request, asked.voter]:
+        elif row[0] == str(self.newest.number + 1) and row[1:5] == [str(asked.clerk), asked.request, asked.voter, asked.places]:
             entry = self.note(row)
             asked.outcome, told = Outcome('entry', entry), {'entry': entry.number, 'answer': entry.answer}
             self.log.turnout[time.strftime('%Y-%m-%d', time.gmtime()), asked.clerk, asked.request] += entry.answer == 'done'
@@ -157,8 +163,18 @@ class Desk:
                 self.settle(it.form, asked.clerk)
         self.end_first()
 
-    def keep_up(self, is_after_fault=False):
-        """Starts the child again where it has died without a word; after a fault only the head clerk does."""
+    def keep_up(self, is_after_fault=False, seconds=PATIENCE):
+        """Starts the child again where it has died without a word; after a fault only the head clerk does. Waits for that, some
+        seconds at most: a start that is held goes on by itself."""
+        if not (self.child or self.shut) and (is_after_fault or not self.fault):
+            with self.guard:
+                if not self.starting.is_alive():
+                    self.starting = threading.Thread(target=self.start_again, args=(is_after_fault,), daemon=True)
+                    self.begun = time.monotonic()
+                    self.starting.start()
+            self.starting.join(seconds)
+
+    def start_again(self, is_after_fault):
         with self.sending:
             if not (self.child or self.shut) and (is_after_fault or not self.fault):
                 try:
@@ -167,12 +183,24 @@ class Desk:
                     self.fault, self.failure = self.fault or 'pb_app serve has ended without a word', str(why)
                     self.log.write('not-started', fault=self.failure)
 
+    def held(self):
+        """For how many seconds `serve` has not answered, where that is long; else 0."""
+        try:
+            begun = self.begun if self.starting.is_alive() else self.waiting[0].sent
+        except IndexError:
+            return 0
+        lasted = int(time.monotonic() - begun)
+        return lasted if lasted >= HELD else 0
+
     def end(self):
         """Ends the child in order: its input ends, and it leaves the journal at rest, also where it had died before."""
-        self.keep_up()
+        self.keep_up(seconds=None)
         with self.sending, contextlib.suppress(OSError):
             if self.child:
                 self.child.stdin.close()
+        self.listener.join(HELD)
+        if self.listener.is_alive():
+            print('\npb_app serve has not ended yet, most likely since it waits for its disk. The window waits for it.', flush=True)
         self.listener.join()
 
     def number_of(self, voter):
@@ -183,30 +211,56 @@ class Desk:
         return self.standing[voter].request != 'withdraw' if voter in self.standing else voter in self.votes
 
     def ask(self, asked):
-        """Sends a request, and waits for its answer. A second call only waits: nothing is ever sent again."""
-        with asked.turn:
-            if not asked.outcome:
-                self.put(asked)
-        if asked.outcome.kind == 'unknown' and not asked.ended.wait(ANSWERS):
-            self.unknown[asked.form] = asked
-            if asked.outcome.kind != 'unknown':     # The answer came at this moment.
-                self.unknown.pop(asked.form, None)
-        return asked.outcome
+        """Sends a request, and waits for its answer. A second call only waits: nothing is ever sent again. While too many wait,
+        nothing is sent, and what was sent is not waited for."""
+        if not self.seats.acquire(timeout=PATIENCE):
+            return asked.outcome or Outcome('held')
+        try:
+            with asked.turn:
+                outcome = asked.outcome or self.put(asked)
+            if outcome.kind == 'unknown' and not asked.ended.wait(ANSWERS):
+                self.unknown[asked.form] = asked
+                if asked.outcome.kind != 'unknown':     # The answer came at this moment.
+                    self.unknown.pop(asked.form, None)
+            return asked.outcome or outcome
+        finally:
+            self.seats.release()
 
     def put(self, asked):
-        """Sends a request, or says why not."""
+        """Judges a request and sends it, or says why not. The same form may be sent later if `serve` is held now."""
+        if asked.request not in ('cast', 'replace', 'withdraw', 'shut') or not is_fit(asked.voter) and asked.request != 'shut':
+            raise ValueError('no such request')
         self.log.write('asked', True, **{it: vars(asked)[it] for it in ('form', 'clerk', 'request', 'voter', 'seen')})
+        self.keep_up(seconds=HELD)
+        if self.held() and not self.is_late(asked):
+            return self.unsent(asked, 'held')
         with self.sending:
-            self.keep_up()
-            is_stopped = self.fault or self.shut or not self.child
-            if is_stopped or asked.voter in self.busy or self.number_of(asked.voter) != asked.seen:
-                asked.outcome = Outcome('stopped' if is_stopped else 'changed')
-                return self.log.write('unsent', form=asked.form, why=asked.outcome.kind)
-            asked.outcome = Outcome('unknown')
-            self.busy.add(asked.voter)
-            self.waiting.append(asked)
-            with contextlib.suppress(OSError):  # Where the child has ended, whoever listens to it ends the request.
-                send(self.child, asked.clerk, asked.request, asked.voter, ','.join(asked.ids))
+            asked.places = self.election.places_of(asked.ids)
+            if self.fault or self.shut or not self.child:
+                asked.outcome = self.unsent(asked, 'stopped')
+            elif self.is_late(asked):
+                asked.outcome = self.unsent(asked, 'changed')
+            elif asked.places is None:
+                asked.outcome = self.unsent(asked, 'refused', 'UnknownId')
+            else:
+                self.sent += 1
+                asked.outcome, asked.number, asked.sent = Outcome('unknown'), self.sent, time.monotonic()
+                self.busy.add(asked.voter)
+                self.waiting.append(asked)
+                with contextlib.suppress(OSError):  # Where the child has ended, whoever listens to it ends the request.
+                    send(self.child, asked.clerk, asked.request, asked.voter, ','.join(asked.ids))
+            return asked.outcome
+
+    def is_late(self, asked):
+        """Whether another request for this voter came since the clerk looked."""
+        return asked.voter in self.busy or self.number_of(asked.voter) != asked.seen
+
+    def unsent(self, asked, why, name=None):
+        """Notes that a request was not sent."""
+        if name:
+            self.log.refused[asked.clerk, name] += 1
+        self.log.write('unsent', form=asked.form, clerk=asked.clerk, why=why, **({'refused': name} if name else {}))
+        return Outcome(why, name)
 
     def settle(self, form, clerk):
         """The clerk who asked, or the head clerk, has seen what came of a request without an answer."""

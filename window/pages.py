@@ -1,5 +1,5 @@
 """The pages: what a clerk sees, and what comes of each form."""
-import hashlib, hmac, os, secrets, traceback, unicodedata
+import hashlib, hmac, os, secrets, traceback
 
 from flask import Flask, Response, abort, g, make_response, redirect, render_template, request
 from markupsafe import Markup
@@ -23,7 +23,7 @@ ANSWERS = {'done': 'Recorded.', 'already-cast': 'Not recorded: this voter has a 
            'UnknownId': 'Not recorded: no project has an id that the ballot names.',
            'NotOnRoll': 'Not recorded: this voter is not on the roll.',
            'TooFew': 'Not recorded: the ballot has too few projects.', 'changed': 'Nothing was sent.',
-           'stopped': 'Not recorded: nothing was sent.', 'unknown': 'It is not known whether this was recorded.'}
+           'stopped': 'Not recorded: nothing was sent.', 'held': 'Not recorded: nothing was sent.', 'unknown': 'It is not known whether this was recorded.'}
 # Why the desk has stopped.
 STOPS = {'write': 'The disk of the journal is full or fails.', 'memory': 'There was no memory left.',
          'moved': 'Somebody moved or replaced the journal.', 'audit': 'The journal was edited.'}
@@ -107,7 +107,7 @@ def failed(why):
         return say('Nothing was sent', 'Nothing was sent to the desk just now. Try again once there is room.', 503)
     if isinstance(why, election.Fault):
         return say('The program refused', str(why), 500)
-    office.log.write('failed', kind=type(why).__name__, where=traceback.format_tb(why.__traceback__)[-1].splitlines()[0].strip())
+    office.log.write('failed', address=request.remote_addr, clerk=g.get('clerk'), kind=type(why).__name__, where=traceback.format_tb(why.__traceback__)[-1].splitlines()[0].strip())
     return say('The window failed', 'Look at the voter again: it is not known whether anything was recorded.', 500)
 
 
@@ -123,7 +123,8 @@ def start():
 @app.post('/sign-in')
 def sign_in():
     name, address = request.form.get('name', '').strip(), request.remote_addr
-    clerk, wait = office.door.judge(name, request.form.get('passphrase', ''), address, cookie('head'))
+    mark_in = lambda number: cookie(f'mark-{number}')
+    clerk, wait = office.door.judge(name, request.form.get('passphrase', ''), address, mark_in)
     if not clerk:
         office.log.write('not-signed-in', address=address, wait=round(wait))
         why = f'Wait {int(wait) + 2} seconds, and try again.' if wait else 'The name or the passphrase is wrong.'
@@ -131,9 +132,7 @@ def sign_in():
     office.log.write('signed-in', clerk=clerk['number'], address=address)
     office.sessions.pop(cookie('session'), None)
     answer = keep(redirect('/', 303), 'session', office.sessions.begin(clerk, office.door.clerks()))
-    if clerk['number'] == 0:
-        keep(answer, 'head', office.door.mark_of(secrets.token_hex(16)), 366 * 86400)
-    return answer
+    return keep(answer, f"mark-{clerk['number']}", office.door.mark_of(clerk, secrets.token_hex(16)), 366 * 86400)
 
 
 @app.post('/sign-out')
@@ -146,8 +145,9 @@ def sign_out():
 def asked_voter():
     """The voter's id of a form, trimmed as the desk does."""
     voter = request.form.get('voter', '').strip(election.SPACE)
-    if not voter or any(unicodedata.category(it) == 'Cc' for it in voter):
-        abort(make_response(say('No such id', 'A voter’s id has at least one character, and no control characters. Type it again.', 400)))
+    if not election.is_fit(voter):
+        abort(make_response(say('No such id', f'A voter’s id has at least one character, at most {election.LONGEST_ID} bytes, and only '
+                                              'characters that can be seen. Type it again.', 400)))
     return voter
 
 
@@ -214,7 +214,7 @@ def settle():
 
 @app.get('/head')
 def head(words='', status=200):
-    counts, clerks = office.desk.counts + office.log.refused, office.door.clerks()
+    counts, clerks = office.desk.counts.copy() + office.log.refused.copy(), office.door.clerks()
     told = [it for it in ANSWERS if it == 'done' or any(answer == it for _, answer in counts)]
     others = {it.clerk['number'] for it in list(office.sessions.values()) if not it.is_over(clerks)} - {0}
     return page('head', 'The head clerk', words=words, counts=counts, answers=told, others=others), status

@@ -89,7 +89,7 @@ class Day:
         self.keeper.compare(self.door.known[0])
         serve = [given.program, 'serve', '--by-id', *['--other-file'] * given.other_file, *(['--roll', given.roll] if given.roll else []), f'--min={given.min}']
         self.roll = roll.Roll(given.program, given.roll) if given.roll else None
-        self.desk = desk.Desk(serve, given.file, given.journal, self.log, self.election.votes)
+        self.desk = desk.Desk(serve, given.file, given.journal, self.log, self.election)
         self.desk.start()
         self.keeper.try_to_keep(is_copied=False)
         if self.desk.shut:
@@ -102,6 +102,7 @@ class Day:
             self.desk.end()
             if is_over:
                 self.keeper.is_over.set()
+            self.log.tell_omitted(is_last=True)
             try:
                 digest, entries = overnight.file_digest(self.given.journal), self.desk.newest.number
                 self.log.write('ended', entries=entries, digest=digest)
@@ -173,6 +174,8 @@ def main():
         return
     pages.office, tls = made
     day, failure = pages.office, None
+    if day.election.unfit:
+        print(day.election.warning(), flush=True)
     web, stop = server.Server(given.address, pages.app, day.log), threading.Event()
     web.ssl_adapter = tls
     for number in (signal.SIGINT, signal.SIGTERM, signal.SIGHUP):
