@@ -109,7 +109,7 @@ def made_office(program, work, name):
     copies.mkdir()
     with Window(program, folder, options=['--backup', copies]).start() as window:
         ann = Clerk(window)
-        ann.sign_in('Ann'), ann.ask('cast', 'v1', ['12']), ann.ask('cast', 'two\u2028lines', ['7'])
+        ann.sign_in('Ann'), ann.ask('cast', 'v1', ['12']), ann.ask('cast', '"two" words', ['7'])
         said, status = window.end()
     see(status == 0 and f'Copied to {copies_of(copies)[0]}\n' in said, 'the copy of the evening is told', said)
     return window, folder, copies
