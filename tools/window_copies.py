@@ -5,8 +5,10 @@ from window_clerk import CLERKS, LIMIT, PYTHON, RUN, TOP, Clerk, Window, passphr
 from window_office import until
 from window_seen import CITY, new_folder, see
 
-# Runs run.py with an hour that lasts a second.
-HURRIED = f'''import sys
+# Runs run.py with an hour that lasts a second, and on a disk that keeps no permissions.
+HURRIED = f'''import os, sys
+real = os.mkdir
+os.mkdir = lambda path, mode=0o777: (real(path), os.chmod(path, 0o755))
 sys.dont_write_bytecode = True
 sys.path.insert(0, {str(TOP / 'window')!r})
 import overnight
@@ -217,6 +219,8 @@ def try_hours(program, work):
         said, status = window.end()
         see(status == 1 and said.count(words) >= 1 and f'No copy was made: {copies} is not there' in said, 'told at the terminal too', said)
         see('Traceback' not in said, 'in words', said)
+        see(said.count(f'the disk of {copies} keeps no permissions: whoever has it can read the copies') == 1,
+            'that a disk keeps no permissions is said once', said)
 
 
 def try_open(program, folder):
