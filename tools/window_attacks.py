@@ -6,6 +6,8 @@ from window_seen import CITY, NAMES, new_folder, see
 
 # How many connections of each kind, and how many seconds a page is waited for.
 MANY, PATIENCE = 500, 15
+# How long pages took in this part.
+waits = []
 
 
 def seconds_of(what, times=3):
@@ -18,7 +20,12 @@ def seconds_of(what, times=3):
         except OSError:
             return 999
         longest = max(longest, time.monotonic() - begun)
+    waits.append(longest)
     return longest
+
+
+def say_waits(part):
+    print(f'try_window: {part}: the slowest of {len(waits)} pages took {max(waits):.2f} seconds')
 
 
 def connected(window, address, text=b'', tls=None):
@@ -79,10 +86,12 @@ def try_strangers(program, work):
                 return
         see('Entry 1 ' in ann.ask('cast', 'v1', ['12']).seen, 'a ballot after that')
         time.sleep(1)
-        window.end()
+        said, status = window.end()
+        see(status == 0 and 'Traceback' not in said, 'nothing is on standard error', said)
         lines, left = omitted(window, 'connection-failed', 'connection-unused')
         failed = MANY * len(kinds)
         see(lines + left == failed, 'each connection that failed is in the log, or counted', lines, left, failed)
+        say_waits('strangers')
         see(lines <= 50 * 2 * 3, 'with few lines a minute', lines, left)
         told = [it for it in window.log() if it['what'] in ('connection-failed', 'connection-unused')]
         see(all(it['address'] == '127.0.0.50' and it['kind'] for it in told), 'and its address', told[:1])
@@ -155,6 +164,7 @@ def try_crowds(program, work):
         see({403, 429} >= set(tried) and len(tried) > 20, 'and nobody else', set(tried), len(tried))
         window.end()
         lines, left = omitted(window, 'not-signed-in')
+        say_waits('crowds')
         see(lines + left == len(tried) and lines <= 150, 'each wrong try is in the log, or counted', lines, left, len(tried))
 
 
@@ -185,10 +195,23 @@ print(door.judge('Ann', 'right', 'there', lambda number: mark)[0]['number'], doo
 '''
 
 
+LONG = '''
+import clerks, time
+def lasted(passphrase):
+    begun = time.thread_time()
+    clerks.is_right(None, passphrase)
+    return time.thread_time() - begun
+short = min(lasted('wrong') for _ in range(3))
+print(min(lasted('a' + '\\u0315\\u0300' * 15000) for _ in range(3)) < 3 * short)
+'''
+
+
 def try_owner(program, work):
     """By a clock that is set: one wrong try a minute, for two hours, locks out nobody who has the right passphrase."""
     done = subprocess.run([PYTHON, '-B', '-c', DOOR, work / 'clerks.json'], cwd=TOP / 'window', capture_output=True, text=True)
     see(done.stdout == 'True True 1 None\n', 'one wrong try a minute locks nobody out', done)
+    done = subprocess.run([PYTHON, '-B', '-c', LONG], cwd=TOP / 'window', capture_output=True, text=True)
+    see(done.stdout == 'True\n', 'a long passphrase of marks takes no longer', done)
 
 
 def record_from(clerk, address, page):
@@ -268,6 +291,7 @@ def try_held(program, work):
         held.unlink()
         time.sleep(1)
         see('Recorded.' in ben.ask('cast', 'at last', ['7']).seen, 'the day goes on')
+        say_waits('held')
         window.end()
     see(window.audit().returncode == 0, 'the journal is audited', window.audit())
 

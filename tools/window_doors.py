@@ -45,6 +45,10 @@ def try_doors(program, work):
             page = ann.post('/record', fields, headers)
             see(page.status in (400, 403) and len(window.entries()) == entries, f'a form with {what} is refused', page.status, page.seen)
         ann.token = token
+        for name in ('\xff', 'a' * 300, '..', f'127.0.0.1:{window.port}\x88', '[', '127.0.0.\x97', '127.0.0.1:x'):
+            page = ann.get('/', Host=name)
+            see(page.status == 400 and ('Wrong address' in page.seen or not page.seen), 'a name that no host has is refused in words', name, page.status)
+        see(not any(it['what'] == 'failed' for it in window.log()), 'and nothing fails by that')
         thief = Clerk(window)
         thief.get('/')
         page = thief.post('/record', fields)
@@ -255,6 +259,7 @@ def try_files(window, folder):
     said, status = window.end()
     digest = hashlib.sha256(window.journal.read_bytes()).hexdigest()
     see(status == 0 and digest in said and f'Entries: {len(window.entries())},' in said, 'the end of the day is told', said, status)
+    see('Traceback' not in said, 'and nothing else is on standard error', said)
     see(window.audit().stdout == f'entries;{len(window.entries())};open\n', 'the journal is at rest and audited', window.audit())
 
 

@@ -4,13 +4,14 @@ import collections, contextlib, csv, io, os, secrets, subprocess, threading, tim
 from election import Fault, is_fit, records
 from log import opened
 
-# How many seconds the start waits for a journal that another run has, and a clerk for an answer; after how many without an
-# answer a `serve` is held; how many pages may wait for answers, so that there are workers for others, and how long for that.
+# How many seconds the start waits for a journal that another run has, and a clerk for an answer; after how many without
+# an answer a `serve` is held. How many pages may wait for answers, so that there are workers for others, and how many
+# seconds a page waits for the start, or until it may wait for an answer.
 LOCKED, ANSWERS, HELD, SEATS, PATIENCE = 10, 60, 3, 32, 1.5
 Entry = collections.namedtuple('Entry', 'number clerk request voter places answer')
 NOTHING = Entry(0, 0, '', '', '', '')
-# How a request ended: with an 'entry'; 'refused', by this name; not sent, since the voter's last entry had 'changed', the desk
-# had 'stopped' or is 'held'; or sent, and it is 'unknown' what came of it.
+# How a request ended: with an 'entry'; 'refused', by this name; not sent, since the voter's last entry had 'changed', or
+# the desk had 'stopped' or is 'held'; or sent, and it is 'unknown' what came of it.
 Outcome = collections.namedtuple('Outcome', 'kind value', defaults=[None])
 
 
@@ -20,7 +21,7 @@ class Request:
     def __init__(self, clerk, request, voter='', ids=(), seen=0, form=None):
         self.form, self.clerk, self.request, self.voter = form or secrets.token_urlsafe(16), clerk, request, voter
         self.ids, self.seen, self.outcome, self.turn, self.ended = ids, seen, None, threading.Lock(), threading.Event()
-        # What its answer has to have: its places, and its number among the rows that its `serve` was sent; and when that was.
+        # What its answer has to have: its places, or its number among the rows of its `serve`; and when it was sent.
         self.places, self.number, self.sent = '', 0, 0
 
 
@@ -45,9 +46,10 @@ class Desk:
     def __init__(self, serve, file, journal, log, election):
         self.command, self.files, self.words = [*serve, file, journal], (file, journal), opened(f'{journal}.words')
         self.log, self.election, self.votes = log, election, election.votes
-        # Whoever sends, or starts the child, does it alone; no page waits for that. How many rows this child was sent.
-        self.sending, self.seats, self.sent = threading.RLock(), threading.BoundedSemaphore(SEATS), 0
-        self.starting, self.begun, self.guard = threading.Thread(), 0, threading.Lock()
+        # Whoever sends, or starts the child, does it alone, and no page that sends nothing waits for that.
+        self.sending, self.seats = threading.RLock(), threading.BoundedSemaphore(SEATS)
+        # How many rows this child was sent; who starts it, and since when.
+        self.sent, self.starting, self.begun, self.guard = 0, threading.Thread(), 0, threading.Lock()
         self.waiting, self.busy, self.newest, self.shut, self.mark = collections.deque(), set(), NOTHING, None, None
         # The child that runs, the line with which one has stopped, and why none was started after that.
         self.child, self.fault, self.failure = None, None, None
@@ -150,7 +152,7 @@ class Desk:
         if row[0] == 'fault' and row[4:] == [str(asked.number)]:
             asked.outcome, told = Outcome('refused', row[3]), {'refused': row[3]}
             self.log.refused[asked.clerk, row[3]] += 1
-        elif row[0] == str(self.newest.number + 1) and row[1:5] == [str(asked.clerk), asked.request, asked.voter, asked.places]:
+        elif row[:5] == [str(it) for it in (self.newest.number + 1, asked.clerk, asked.request, asked.voter, asked.places)]:
             entry = self.note(row)
             asked.outcome, told = Outcome('entry', entry), {'entry': entry.number, 'answer': entry.answer}
             self.log.turnout[time.strftime('%Y-%m-%d', time.gmtime()), asked.clerk, asked.request] += entry.answer == 'done'
@@ -164,15 +166,15 @@ class Desk:
         self.end_first()
 
     def keep_up(self, is_after_fault=False, seconds=PATIENCE):
-        """Starts the child again where it has died without a word; after a fault only the head clerk does. Waits for that, some
-        seconds at most: a start that is held goes on by itself."""
+        """Starts the child again where it has died without a word; after a fault only the head clerk does. Waits for
+        that, some seconds at most: a start that is held goes on by itself."""
         if not (self.child or self.shut) and (is_after_fault or not self.fault):
             with self.guard:
                 if not self.starting.is_alive():
-                    self.starting = threading.Thread(target=self.start_again, args=(is_after_fault,), daemon=True)
-                    self.begun = time.monotonic()
+                    self.begun, start = time.monotonic(), lambda: self.start_again(is_after_fault)
+                    self.starting = threading.Thread(target=start, daemon=True)
                     self.starting.start()
-            self.starting.join(seconds)
+            self.starting.join(0 if self.held() else seconds)
 
     def start_again(self, is_after_fault):
         with self.sending:
@@ -200,7 +202,7 @@ class Desk:
                 self.child.stdin.close()
         self.listener.join(HELD)
         if self.listener.is_alive():
-            print('\npb_app serve has not ended yet, most likely since it waits for its disk. The window waits for it.', flush=True)
+            print('\npb_app serve has not ended yet. Most likely it waits for its disk, and the window for it.', flush=True)
         self.listener.join()
 
     def number_of(self, voter):
@@ -211,8 +213,8 @@ class Desk:
         return self.standing[voter].request != 'withdraw' if voter in self.standing else voter in self.votes
 
     def ask(self, asked):
-        """Sends a request, and waits for its answer. A second call only waits: nothing is ever sent again. While too many wait,
-        nothing is sent, and what was sent is not waited for."""
+        """Sends a request, and waits for its answer. A second call only waits: nothing is ever sent again. While too many
+        wait, nothing is sent, and what was sent is not waited for."""
         if not self.seats.acquire(timeout=PATIENCE):
             return asked.outcome or Outcome('held')
         try:
@@ -228,7 +230,8 @@ class Desk:
 
     def put(self, asked):
         """Judges a request and sends it, or says why not. The same form may be sent later if `serve` is held now."""
-        if asked.request not in ('cast', 'replace', 'withdraw', 'shut') or not is_fit(asked.voter) and asked.request != 'shut':
+        is_shut = asked.request == 'shut'
+        if not (is_shut and not asked.voter or asked.request in ('cast', 'replace', 'withdraw') and is_fit(asked.voter)):
             raise ValueError('no such request')
         self.log.write('asked', True, **{it: vars(asked)[it] for it in ('form', 'clerk', 'request', 'voter', 'seen')})
         self.keep_up(seconds=HELD)
@@ -247,7 +250,8 @@ class Desk:
                 asked.outcome, asked.number, asked.sent = Outcome('unknown'), self.sent, time.monotonic()
                 self.busy.add(asked.voter)
                 self.waiting.append(asked)
-                with contextlib.suppress(OSError):  # Where the child has ended, whoever listens to it ends the request.
+                # Where the child has ended, whoever listens to it ends the request.
+                with contextlib.suppress(OSError, ValueError):
                     send(self.child, asked.clerk, asked.request, asked.voter, ','.join(asked.ids))
             return asked.outcome
 
@@ -259,7 +263,8 @@ class Desk:
         """Notes that a request was not sent."""
         if name:
             self.log.refused[asked.clerk, name] += 1
-        self.log.write('unsent', form=asked.form, clerk=asked.clerk, why=why, **({'refused': name} if name else {}))
+        more = {'refused': name} if name else {}
+        self.log.write('unsent', form=asked.form, clerk=asked.clerk, why=why, **more)
         return Outcome(why, name)
 
     def settle(self, form, clerk):

@@ -8,6 +8,7 @@ from werkzeug.exceptions import HTTPException
 import desk, election, log
 
 app = Flask(__name__)
+app.logger.disabled = True      # What fails is said in the window's own log: nobody may read standard error.
 app.jinja_env.trim_blocks = app.jinja_env.lstrip_blocks = True
 office = None       # The day, which run.py puts here.
 KEY = os.urandom(32)
@@ -23,7 +24,8 @@ ANSWERS = {'done': 'Recorded.', 'already-cast': 'Not recorded: this voter has a 
            'UnknownId': 'Not recorded: no project has an id that the ballot names.',
            'NotOnRoll': 'Not recorded: this voter is not on the roll.',
            'TooFew': 'Not recorded: the ballot has too few projects.', 'changed': 'Nothing was sent.',
-           'stopped': 'Not recorded: nothing was sent.', 'held': 'Not recorded: nothing was sent.', 'unknown': 'It is not known whether this was recorded.'}
+           'stopped': 'Not recorded: nothing was sent.', 'held': 'Not recorded: nothing was sent.',
+           'unknown': 'It is not known whether this was recorded.'}
 # Why the desk has stopped.
 STOPS = {'write': 'The disk of the journal is full or fails.', 'memory': 'There was no memory left.',
          'moved': 'Somebody moved or replaced the journal.', 'audit': 'The journal was edited.'}
@@ -107,7 +109,8 @@ def failed(why):
         return say('Nothing was sent', 'Nothing was sent to the desk just now. Try again once there is room.', 503)
     if isinstance(why, election.Fault):
         return say('The program refused', str(why), 500)
-    office.log.write('failed', address=request.remote_addr, clerk=g.get('clerk'), kind=type(why).__name__, where=traceback.format_tb(why.__traceback__)[-1].splitlines()[0].strip())
+    where = traceback.format_tb(why.__traceback__)[-1].splitlines()[0].strip()
+    office.log.write('failed', address=request.remote_addr, clerk=g.get('clerk'), kind=type(why).__name__, where=where)
     return say('The window failed', 'Look at the voter again: it is not known whether anything was recorded.', 500)
 
 
@@ -132,7 +135,8 @@ def sign_in():
     office.log.write('signed-in', clerk=clerk['number'], address=address)
     office.sessions.pop(cookie('session'), None)
     answer = keep(redirect('/', 303), 'session', office.sessions.begin(clerk, office.door.clerks()))
-    return keep(answer, f"mark-{clerk['number']}", office.door.mark_of(clerk, secrets.token_hex(16)), 366 * 86400)
+    mark = office.door.mark_of(clerk, secrets.token_hex(16))
+    return keep(answer, f"mark-{clerk['number']}", mark, 366 * 86400)
 
 
 @app.post('/sign-out')
@@ -146,8 +150,9 @@ def asked_voter():
     """The voter's id of a form, trimmed as the desk does."""
     voter = request.form.get('voter', '').strip(election.SPACE)
     if not election.is_fit(voter):
-        abort(make_response(say('No such id', f'A voter’s id has at least one character, at most {election.LONGEST_ID} bytes, and only '
-                                              'characters that can be seen. Type it again.', 400)))
+        words = (f'A voter’s id has at least one character, at most {election.LONGEST_ID} bytes, and only characters that '
+                 'can be seen. Type it again.')
+        abort(make_response(say('No such id', words, 400)))
     return voter
 
 
@@ -182,7 +187,7 @@ def show_ballot():
 def look():
     """What will be recorded, before it is sent."""
     wanted, seen = request.form.get('request'), request.form.get('seen', '')
-    if wanted not in ('cast', 'replace', 'withdraw') or not seen.isdecimal():
+    if wanted not in ('cast', 'replace', 'withdraw') or not (seen.isdecimal() and len(seen) < 10):
         abort(400)
     ids = election.ids_of(','.join(request.form.getlist('id'))) if wanted != 'withdraw' else []
     asked = desk.Request(g.clerk, wanted, asked_voter(), ids, int(seen))

@@ -12,11 +12,12 @@ class Roll:
     TooFew: so no ballot is recorded there. What it says is only shown: the desk decides."""
 
     def __init__(self, program, path):
-        self.turn, self.folder, self.answers, self.sent = threading.Lock(), tempfile.TemporaryDirectory(), queue.Queue(), 0
+        self.turn, self.folder, self.answers = threading.Lock(), tempfile.TemporaryDirectory(), queue.Queue()
         file, journal = os.path.join(os.path.dirname(__file__), 'nobody.pb'), os.path.join(self.folder.name, 'journal')
-        self.child, rows = desk.started([program, 'serve', '--roll', path, '--min', '1', file, journal], subprocess.DEVNULL)
+        command = [program, 'serve', '--roll', path, '--min', '1', file, journal]
+        self.child, rows = desk.started(command, subprocess.DEVNULL)
         atexit.register(self.end)
-        self.told = 0   # The number of the last row that was answered.
+        self.sent, self.told = 0, 0     # The numbers of the last row that was sent, and of the last one that was answered.
         threading.Thread(target=self.listen, args=(rows,), daemon=True).start()
 
     def listen(self, rows):

@@ -1,5 +1,5 @@
-"""The web server: Debian's cheroot. Its one thread takes what all connections send, without waiting for any, with a limit for
-each address and a time for each part of a request. A worker gets a connection once its request is whole."""
+"""The web server: Debian's cheroot. Its one thread takes what all connections send, without waiting for any, with a
+limit for each address and a time for each part of a request. A worker gets a connection once its request is whole."""
 import contextlib, io, math, re, selectors, socket, ssl, threading, time
 
 from cheroot import wsgi
@@ -9,8 +9,8 @@ from cheroot.ssl import builtin
 
 # Bytes of a body and of the headers, seconds for each of them and for sending a page.
 BODY, HEADERS, SECONDS, SENDING = 65536, 16384, 10, 60
-# How many connections may have no whole request yet, of an address and in all. How many whole requests of an address there may
-# be at a time (and as many in all), and how many workers answer them.
+# How many connections may have no whole request yet, of an address and in all. How many whole requests of an address
+# there may be at a time (and as many in all), and how many workers answer them.
 CONNECTIONS, ALL, REQUESTS, WORKERS = 16, 400, 48, 64
 CROWDED, SLOW, CLOSED = 'too many connections', 'too slow', 'closed'
 LENGTH = re.compile(rb'(?i)\r\ncontent-length:[ \t]*(\d{1,9})[ \t]*\r\n')
@@ -39,7 +39,8 @@ class Request(HTTPRequest):
 
 
 class Connection(HTTPConnection):
-    """A connection: what it has sent, until when the next part has to be there, and what it waits for. It is cut when its time is over."""
+    """A connection: what it has sent, until when the next part has to be there, and what it waits for. It is cut when
+    its time is over."""
     RequestHandlerClass = Request
     last_used = math.inf    # cheroot shall not end it: `until` does.
 
@@ -50,10 +51,11 @@ class Connection(HTTPConnection):
         self.wants, self.is_ready, self.is_whole = selectors.EVENT_READ, not server.tls, False
 
     def take(self):
-        """Takes what has come, without waiting for more: the handshake, and then the request. Tells whether that is whole."""
+        """Takes what has come, without waiting for more: the handshake, and then the request. Tells whether it is whole."""
         try:
-            if self.server.tls and not isinstance(self.socket, ssl.SSLSocket):
-                self.socket = self.server.tls.wrap_socket(self.socket, server_side=True, do_handshake_on_connect=False)
+            tls = self.server.tls
+            if tls and not isinstance(self.socket, ssl.SSLSocket):
+                self.socket = tls.wrap_socket(self.socket, server_side=True, do_handshake_on_connect=False)
             if not self.is_ready:
                 self.socket.do_handshake()
                 self.is_ready = True
@@ -70,7 +72,7 @@ class Connection(HTTPConnection):
         return self.is_whole
 
     def has_all(self):
-        """Whether the request is whole, as far as its headers tell. A worker judges it: too much is as good as all."""
+        """Whether the request is whole, as far as its headers tell. A worker judges it: too much counts as all."""
         end = self.text.find(b'\r\n\r\n')
         if end < 0:
             return len(self.text) > HEADERS
@@ -118,7 +120,8 @@ class Server(wsgi.Server):
     ConnectionClass, max_request_body_size, max_request_header_size = Connection, BODY, HEADERS
 
     def __init__(self, address, app, log):
-        super().__init__(address, app, numthreads=WORKERS, server_name='window', request_queue_size=1024, timeout=SECONDS)
+        super().__init__(address, app, numthreads=WORKERS, server_name='window', request_queue_size=1024,
+                         timeout=SECONDS)
         self.log, self.open = log, {}   # The open connections, the oldest first.
         threading.Thread(target=self.watch, daemon=True).start()
 
@@ -152,10 +155,11 @@ class Server(wsgi.Server):
             conn.close()
 
     def make_room(self, address):
-        """Cuts the oldest connection whose request is not whole, where there are too many of its address or in all: so nobody
-        is kept out by connections that send nothing."""
+        """Cuts the oldest connection whose request is not whole, where there are too many of its address or in all: so
+        nobody is kept out by connections that send nothing."""
         waiting = [it for it in list(self.open) if not (it.is_whole or it.why)]
-        for these, limit in ([it for it in waiting if it.remote_addr == address], CONNECTIONS), (waiting, ALL):
+        own = [it for it in waiting if it.remote_addr == address]
+        for these, limit in (own, CONNECTIONS), (waiting, ALL):
             if len(these) > limit:
                 these[0].cut(CROWDED)
 
@@ -171,7 +175,8 @@ class Server(wsgi.Server):
 
     def tell(self, conn, why, what='connection-failed'):
         """Says in the log that a connection failed, and nothing of what it sent."""
-        kind = conn and conn.why or getattr(why, 'reason', None) or (str(why) if type(why) is ConnectionError else type(why).__name__)
+        name = str(why) if type(why) is ConnectionError else type(why).__name__
+        kind = conn and conn.why or getattr(why, 'reason', None) or name
         self.log.write(what, address=conn.remote_addr if conn else '', kind=kind)
 
     def error_log(self, msg='', level=20, traceback=False):

@@ -5,18 +5,19 @@ import clerks
 
 # The longest delay, how long a wrong passphrase is remembered (both in seconds), and how many of an address are free.
 LONGEST, MEMORY, FREE = 8, 1800, 4
-# How many tries may wait for their turn: of all addresses, and of one address or browser. Each takes a tenth of a second.
+# How many tries may wait for their turn: of all addresses, and of one address or browser. Each takes a tenth of a
+# second.
 PLACES, SHARE = 16, 8
 
 
 class Door:
-    """Tells who signs in. What delays a clerk are wrong tries at this name from the same address, and at any from that address
-    (the head clerk: at this name alone); or, in a browser in which the clerk has signed in before, wrong tries in that browser
-    alone. A delay is short, so nobody can lock out a clerk who has the right passphrase."""
+    """Tells who signs in. What delays a clerk are wrong tries at this name from the same address, and at any name from
+    there (the head clerk: at this name alone); or, in a browser in which the clerk has signed in before, wrong tries in
+    that browser alone. A delay is short, so nobody can lock out a clerk who has the right passphrase."""
 
     def __init__(self, path):
         self.path, self.stamp, self.wrong, self.waiting = path, None, {}, collections.Counter()
-        # Whose turn it is; the line of those who come from elsewhere than a browser that a clerk has used; who counts them.
+        # Whose turn it is; the line of all but those whose browser a clerk has used; who counts them.
         self.turn, self.line, self.guard = threading.Lock(), threading.Lock(), threading.Lock()
         self.clerks()
 
@@ -47,11 +48,12 @@ class Door:
             self.wrong[key] = count, now + (min(2 ** min(power, 20), LONGEST) if power >= 0 else 0)
 
     def judge(self, name, passphrase, address, mark_in):
-        """The clerk and 0; or None and the seconds to wait, 0 where name or passphrase is wrong. `mark_in` gives the mark that
-        the browser keeps for a clerk's number."""
+        """The clerk and 0; or None and the seconds to wait, 0 where name or passphrase is wrong. `mark_in` gives the
+        mark that the browser keeps for a clerk's number."""
         clerk = clerks.named(self.clerks(), name)
         mark = mark_in(clerk['number']) if clerk and clerk['hash'] else ''
-        is_marked = bool(mark) and hmac.compare_digest(mark.encode(), self.mark_of(clerk, mark.split('.')[0]).encode())
+        right = self.mark_of(clerk, mark.split('.')[0]) if mark else ''
+        is_marked = bool(mark) and hmac.compare_digest(mark.encode(), right.encode())
         keys = [('name', hash(clerks.folded(name)), address)] + [('address', address)] * (clerk is not self.known[0])
         keys = [('browser', mark)] if is_marked else keys
         if self.delay(keys) > 0:
