@@ -51,7 +51,7 @@ def folded(name):
 
 
 def named(clerks, name):
-    """The clerk of this name, or None. An older file may have two names that differ in capitals alone: then these count."""
+    """The clerk of this name, or None. If two names of an older file differ in capitals alone, these count."""
     return (next((it for it in clerks if it['name'] == name), None)
             or next((it for it in clerks if folded(it['name']) == folded(name)), None))
 
@@ -117,7 +117,8 @@ def main():
         parser.error('list takes no name' if given.name else f'{given.what} takes a name')
     if given.what == 'list':
         for it in load(given.clerks):
-            print(f"{it['number']} {it['name']}{', the head clerk' * (it['number'] == 0)}{'' if it['hash'] else ', closed'}")
+            more = ', the head clerk' * (it['number'] == 0) + ', closed' * (not it['hash'])
+            print(f"{it['number']} {it['name']}{more}")
         return
     name = given.name.strip()
     before = found(given.clerks, given.what, name)[1]

@@ -1,11 +1,12 @@
-"""Whole copies of an office, and the way back. A copy is a folder by date and time: the office's files, and their digests."""
+"""Whole copies of an office, and the way back. A copy is a folder with the files and their digests."""
 import contextlib, datetime, fcntl, hashlib, json, os, re, shutil
 
 import clerks, election, log
 from election import Fault
 
-# How many copies are kept besides each evening's; the file of the digests; where an office is put back before it is checked.
+# How many copies are kept besides each evening's; the file of the digests; where a copy is checked.
 KEPT, SUMS, CHECKED = 20, 'SHA256SUMS', '.restoring'
+NOTHING = 'Nothing was put back; take another copy'
 
 
 def digest_of(data):
@@ -38,7 +39,7 @@ def synced(folder):
 
 
 def text_of(data):
-    """The text of a journal: a `serve` that runs has line ends, and may have begun rows, behind its first empty line."""
+    """The text of a journal: up to its first empty line, behind which a `serve` that runs writes ahead."""
     end = data.find(b'\n\n') + 1
     while data[:end].count(b'"') % 2:       # This one is in an id.
         end = data.find(b'\n\n', end) + 1
@@ -55,16 +56,16 @@ def entries_of(text):
 
 
 def parts_of(given):
-    """The files of an office, by what they are. The certificate's key is not among them: it stays out of every copy."""
+    """The files of an office, by what they are. The certificate's key stays out of every copy."""
     journal = given.journal
-    parts = {'log': f'{journal}.log', 'journal': journal, 'belongs': f'{journal}.file', 'file': given.file, 'clerks': given.clerks,
-             'roll': given.roll, 'settings': given.settings, 'language': given.language, 'certificate': given.cert,
-             'words': f'{journal}.words'}
+    parts = {'log': f'{journal}.log', 'journal': journal, 'belongs': f'{journal}.file', 'words': f'{journal}.words',
+             'file': given.file, 'clerks': given.clerks, 'roll': given.roll, 'settings': given.settings,
+             'language': given.language, 'certificate': given.cert}
     return {part: path for part, path in parts.items() if path}
 
 
 def files_of(parts):
-    """What each file holds, by its name. The log is read before the journal, so the journal has each answer that the log has."""
+    """What each file holds, by its name. The log is read first: so the journal has all its answers."""
     files = {}
     for part, path in parts.items():
         name = os.path.basename(path)
@@ -79,12 +80,12 @@ def files_of(parts):
             continue
         if b'PRIVATE KEY' in data and part == 'certificate':    # Some have both in one file.
             continue
-        files[name] = text_of(data) if part == 'journal' else data[:data.rfind(b'\n') + 1] if part == 'log' else data
+        files[name] = {'journal': text_of, 'log': lambda it: it[:it.rfind(b'\n') + 1]}.get(part, bytes)(data)
     return files
 
 
 def audited(program, folder, parts):
-    """Audits a copy's journal. The count's options are not asked for: by them a count may be long, or refused."""
+    """Audits a copy's journal, without the options of the count: a count may be long, or refused."""
     file, journal = (os.path.join(folder, os.path.basename(parts[it])) for it in ('file', 'journal'))
     election.told_by(program, 'audit', '--plain', '--quiet', file, journal)
 
@@ -94,7 +95,8 @@ class Copies:
 
     def __init__(self, folder, program, parts):
         self.folder, self.program, self.parts, self.device = folder, program, parts, os.stat(folder).st_dev
-        self.form = re.escape(os.path.basename(parts['journal'])) + r'\.\d{4}-\d\d-\d\d_\d\d\.\d\d\.\d\d\.\d{3}Z(-evening)?'
+        self.stem = os.path.basename(parts['journal'])
+        self.form = re.escape(self.stem) + r'\.\d{4}-\d\d-\d\d_\d\d\.\d\d\.\d\d\.\d{3}Z(-evening)?'
 
     def lacks(self):
         """Why no copy can be made in the folder now, or None."""
@@ -115,10 +117,10 @@ class Copies:
             return os.path.join(self.folder, self.names()[-1])
 
     def make(self, files, is_evening=False):
-        """Makes a copy of these files, and gives its path. It is written beside and renamed: it is whole or absent."""
+        """Makes a copy of these files: gives its path. It is written beside and renamed: whole or absent."""
         now = datetime.datetime.now(datetime.timezone.utc)
-        time = f'{now:%Y-%m-%d_%H.%M.%S}.{now.microsecond // 1000:03}Z{"-evening" * is_evening}'
-        name = f"{os.path.basename(self.parts['journal'])}.{time}"
+        time = f'{now:%Y-%m-%d_%H.%M.%S}.{now.microsecond // 1000:03}Z'
+        name = f'{self.stem}.{time}{"-evening" * is_evening}'
         beside, whole = os.path.join(self.folder, f'.{name}'), os.path.join(self.folder, name)
         if lacks := self.lacks():
             raise OSError(lacks)
@@ -145,7 +147,7 @@ class Copies:
             shutil.rmtree(os.path.join(self.folder, name), ignore_errors=True)
 
     def thin(self):
-        """Deletes old copies: the newest ones and each evening's are kept. A copy that is being deleted is no copy any more."""
+        """Keeps the newest copies and each evening's. One that is being deleted is no copy any more."""
         with contextlib.suppress(OSError), synced(self.folder):
             for name in self.names()[:-KEPT]:
                 if not name.endswith('-evening'):
@@ -154,8 +156,8 @@ class Copies:
 
 
 def restore(copy, program):
-    """Puts an office back into this folder, which is empty, from a copy; gives in words what it found. Nothing is put back
-    unless each digest is right, and the files belong together."""
+    """Puts an office back from a copy, into this folder, which is empty; gives in words what it found. Nothing is put
+    back unless each digest is right and the files belong together."""
     here = os.getcwd()
     if set(os.listdir(here)) - {CHECKED}:
         raise Fault(f'{here} is not empty. Make a new folder, go there, and type this again')
@@ -168,14 +170,15 @@ def restore(copy, program):
         try:
             parts, found = together(files, program)
         except (Fault, OSError, ValueError, KeyError, TypeError) as why:
-            raise Fault(f'{copy}: its files do not belong together: {words_of(why)}. Nothing was put back; take another copy') from None
+            raise Fault(f'{copy}: its files do not belong together: {words_of(why)}. {NOTHING}') from None
         # Without FILE nothing starts: it comes last.
         with synced(here):
             for name in sorted(files, key=lambda it: (it == parts['file'], it != parts['journal'])):
                 os.rename(os.path.join(CHECKED, name), name)
     finally:
         shutil.rmtree(CHECKED, ignore_errors=True)
-    return [f'{copy} is whole: {len(files)} files, each with its digest.', *found, f"Put back into {here}: {', '.join(sorted(files))}."]
+    return [f'{copy} is whole: {len(files)} files, each with its digest.', *found,
+            f"Put back into {here}: {', '.join(sorted(files))}."]
 
 
 def as_copied(copy):
@@ -196,7 +199,7 @@ def as_copied(copy):
             raise ValueError('; '.join(wrong))
         return files
     except (OSError, ValueError) as why:
-        raise Fault(f'{copy} is not a whole copy: {words_of(why)}. Nothing was put back; take another copy') from None
+        raise Fault(f'{copy} is not a whole copy: {words_of(why)}. {NOTHING}') from None
 
 
 def together(files, program):
@@ -208,15 +211,18 @@ def together(files, program):
     audited(program, CHECKED, parts)
     text = files[parts['journal']]
     count = entries_of(text)
-    if (len(text), digest_of(text)) != (kept['length'], kept['sha256']) or digest_of(files[parts['file']]) != state['file']:
+    is_same = digest_of(text) == kept['sha256'] and digest_of(files[parts['file']]) == state['file']
+    if not is_same or len(text) != kept['length']:
         raise ValueError('they are not of one moment')
-    found = [f"{parts['file']}: sha256 {state['file']}", f"{parts['journal']}: {count} entries, sha256 {kept['sha256']}"]
+    found = [f"{parts['file']}: sha256 {state['file']}",
+             f"{parts['journal']}: {count} entries, sha256 {kept['sha256']}"]
     if 'clerks' in parts:
         known = clerks.load(os.path.join(CHECKED, parts['clerks']))
         found.append(f"{parts['clerks']}: {len(known)} clerks; the head clerk is {known[0]['name']}")
     if 'log' in parts and log.Log(os.path.join(CHECKED, parts['log'])).entries > count:
         raise ValueError('the log has an answer that the journal lacks')
-    found.append(f"Copied at {state['time'][:19].replace('T', ', ')} UTC. What was answered later is not here: it has to be taken again.")
+    found.append(f"Copied at {state['time'][:19].replace('T', ', ')} UTC. What was answered later is not here: "
+                 'it has to be taken again.')
     if state['has_key']:
         found.append("The certificate's key is in no copy: bring it yourself.")
     return parts, found

@@ -105,9 +105,10 @@ class Desk:
             return file.read(4096)
 
     def lacking(self, number, count):
-        """What is wrong with a journal that has not all that was answered, and what to do. At a start the head clerk can confirm."""
+        """What is wrong with a journal that has not all that was answered, and what to do."""
         return (f'{self.files[1]} lacks entry {number}, which was answered (its entries: {count}). Give the right '
-                'journal this name. To go on without what this one lacks, end the window and start it again: the head clerk confirms it there')
+                'journal this name. To go on without what this one lacks, end the window and start it again: '
+                'the head clerk confirms it there')
 
     def note(self, row):
         """Takes an entry."""
@@ -132,7 +133,7 @@ class Desk:
             self.child = None
             self.log.write('ended', status=child.returncode, fault=self.fault)
             if self.fault:
-                print(f'run.py: the desk has stopped: {self.fault}. The head clerk’s page says what to do.', flush=True)
+                print(f'run.py: the desk has stopped: {self.fault}. The head clerk’s page says why.', flush=True)
             while self.waiting:
                 self.unknown[self.waiting[0].form] = self.waiting[0]
                 self.end_first()
@@ -155,7 +156,8 @@ class Desk:
         elif row[:5] == [str(it) for it in (self.newest.number + 1, asked.clerk, asked.request, asked.voter, asked.places)]:
             entry = self.note(row)
             asked.outcome, told = Outcome('entry', entry), {'entry': entry.number, 'answer': entry.answer}
-            self.log.turnout[time.strftime('%Y-%m-%d', time.gmtime()), asked.clerk, asked.request] += entry.answer == 'done'
+            day = time.strftime('%Y-%m-%d', time.gmtime())
+            self.log.turnout[day, asked.clerk, asked.request] += entry.answer == 'done'
         else:
             raise ValueError('the answer of another request')
         self.log.write('answered', form=asked.form, clerk=asked.clerk, request=asked.request, **told)

@@ -1,4 +1,4 @@
-"""What changed overnight: JOURNAL.window has what a day left behind, and the next morning is compared with it."""
+"""What changed overnight: JOURNAL.window has what a day left behind; the next morning is compared with it."""
 import contextlib, datetime, getpass, hashlib, json, os, sys, threading
 
 import clerks, copies
@@ -25,17 +25,19 @@ def load(journal):
     try:
         with open(f'{journal}.window', encoding='utf-8') as file:
             state = json.load(file)
-        day_of(state['time']), state['journal']['length'] + 0, state['journal']['sha256'], state['file'], state['roll'], state['settings'], state['entries']
+        if not {'file', 'roll', 'settings', 'entries'} <= set(state) or not day_of(state['time']):
+            raise ValueError('it lacks something')
+        state['journal']['length'] + 0, state['journal']['sha256'] + ''
         return state
     except FileNotFoundError:
         return None
     except (OSError, ValueError, KeyError, TypeError) as why:
-        raise Fault(f'{journal}.window cannot be read, so nobody knows what changed overnight: {why}. '
-                    f'Compare {journal} with the newest copy, and then move {journal}.window to another folder') from None
+        raise Fault(f'{journal}.window cannot be read, so nobody knows what changed overnight: {why}. Compare {journal} '
+                    f'with the newest copy, and then move {journal}.window to another folder') from None
 
 
 def journal_changed(state, journal):
-    """What is not as it was in the part of the journal that the last day left behind, in words; entries may have been added."""
+    """What is not as it was in the part of the journal that the last day left, in words; it may have grown."""
     since, kept = day_of(state['time']), state['journal']
     had = f'Its entries then: {state["entries"]}.'
     if not os.path.exists(journal):
@@ -60,7 +62,7 @@ def changes(state, given, now):
 
 
 def settings_changed(before, now, path):
-    """Which settings differ from those of the last day, in words. Without a file of settings today's arguments are taken."""
+    """Which settings differ from those of the last day, in words. Arguments alone are not compared."""
     if before is None:
         return []
     if now is None:
@@ -71,10 +73,10 @@ def settings_changed(before, now, path):
 
 
 def confirm(told, newest, head, log):
-    """Says what changed, before anybody can sign in, and goes on only with the passphrase of the head clerk."""
+    """Says what changed, before anybody can sign in; goes on only with the passphrase of the head clerk."""
     for words in told:
         print(f'run.py: {words}', file=sys.stderr)
-    print(f'The newest copy is {newest}.' if newest else 'No copy is known here.', file=sys.stderr, flush=True)
+    print(f'The newest copy is {newest}.' if newest else 'No copy is known here.', file=sys.stderr)
     log.write('changed-overnight', changes=told)
     if not sys.stdin.isatty():
         raise Fault('The head clerk has to confirm this at a terminal. Nothing was opened')
@@ -106,12 +108,14 @@ class Keeper:
         with contextlib.suppress(FileNotFoundError):
             with open(given.journal, 'rb') as file:
                 found = copies.text_of(file.read())
-        if not told and copies.entries_of(found) < self.log.entries:
-            told = [f'{given.journal} lacks entry {self.log.entries}, which was answered (its entries: {copies.entries_of(found)}). '
+        count = copies.entries_of(found)
+        if not told and count < self.log.entries:
+            told = [f'{given.journal} lacks entry {self.log.entries}, which was answered (its entries: {count}). '
                     'Give the right journal this name.']
         newest = self.copies.newest() if self.copies else None
         if told and not os.path.exists(given.journal):
-            raise Fault(told[0] + (f' Get it back, or restore the newest copy in a new folder: {newest}' if newest else ' Get it back.'))
+            more = f', or restore the newest copy in a new folder: {newest}' if newest else ''
+            raise Fault(f'{told[0]} Get it back{more}')
         if told:
             confirm(told, newest, head, self.log)
 
@@ -119,10 +123,11 @@ class Keeper:
         """The files of the office as they are now, by their names, and what JOURNAL.window has of them."""
         time = datetime.datetime.now(datetime.timezone.utc).isoformat(timespec='milliseconds')
         files = copies.files_of(self.parts)
-        name, parts = os.path.basename(self.given.journal), {part: os.path.basename(path) for part, path in self.parts.items()}
-        text = files[name]
-        state = {'time': time, 'journal': {'length': len(text), 'sha256': copies.digest_of(text)}, 'entries': copies.entries_of(text),
-                 **self.now, 'has_key': bool(self.given.cert), 'parts': {part: it for part, it in parts.items() if it in files}}
+        name = os.path.basename(self.given.journal)
+        text, parts = files[name], {part: os.path.basename(path) for part, path in self.parts.items()}
+        state = {'time': time, 'journal': {'length': len(text), 'sha256': copies.digest_of(text)},
+                 'entries': copies.entries_of(text), **self.now, 'has_key': bool(self.given.cert),
+                 'parts': {part: it for part, it in parts.items() if it in files}}
         return {**files, f'{name}.window': (json.dumps(state, indent=1) + '\n').encode()}
 
     def keep(self, is_copied=True, is_evening=False):
@@ -152,8 +157,8 @@ class Keeper:
         """Says once where the disk of the copies keeps no permissions."""
         if os.stat(whole).st_mode & 0o077 and not self.is_warned:
             self.is_warned = True
-            print(f'run.py: the disk of {self.copies.folder} keeps no permissions: whoever has it can read the copies. Lock it up.',
-                  file=sys.stderr, flush=True)
+            print(f'run.py: the disk of {self.copies.folder} keeps no permissions: whoever has it can read the copies. '
+                  'Lock it up.', file=sys.stderr)
 
     def tell(self, words):
         """Says at the terminal, in the log and on the head clerk's page what fails; the same words once."""
@@ -165,7 +170,8 @@ class Keeper:
     def missing(self):
         """Why no copy could be made now, in words, or None."""
         missing = self.copies and self.copies.lacks()
-        return f'No copy can be made: {missing}. Put the stick in, or end the window and name another folder.' if missing else None
+        more = 'Put the stick in, or end the window and name another folder.'
+        return f'No copy can be made: {missing}. {more}' if missing else None
 
     def watch(self):
         """Makes a copy every so many minutes, and looks in between whether its folder is there."""

@@ -88,7 +88,10 @@ def check():
 def words():
     """What each page knows."""
     held = cookie('session') if g.session else g.get('fresh', cookie('sign-in'))
-    return {'clerk': g.clerk, 'desk': office.desk, 'keeper': office.keeper, 'turnout': office.log.turnout, 'log_failure': office.log.why_not(), 'why_stopped': STOPS.get((office.desk.fault or '').partition(';')[2].split(';')[0], ''), 'election': office.election, 'unknown': list(office.desk.unknown.values()),
+    why = STOPS.get((office.desk.fault or '').partition(';')[2].split(';')[0], '')
+    return {'clerk': g.clerk, 'desk': office.desk, 'keeper': office.keeper, 'turnout': office.log.turnout,
+            'log_failure': office.log.why_not(), 'why_stopped': why,
+            'election': office.election, 'unknown': list(office.desk.unknown.values()),
             'said': lambda name: ANSWERS.get(name.split()[0], f'Not recorded: {name}.'),
             'name_of': office.door.name_of, 'who': lambda it: f"{office.door.name_of(it)} (clerk {it}{', you' * (it == g.clerk)})",
             'token': Markup('<input type="hidden" name="token" value="%s">') % token_of(held)}

@@ -17,15 +17,15 @@ OPTIONS = {
     '--name': dict(metavar='HOST', action='append', default=[], help='a name that clerks type into the browser; may be given several times'),
     '--cert': dict(metavar='PEM', help='the certificate for TLS'),
     '--key': dict(metavar='PEM', help='its key'),
-    '--backup': dict(metavar='FOLDER', help='makes whole copies there: in the evening, at a shut, and every so many minutes'),
+    '--backup': dict(metavar='FOLDER', help='makes whole copies there, also in the evening and at a shut'),
     '--backup-every': dict(metavar='MINUTES', type=int, default=60, help='how many minutes; 60 if not given'),
-    '--copy': dict(action='store_true', help='makes a copy in the folder of --backup now, and opens no window'),
-    '--restore': dict(metavar='COPY', help='puts an office back into this folder, which is empty, from a copy, and opens no window'),
+    '--copy': dict(action='store_true', help='makes a copy in the folder of --backup now'),
+    '--restore': dict(metavar='COPY', help='puts an office back from a copy, into this empty folder'),
     '--roll': dict(metavar='ROLL', help='takes requests only for the voters in this file'),
-    '--other-file': dict(action='store_true', help='goes on with a journal that was made with another FILE; once, as with pb_app serve'),
+    '--other-file': dict(action='store_true', help='goes on with a FILE that was corrected, as with pb_app serve'),
     '--min': dict(metavar='N', type=int, default=0, help='the smallest number of projects that a new ballot may name'),
     '--title': dict(metavar='TEXT', help='the title of the page of the result'),
-    '--language': dict(metavar='WORDS', help='the file of words for the page of the result, such as words/de.words'),
+    '--language': dict(metavar='WORDS', help='the words of the page of the result, such as words/de.words'),
     '--currency': dict(metavar='TEXT', help='the currency on the page of the result'),
     '--count': dict(metavar='OPTIONS', default='', help='the options of the count in one word, such as --count="--measure cost"'),
     '--program': dict(metavar='PATH', default='pb_app', help='where pb_app is, if it is not on the PATH'),
@@ -34,17 +34,19 @@ OPTIONS = {
 
 def arguments():
     """What the command line asks for, or the file of settings that it names."""
-    parser = argparse.ArgumentParser(prog='run.py', description="The clerks' window: web pages on which clerks take ballots.",
-                                     usage='run.py FILE JOURNAL --clerks CLERKS [OPTION..]\n       run.py OFFICE.toml\n       run.py --restore COPY')
+    usage = ['run.py FILE JOURNAL --clerks CLERKS [OPTION..]', 'run.py OFFICE.toml', 'run.py --restore COPY']
+    parser = argparse.ArgumentParser(prog='run.py', usage='\n       '.join(usage),
+                                     description="The clerks' window: web pages on which clerks take ballots.")
     parser.add_argument('file', metavar='FILE', nargs='?', help='the election; or alone, a file of settings, OFFICE.toml')
-    parser.add_argument('journal', metavar='JOURNAL', nargs='?', help='the journal of its desk; created if it does not exist')
+    parser.add_argument('journal', metavar='JOURNAL', nargs='?', help='the journal of its desk; made if it does not exist')
     for option, words in OPTIONS.items():
         parser.add_argument(option, **words)
     given, path, known = parser.parse_args(), None, None
     if given.file and not given.journal:
         path, more = given.file, [it for it in sys.argv[1:] if it != given.file]
         try:
-            known = settings.load(path) | {'the command line': [it for it in more if it not in ('--copy', '--other-file')]}
+            known = settings.load(path)
+            known['the command line'] = [it for it in more if it not in ('--copy', '--other-file')]
             options, names = settings.arguments_of(path)
         except ValueError as why:
             parser.exit(2, f'run.py: {why}\n')
@@ -68,7 +70,7 @@ def arguments():
     if address.is_unspecified and not given.name:
         parser.error('give --name: the name that clerks type to reach the window')
     if given.backup and not os.access(given.backup, os.W_OK | os.X_OK):
-        parser.error(f'--backup: {given.backup} is not a folder in which you may write. If it is on a stick, put that in')
+        parser.error(f'--backup: {given.backup} is not a folder in which you may write. Is it on a stick? Put that in')
     if given.copy and not given.backup:
         parser.error('--copy needs --backup: the folder for the copy')
     given.scheme = 'https' if given.cert else 'http'
@@ -87,7 +89,8 @@ class Day:
         self.log = log.Log(f'{given.journal}.log')
         self.keeper = overnight.Keeper(given, self.log)
         self.keeper.compare(self.door.known[0])
-        serve = [given.program, 'serve', '--by-id', *['--other-file'] * given.other_file, *(['--roll', given.roll] if given.roll else []), f'--min={given.min}']
+        serve = [given.program, 'serve', '--by-id', *(['--roll', given.roll] if given.roll else []), f'--min={given.min}',
+                 *['--other-file'] * given.other_file]
         self.roll = roll.Roll(given.program, given.roll) if given.roll else None
         self.desk = desk.Desk(serve, given.file, given.journal, self.log, self.election)
         self.desk.start()
@@ -114,7 +117,8 @@ class Day:
             except (OSError, ValueError, election.Fault) as why:
                 why = copies.words_of(why)
                 self.keeper.tell(f'No copy was made: {why}')
-                return f'No copy was made: {why}. Copy the folder by hand. If {self.given.journal} was moved, look for {self.given.journal}.kept.'
+                return (f'No copy was made: {why}. Copy the folder by hand. If {self.given.journal} was moved, look for '
+                        f'{self.given.journal}.kept.')
 
     def result(self):
         """The report of the shut desk with its digests, and the page of the result, by the names of their files."""
@@ -141,7 +145,8 @@ def tls_of(given):
     try:
         return server.Tls(given.cert, given.key) if given.cert else None
     except (OSError, ValueError) as why:
-        raise election.Fault(f'the certificate {given.cert} with the key {given.key} cannot be used: {copies.words_of(why)}') from None
+        words = f'the certificate {given.cert} with the key {given.key} cannot be used: {copies.words_of(why)}'
+        raise election.Fault(words) from None
 
 
 def opened(given):

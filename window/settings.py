@@ -1,16 +1,18 @@
 """The settings of an office: a file OFFICE.toml in place of options, so that each morning has one command."""
 import os, re, tomllib
 
-# What each key has; a name that clerks type may be one text or several. At most so many bytes, and so many names.
-KEYS = {'file': str, 'journal': str, 'clerks': str, 'roll': str, 'min': int, 'listen': str, 'name': list, 'certificate': str, 'key': str,
-        'backup': str, 'backup-every': int, 'title': str, 'language': str, 'currency': str, 'count': str, 'program': str}
+# What each key has; a name that clerks type may be one text or several. At most so many bytes and names.
+KEYS = {'file': str, 'journal': str, 'clerks': str, 'roll': str, 'min': int, 'listen': str, 'name': list,
+        'certificate': str, 'key': str, 'backup': str, 'backup-every': int, 'title': str, 'language': str,
+        'currency': str, 'count': str, 'program': str}
 PATHS = ('file', 'journal', 'clerks', 'roll', 'certificate', 'key', 'backup', 'language')
 NEEDED, LARGEST, NAMES = ('file', 'journal', 'clerks'), 65536, 64
-KINDS = {str: 'a text in quotation marks', int: 'a whole number, 0 or more', list: 'a text in quotation marks, or a list of such texts'}
+KINDS = {str: 'a text in quotation marks', int: 'a whole number, 0 or more',
+         list: 'a text in quotation marks, or a list of such texts'}
 
 
 def load(path):
-    """The settings of a file, by their keys. A ValueError says in words what is wrong, with the key's name."""
+    """The settings of a file, by their keys. A ValueError says what is wrong in words, with the key's name."""
     try:
         with open(path, 'rb') as file:
             text = file.read(LARGEST + 1)
@@ -50,6 +52,7 @@ def arguments_of(path):
     for key in PATHS:
         if key in found:
             found[key] = os.path.join(os.path.dirname(path), found[key])
-    options = [f"--{'cert' if key == 'certificate' else key}={it}" for key, value in found.items() if key not in ('file', 'journal')
+    names = [found.pop('file'), found.pop('journal')]
+    options = [f"--{'cert' if key == 'certificate' else key}={it}" for key, value in found.items()
                for it in (value if isinstance(value, list) else [value])]
-    return options, [found['file'], found['journal']]
+    return options, names
