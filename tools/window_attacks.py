@@ -1,5 +1,7 @@
-"""Tries what somebody without a session does to the clerks' window, and a `serve` that is held or answers something else."""
-import concurrent.futures, contextlib, os, pathlib, re, shutil, signal, socket, ssl, struct, subprocess, threading, time
+"""Tries what somebody without a session does to the clerks' window, and a `serve` that is held or answers
+something else."""
+import concurrent.futures, contextlib, itertools, os, pathlib, re, shutil, signal, socket, ssl, struct, subprocess
+import threading, time
 
 from window_clerk import LIMIT, PYTHON, TOP, Clerk, Window
 from window_seen import CITY, NAMES, new_folder, see
@@ -44,20 +46,24 @@ def reset(link):
 
 def certified(folder):
     """The options for TLS with a certificate that is made, and what a client needs for it."""
-    made = subprocess.run('openssl req -x509 -newkey rsa:2048 -nodes -keyout key.pem -out cert.pem -days 2 -subj /CN=desk.example '
-                          '-addext subjectAltName=IP:127.0.0.1,DNS:desk.example'.split(), cwd=folder, capture_output=True)
+    words = ('openssl req -x509 -newkey rsa:2048 -nodes -keyout key.pem -out cert.pem -days 2 -subj /CN=desk.example '
+             '-addext subjectAltName=IP:127.0.0.1,DNS:desk.example')
+    made = subprocess.run(words.split(), cwd=folder, capture_output=True)
     see(made.returncode == 0, 'a certificate is made', made)
-    return ['--cert', folder / 'cert.pem', '--key', folder / 'key.pem'], ssl.create_default_context(cafile=folder / 'cert.pem')
+    certificate, key = folder / 'cert.pem', folder / 'key.pem'
+    return ['--cert', certificate, '--key', key], ssl.create_default_context(cafile=certificate)
 
 
 def omitted(window, *kinds):
     """How many lines of some kinds the log has, and how many it says that it left out."""
     lines = window.log()
-    return sum(it['what'] in kinds for it in lines), sum(it['lines'].get(kind, 0) for it in lines if it['what'] == 'left-out' for kind in kinds)
+    left = [it['lines'] for it in lines if it['what'] == 'left-out']
+    return sum(it['what'] in kinds for it in lines), sum(it.get(kind, 0) for it in left for kind in kinds)
 
 
 def try_strangers(program, work):
-    """500 connections of each kind that fail, with TLS and without: none ends a thread, and the next clerk is served at once."""
+    """500 connections of each kind that fail, with TLS and without: none ends a thread, and the next clerk is
+    served at once."""
     if not shutil.which('openssl'):
         print('try_window: there is no openssl, so connections that fail under TLS were not tried')
         return
@@ -65,10 +71,11 @@ def try_strangers(program, work):
     options, tls = certified(folder)
     plain = b'GET / HTTP/1.1\r\nHost: x\r\n\r\n'
     half = lambda: connected(window, '127.0.0.50', b'GET / HT', tls)
+    begun = lambda: connected(window, '127.0.0.50', b'\x16\x03\x01\x02\x00')
     kinds = {'plain http': lambda: connected(window, '127.0.0.50', plain).close(),
              'three bytes and silence': lambda: connected(window, '127.0.0.50', b'\x16\x03\x01'),
-             'a close in the handshake': lambda: connected(window, '127.0.0.50', b'\x16\x03\x01\x02\x00').close(),
-             'a reset in the handshake': lambda: reset(connected(window, '127.0.0.50', b'\x16\x03\x01\x02\x00')),
+             'a close in the handshake': lambda: begun().close(),
+             'a reset in the handshake': lambda: reset(begun()),
              'a close in the request line': lambda: half().close(),
              'a reset in the request line': lambda: reset(half())}
     with Window(program, folder, options=options).start() as window:
@@ -90,7 +97,8 @@ def try_strangers(program, work):
         see(status == 0 and 'Traceback' not in said, 'nothing is on standard error', said)
         lines, left = omitted(window, 'connection-failed', 'connection-unused')
         failed = MANY * len(kinds)
-        see(lines + left == failed, 'each connection that failed is in the log, or counted', lines, left, failed)
+        see(lines + left == failed,
+            'each connection that failed is in the log, or counted', lines, left, failed)
         say_waits('strangers')
         see(lines <= 50 * 2 * 3, 'with few lines a minute', lines, left)
         told = [it for it in window.log() if it['what'] in ('connection-failed', 'connection-unused')]
@@ -107,18 +115,21 @@ def try_answered(program, work):
             ann = Clerk(window, tls=client)
             ann.patience = PATIENCE
             ann.sign_in('Ann')
-            for what, text, fail in (('a reset', whole, reset), ('a close', whole, socket.socket.close), ('a reset', odd, reset), ('a close', odd, socket.socket.close)):
+            ends = {'a reset': reset, 'a close': socket.socket.close}
+            for text, (what, fail) in itertools.product((whole, odd), ends.items()):
                 for _ in range(200):
                     fail(connected(window, '127.0.0.51', text, client))
                 lasted = seconds_of(lambda: ann.get('/'))
-                see(lasted < 1, f'200 times a whole request and {what}: the next clerk is served within a second', lasted, text)
+                see(lasted < 1,
+                    f'200 times a whole request and {what}: the next clerk is served in a second', lasted, text)
             threads = len(list(pathlib.Path(f'/proc/{window.child.pid}/task').iterdir()))
             see(threads >= 64, 'all workers live', threads)
             window.end()
 
 
 def try_crowds(program, work):
-    """Connections of one byte from three addresses, and sign-ins from many: the pages of a clerk come all the same."""
+    """Connections of one byte from three addresses, and sign-ins from many: the pages of a clerk come all the
+    same."""
     folder = new_folder(work, 'crowds')
     with Window(program, folder).start() as window:
         ann, ben = Clerk(window), Clerk(window)
@@ -128,7 +139,8 @@ def try_crowds(program, work):
             links = [connected(window, f'127.0.0.{60 + n % 3}', text) for n in range(48)]
             time.sleep(0.5)
             lasted = seconds_of(lambda: ann.get('/'))
-            see(lasted < 2, '48 connections of three addresses, which are not whole: a page comes within two seconds', lasted, text)
+            see(lasted < 2,
+                '48 connections of three addresses without a whole request: a page in two seconds', lasted, text)
             for link in links:
                 link.close()
         links = [connected(window, f'127.0.1.{1 + n // 16}', b'G') for n in range(800)]
@@ -153,11 +165,13 @@ def try_crowds(program, work):
             try:
                 time.sleep(1)
                 slowest = seconds_of(lambda: (time.sleep(0.2), ann.get('/')), 8) - 0.2
-                see(slowest < 2, 'sign-ins from sixty addresses: each page comes within two seconds', slowest, len(tried))
+                see(slowest < 2,
+                    'sign-ins from sixty addresses: each page comes within two seconds', slowest, len(tried))
                 begun = time.monotonic()
                 ben.cookies = {key: it for key, it in ben.cookies.items() if 'session' not in key}
                 page = ben.sign_in(NAMES[2])
-                see('clerk 2' in page.seen and time.monotonic() - begun < 8, 'a browser in which a clerk had signed in lets the clerk in',
+                see('clerk 2' in page.seen and time.monotonic() - begun < 8,
+                    'a browser in which a clerk had signed in lets the clerk in',
                     page.seen, time.monotonic() - begun)
             finally:
                 is_over.set()
@@ -165,7 +179,8 @@ def try_crowds(program, work):
         window.end()
         lines, left = omitted(window, 'not-signed-in')
         say_waits('crowds')
-        see(lines + left == len(tried) and lines <= 150, 'each wrong try is in the log, or counted', lines, left, len(tried))
+        see(lines + left == len(tried) and lines <= 150,
+            'each wrong try is in the log, or counted', lines, left, len(tried))
 
 
 DOOR = '''
@@ -191,7 +206,8 @@ mark = door.mark_of(door.known[1], 'nonce')
 for _ in range(300):
     door.judge('Ann', 'wrong', 'there', lambda number: '')
     now[0] += 0.1
-print(door.judge('Ann', 'right', 'there', lambda number: mark)[0]['number'], door.judge('Ann', 'right', 'there', lambda number: mark[:-1] + '_')[0])
+for it in (mark, mark[:-1] + '_'):
+    print((door.judge('Ann', 'right', 'there', lambda number: it)[0] or {}).get('number'), end=' ')
 '''
 
 
@@ -207,9 +223,11 @@ print(min(lasted('a' + '\\u0315\\u0300' * 15000) for _ in range(3)) < 3 * short)
 
 
 def try_owner(program, work):
-    """By a clock that is set: one wrong try a minute, for two hours, locks out nobody who has the right passphrase."""
-    done = subprocess.run([PYTHON, '-B', '-c', DOOR, work / 'clerks.json'], cwd=TOP / 'window', capture_output=True, text=True)
-    see(done.stdout == 'True True 1 None\n', 'one wrong try a minute locks nobody out', done)
+    """By a clock that is set: one wrong try a minute, for two hours, locks out nobody who has the right
+    passphrase."""
+    done = subprocess.run([PYTHON, '-B', '-c', DOOR, work / 'clerks.json'], cwd=TOP / 'window', capture_output=True,
+                          text=True)
+    see(done.stdout == 'True True 1 None ', 'one wrong try a minute locks nobody out', done)
     done = subprocess.run([PYTHON, '-B', '-c', LONG], cwd=TOP / 'window', capture_output=True, text=True)
     see(done.stdout == 'True\n', 'a long passphrase of marks takes no longer', done)
 
@@ -222,26 +240,30 @@ def record_from(clerk, address, page):
 
 
 def try_held(program, work):
-    """A `serve` that is held: pages come within two seconds, and say so; what is asked for meanwhile is not sent."""
+    """A `serve` that is held: pages come within two seconds, and say so; what is asked for meanwhile is not
+    sent."""
     folder = new_folder(work, 'held')
     # A start that is held: as long as a file is there.
     held = folder / 'held'
     slow = folder / 'slow'
-    slow.write_text(f'#!/bin/sh\nwhile [ "$1" = serve ] && [ -e {held} ]; do sleep 0.1; done\nexec {program} "$@"\n')
+    wait = f'while [ "$1" = serve ] && [ -e {held} ]; do sleep 0.1; done'
+    slow.write_text(f'#!/bin/sh\n{wait}\nexec {program} "$@"\n')
     slow.chmod(0o755)
     ids = [f'number {number:05}' for number in range(3000)]
-    folder.joinpath('city.pb').write_text(CITY.replace('max_length;3\n', '').replace('VOTES\n', ''.join(f'{it};1;p\n' for it in ids) + 'VOTES\n'))
+    projects = ''.join(f'{it};1;p\n' for it in ids)
+    folder.joinpath('city.pb').write_text(CITY.replace('max_length;3\n', '').replace('VOTES\n', f'{projects}VOTES\n'))
     with Window(slow, folder).start() as window:
         ann, ben, head = Clerk(window), Clerk(window), Clerk(window)
         ann.sign_in('Ann'), ben.sign_in(NAMES[2]), head.sign_in('Head')
         for it in (ann, ben, head):
             it.patience = PATIENCE
-        forms, form = [ann.look('cast', f'v{number}', ['12']) for number in range(60)], ben.look('cast', 'later', ['7'])
+        forms = [ann.look('cast', f'v{number}', ['12']) for number in range(60)]
+        form = ben.look('cast', 'later', ['7'])
         number = window.serve_id()
         os.kill(number, signal.SIGSTOP)
         try:
             with concurrent.futures.ThreadPoolExecutor(60) as pool:
-                sent = [pool.submit(record_from, ann, f'127.0.0.{80 + n % 3}', form) for n, form in enumerate(forms)]
+                sent = [pool.submit(record_from, ann, f'127.0.0.{80 + n % 3}', it) for n, it in enumerate(forms)]
                 time.sleep(5)
                 for what, path in (('the first page', '/'), ("the head clerk's page", '/head')):
                     lasted = seconds_of(lambda: head.get(path))
@@ -252,7 +274,8 @@ def try_held(program, work):
                     see(lasted < 2, 'a voter can be looked up', lasted)
                     begun = time.monotonic()
                     page = ben.record(form)
-                    see('nothing was sent' in page.seen and time.monotonic() - begun < 2, 'nothing is sent meanwhile, which is told at once', page.seen)
+                    see('nothing was sent' in page.seen and time.monotonic() - begun < 2,
+                        'nothing is sent meanwhile, which is told at once', page.seen)
                 os.kill(number, signal.SIGCONT)
                 for it in sent:
                     it.exception()
@@ -262,8 +285,10 @@ def try_held(program, work):
         voters = [row[3] for row in window.entries()]
         see(len(set(voters)) == len(voters) and 0 < len(voters) <= 60, 'each ballot once', len(voters))
         pages = [ann.record(form) for form in forms]
-        see(len(window.entries()) == 60 and all('Recorded.' in page.seen for page in pages), 'the same forms: what was not sent is sent now', len(window.entries()))
-        see('Recorded.' in ben.record(form).seen and 'has not answered' not in ben.get('/').seen, 'and so is this')
+        see(len(window.entries()) == 60 and all('Recorded.' in page.seen for page in pages),
+            'the same forms: what was not sent is sent now', len(window.entries()))
+        see('Recorded.' in ben.record(form).seen and 'has not answered' not in ben.get('/').seen,
+            'and so is this')
         # Rows that fill the pipe to a serve that is held.
         forms = [ann.look('cast', f'long {number}', ids) for number in range(3)]
         number = window.serve_id()
@@ -284,7 +309,8 @@ def try_held(program, work):
         begun = time.monotonic()
         with contextlib.suppress(OSError):
             ben.get('/')
-        see(time.monotonic() - begun < 2, 'a start that is held: a page comes within two seconds', time.monotonic() - begun)
+        see(time.monotonic() - begun < 2,
+            'a start that is held: a page comes within two seconds', time.monotonic() - begun)
         time.sleep(3)
         with contextlib.suppress(OSError):
             see('The desk has not answered for' in ben.get('/').seen, 'and says so')
@@ -296,7 +322,8 @@ def try_held(program, work):
     see(window.audit().returncode == 0, 'the journal is audited', window.audit())
 
 
-# A program between the window and `serve`: it keeps what is sent, holds the answers while a file is there, and changes some.
+# A program between the window and `serve`: it keeps what is sent, holds the answers while a file is there,
+# and changes some.
 BETWEEN = '''#!/usr/bin/python3
 import os, pathlib, subprocess, sys, threading, time
 folder, program = pathlib.Path({folder!r}), {program!r}
@@ -344,16 +371,21 @@ def try_rows(program, work):
                 (folder / 'hold').unlink()
                 pages = first.result().seen, second.result().seen
             stands = [row[3] for row in window.entries() if row[5] == 'done']
-            see('Recorded.' in pages[1] and f'ben {number}' in stands, 'another ballot beside it is recorded, and told so', ids, pages[1])
+            see('Recorded.' in pages[1] and f'ben {number}' in stands,
+                'another ballot beside it is recorded, and told so', ids, pages[1])
             is_trimmed = ids[-1].strip() == '7'
-            see(('Recorded.' in pages[0]) == (f'ann {number}' in stands) == is_trimmed, 'no row within an id is a row', ids, pages[0], stands)
+            see(('Recorded.' in pages[0]) == (f'ann {number}' in stands) == is_trimmed,
+                'no row within an id is a row', ids, pages[0], stands)
             see('has stopped' not in head.get('/head').seen, 'the desk goes on', head.get('/head').seen)
         sent = (folder / 'sent').read_text()
-        see(all(re.fullmatch(r'("([^"]|"")*";){3}"([^"]|"")*"', line) for line in sent.splitlines()) and len(sent.splitlines()) == 4,
-            'each field of what is sent is quoted', sent)
-        # Answers that are changed on their way: all that wait are not known, and nobody is told something else.
-        twists = {'the places of an answer': (['12', '7'], ';0,1;>;0;'), 'the voter of an answer': (['12'], ';{voter};>;somebody;'),
-                  'the number of an answer': (['12'], '{next};1;cast>{after};1;cast'), 'the number of a fault': ([], 'TooFew;1>TooFew;2'),
+        quoted = [re.fullmatch(r'("([^"]|"")*";){3}"([^"]|"")*"', line) for line in sent.splitlines()]
+        see(all(quoted) and len(quoted) == 4, 'each field of what is sent is quoted', sent)
+        # Answers that are changed on their way: all that wait are not known, and nobody is told something
+        # else.
+        twists = {'the places of an answer': (['12', '7'], ';0,1;>;0;'),
+                  'the voter of an answer': (['12'], ';{voter};>;somebody;'),
+                  'the number of an answer': (['12'], '{next};1;cast>{after};1;cast'),
+                  'the number of a fault': ([], 'TooFew;1>TooFew;2'),
                   'a fault for an answer': (['12'], '{next};1;cast;{voter};0;done>fault;script;2;BadRow;9')}
         for number, (what, (ids, twist)) in enumerate(twists.items()):
             voter, count = f'twisted {number}', len(window.entries())
@@ -370,18 +402,22 @@ def try_rows(program, work):
                 time.sleep(0.4)
                 (folder / 'hold').unlink()
                 pages = first.result().seen, second.result().seen
-            see(all('not known whether this was recorded' in it for it in pages), f'{what} is another: all that wait are not known', pages)
+            see(all('not known whether this was recorded' in it for it in pages),
+                f'{what} is another: all that wait are not known', pages)
             (folder / 'twist').unlink()
         head.get('/head')
         head.post('/again', {})
         see('Recorded.' in ann.ask('cast', 'after that', ['12']).seen, 'the day goes on')
         for voter in (f' {unfit[0]} ', unfit[1]):
-            see(ann.post('/voter', {'voter': voter}).status == 400 and ann.post('/look', {'voter': voter, 'seen': '0', 'request': 'replace'}).status == 400,
+            wanted = {'voter': voter, 'seen': '0', 'request': 'replace'}
+            see(ann.post('/voter', {'voter': voter}).status == ann.post('/look', wanted).status == 400,
                 'the window does not take the id', voter)
         said, status = window.end()
-        see("The window does not take these voters of the file: 'zero\\u200bwidth', 'xxx" in window.told and '`pb_app serve` takes' in window.told
-            and 'old1' not in window.told, 'voters of the file who are outside its limits are named at the start', window.told)
+        see("The window does not take these voters of the file: 'zero\\u200bwidth', 'xxx" in window.told
+            and '`pb_app serve` takes' in window.told and 'old1' not in window.told,
+            'voters of the file who are outside its limits are named at the start', window.told)
         see(status == 0, 'the end', said)
     rows = ''.join(f'1;withdraw;{it};\n' for it in unfit)
-    done = subprocess.run([program, 'serve', window.file, folder / 'alone'], input=rows, capture_output=True, text=True)
+    done = subprocess.run([program, 'serve', window.file, folder / 'alone'], input=rows, capture_output=True,
+                          text=True)
     see(done.stdout.count(';done\n') == 2, 'and serve serves them', done)

@@ -29,8 +29,8 @@ def free_port():
 
 
 def typed_at_terminal(command, answers):
-    """Runs a command at a terminal of its own: types an answer whenever it asks, or what a function among them gives then. Gives
-    what it wrote, and its status."""
+    """Runs a command at a terminal of its own: types an answer whenever it asks, or what a function among
+    them gives then. Gives what it wrote, and its status."""
     child, terminal = pty.fork()
     if not child:
         os.execv(command[0], [str(word) for word in command])

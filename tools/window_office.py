@@ -67,7 +67,8 @@ def try_roll(program, work):
         words = pathlib.Path(f'/proc/{asked[0]}/cmdline').read_text().split('\0')
         journal = pathlib.Path(words[words.index('--min') + 3])
         see(len(asked) == 1 and journal.read_text().strip() == 'journal;2', 'no voter stands in the journal beside', journal)
-        # Held, it tells nothing, and holds up no page; later it tells again, and of nobody what was asked of another.
+        # Held, it tells nothing, and holds up no page; later it tells again, and of nobody what was asked of
+        # another.
         os.kill(asked[0], signal.SIGSTOP)
         begun = time.monotonic()
         ann.patience = 15

@@ -72,7 +72,7 @@ def typed(name):
         sys.exit('clerks.py: a passphrase is typed at a terminal')
     passphrase = getpass.getpass(f'Passphrase for {name}: ')
     if not LEAST <= len(passphrase) <= MOST:
-        sys.exit(f'clerks.py: a passphrase has at least {LEAST} characters and at most {MOST}; nothing was changed')
+        sys.exit(f'clerks.py: a passphrase has {LEAST} to {MOST} characters; nothing was changed')
     if getpass.getpass('Once more: ') != passphrase:
         sys.exit('clerks.py: the two differ; nothing was changed')
     salt = secrets.token_hex(16)
@@ -92,15 +92,16 @@ def alone(path):
 
 
 def found(path, what, name):
-    """The clerks of the file, and the one of this name, or a new one. Ends the program where this cannot be done."""
+    """The clerks of the file, and the one of this name, or a new one. Ends the program where this cannot be
+    done."""
     clerks = load(path) if os.path.exists(path) or what != 'add' else []
     clerk = named(clerks, name) or {'number': len(clerks), 'name': name}
     is_new, names = clerk not in clerks, ', '.join(it['name'] for it in clerks)
-    is_seen = name.isprintable() and name
+    is_seen, is_head = name and name.isprintable(), what == 'close' and clerk['number'] == 0
     refusals = {'a name has at least one character, and only characters that can be seen': not is_seen,
                 f"there is a clerk {clerk['name']} already; give the new one another name": what == 'add' and not is_new,
                 f'there is no clerk {name}; the clerks are {names}': what != 'add' and is_new,
-                'the head clerk cannot be closed: nobody else can shut the desk': what == 'close' and not clerk['number'],
+                'the head clerk cannot be closed: nobody else can shut the desk': is_head,
                 'there can be 64 clerks at most': what == 'add' and len(clerks) == 64}
     for words in filter(refusals.get, refusals):
         sys.exit(f'clerks.py: {words}')
@@ -123,7 +124,8 @@ def main():
     name = given.name.strip()
     before = found(given.clerks, given.what, name)[1]
     change = {'salt': '', 'hash': ''} if given.what == 'close' else typed(name)
-    # A passphrase may take minutes to type, and another terminal may change the file meanwhile: so it is read again.
+    # A passphrase may take minutes to type, and another terminal may change the file meanwhile: so it is read
+    # again.
     with alone(given.clerks):
         clerks, clerk = found(given.clerks, given.what, name)
         if given.what != 'add' and clerk != before:

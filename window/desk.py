@@ -4,14 +4,14 @@ import collections, contextlib, csv, io, os, secrets, subprocess, threading, tim
 from election import Fault, is_fit, records
 from log import opened
 
-# How many seconds the start waits for a journal that another run has, and a clerk for an answer; after how many without
-# an answer a `serve` is held. How many pages may wait for answers, so that there are workers for others, and how many
-# seconds a page waits for the start, or until it may wait for an answer.
+# How many seconds the start waits for a journal that another run has, and a clerk for an answer; after how
+# many without an answer a `serve` is held. How many pages may wait for answers, so that there are workers for
+# others, and how many seconds a page waits for the start, or until it may wait for an answer.
 LOCKED, ANSWERS, HELD, SEATS, PATIENCE = 10, 60, 3, 32, 1.5
 Entry = collections.namedtuple('Entry', 'number clerk request voter places answer')
 NOTHING = Entry(0, 0, '', '', '', '')
-# How a request ended: with an 'entry'; 'refused', by this name; not sent, since the voter's last entry had 'changed', or
-# the desk had 'stopped' or is 'held'; or sent, and it is 'unknown' what came of it.
+# How a request ended: with an 'entry'; 'refused', by this name; not sent, since the voter's last entry had
+# 'changed', or the desk had 'stopped' or is 'held'; or sent, and it is 'unknown' what came of it.
 Outcome = collections.namedtuple('Outcome', 'kind value', defaults=[None])
 
 
@@ -21,7 +21,8 @@ class Request:
     def __init__(self, clerk, request, voter='', ids=(), seen=0, form=None):
         self.form, self.clerk, self.request, self.voter = form or secrets.token_urlsafe(16), clerk, request, voter
         self.ids, self.seen, self.outcome, self.turn, self.ended = ids, seen, None, threading.Lock(), threading.Event()
-        # What its answer has to have: its places, or its number among the rows of its `serve`; and when it was sent.
+        # What its answer has to have: its places, or its number among the rows of its `serve`; and when it
+        # was sent.
         self.places, self.number, self.sent = '', 0, 0
 
 
@@ -153,7 +154,7 @@ class Desk:
         if row[0] == 'fault' and row[4:] == [str(asked.number)]:
             asked.outcome, told = Outcome('refused', row[3]), {'refused': row[3]}
             self.log.refused[asked.clerk, row[3]] += 1
-        elif row[:5] == [str(it) for it in (self.newest.number + 1, asked.clerk, asked.request, asked.voter, asked.places)]:
+        elif row[:5] == [str(self.newest.number + 1), str(asked.clerk), asked.request, asked.voter, asked.places]:
             entry = self.note(row)
             asked.outcome, told = Outcome('entry', entry), {'entry': entry.number, 'answer': entry.answer}
             day = time.strftime('%Y-%m-%d', time.gmtime())
@@ -168,8 +169,8 @@ class Desk:
         self.end_first()
 
     def keep_up(self, is_after_fault=False, seconds=PATIENCE):
-        """Starts the child again where it has died without a word; after a fault only the head clerk does. Waits for
-        that, some seconds at most: a start that is held goes on by itself."""
+        """Starts the child again where it has died without a word; after a fault only the head clerk does.
+        Waits for that, some seconds at most: a start that is held goes on by itself."""
         if not (self.child or self.shut) and (is_after_fault or not self.fault):
             with self.guard:
                 if not self.starting.is_alive():
@@ -204,7 +205,7 @@ class Desk:
                 self.child.stdin.close()
         self.listener.join(HELD)
         if self.listener.is_alive():
-            print('\npb_app serve has not ended yet. Most likely it waits for its disk, and the window for it.', flush=True)
+            print('\npb_app serve has not ended yet: most likely it waits for its disk.', flush=True)
         self.listener.join()
 
     def number_of(self, voter):
@@ -215,8 +216,8 @@ class Desk:
         return self.standing[voter].request != 'withdraw' if voter in self.standing else voter in self.votes
 
     def ask(self, asked):
-        """Sends a request, and waits for its answer. A second call only waits: nothing is ever sent again. While too many
-        wait, nothing is sent, and what was sent is not waited for."""
+        """Sends a request, and waits for its answer. A second call only waits: nothing is ever sent again.
+        While too many wait, nothing is sent, and what was sent is not waited for."""
         if not self.seats.acquire(timeout=PATIENCE):
             return asked.outcome or Outcome('held')
         try:
@@ -231,9 +232,10 @@ class Desk:
             self.seats.release()
 
     def put(self, asked):
-        """Judges a request and sends it, or says why not. The same form may be sent later if `serve` is held now."""
-        is_shut = asked.request == 'shut'
-        if not (is_shut and not asked.voter or asked.request in ('cast', 'replace', 'withdraw') and is_fit(asked.voter)):
+        """Judges a request and sends it, or says why not. The same form may be sent later if `serve` is held
+        now."""
+        is_ballot = asked.request in ('cast', 'replace', 'withdraw') and is_fit(asked.voter)
+        if not (is_ballot or (asked.request, asked.voter) == ('shut', '')):
             raise ValueError('no such request')
         self.log.write('asked', True, **{it: vars(asked)[it] for it in ('form', 'clerk', 'request', 'voter', 'seen')})
         self.keep_up(seconds=HELD)

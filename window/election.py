@@ -6,8 +6,9 @@ Project = collections.namedtuple('Project', 'id name cost')
 # The characters that pb_app trims off the ends of an id; Python would trim more.
 SPACE = '\t\n\v\f\r \x85\xa0\u1680\u2028\u2029\u202f\u205f\u3000' + ''.join(map(chr, range(0x2000, 0x200b)))
 
-# How long a voter's id may be, in bytes, and which classes of characters it may not have: controls, those that are
-# invisible or turn a line's direction, and line ends. These are limits of the window: `serve` has none of them.
+# How long a voter's id may be, in bytes, and which classes of characters it may not have: controls, those
+# that are invisible or turn a line's direction, and line ends. These are limits of the window: `serve` has
+# none of them.
 LONGEST_ID, UNFIT = 200, ('Cc', 'Cf', 'Zl', 'Zp')
 
 
@@ -74,8 +75,8 @@ class Election:
         """Names the voters of the file whose ids the window does not take, in words."""
         named = ', '.join(repr(it[:LONGEST_ID]) for it in self.unfit[:10])
         more = f' and {len(self.unfit) - 10} more' * (len(self.unfit) > 10)
-        return (f'The window does not take these voters of the file: {named}{more}. An id here has at most {LONGEST_ID} '
-                'bytes and only characters that can be seen. `pb_app serve` takes requests for them.')
+        return (f'The window does not take these voters of the file: {named}{more}. An id here has at most '
+                f'{LONGEST_ID} bytes and only characters that can be seen. `pb_app serve` takes requests for them.')
 
     def held(self, voter, entry):
         """The projects of the ballot that an entry put there, or that came with the file."""

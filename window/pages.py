@@ -113,7 +113,8 @@ def failed(why):
     if isinstance(why, election.Fault):
         return say('The program refused', str(why), 500)
     where = traceback.format_tb(why.__traceback__)[-1].splitlines()[0].strip()
-    office.log.write('failed', address=request.remote_addr, clerk=g.get('clerk'), kind=type(why).__name__, where=where)
+    kind, clerk = type(why).__name__, g.get('clerk')
+    office.log.write('failed', address=request.remote_addr, clerk=clerk, kind=kind, where=where)
     return say('The window failed', 'Look at the voter again: it is not known whether anything was recorded.', 500)
 
 
@@ -153,8 +154,8 @@ def asked_voter():
     """The voter's id of a form, trimmed as the desk does."""
     voter = request.form.get('voter', '').strip(election.SPACE)
     if not election.is_fit(voter):
-        words = (f'A voter’s id has at least one character, at most {election.LONGEST_ID} bytes, and only characters that '
-                 'can be seen. Type it again.')
+        words = (f'A voter’s id has at least one character, at most {election.LONGEST_ID} bytes, and only '
+                 'characters that can be seen. Type it again.')
         abort(make_response(say('No such id', words, 400)))
     return voter
 

@@ -17,7 +17,7 @@ class Roll:
         command = [program, 'serve', '--roll', path, '--min', '1', file, journal]
         self.child, rows = desk.started(command, subprocess.DEVNULL)
         atexit.register(self.end)
-        self.sent, self.told = 0, 0     # The numbers of the last row that was sent, and of the last one that was answered.
+        self.sent, self.told = 0, 0     # The numbers of the last rows that were sent, and answered.
         threading.Thread(target=self.listen, args=(rows,), daemon=True).start()
 
     def listen(self, rows):

@@ -1,5 +1,6 @@
-"""The web server: Debian's cheroot. Its one thread takes what all connections send, without waiting for any, with a
-limit for each address and a time for each part of a request. A worker gets a connection once its request is whole."""
+"""The web server: Debian's cheroot. Its one thread takes what all connections send, without waiting for any,
+with a limit for each address and a time for each part of a request. A worker gets a connection once its
+request is whole."""
 import contextlib, io, math, re, selectors, socket, ssl, threading, time
 
 from cheroot import wsgi
@@ -9,8 +10,8 @@ from cheroot.ssl import builtin
 
 # Bytes of a body and of the headers, seconds for each of them and for sending a page.
 BODY, HEADERS, SECONDS, SENDING = 65536, 16384, 10, 60
-# How many connections may have no whole request yet, of an address and in all. How many whole requests of an address
-# there may be at a time (and as many in all), and how many workers answer them.
+# How many connections may have no whole request yet, of an address and in all. How many whole requests of an
+# address there may be at a time (and as many in all), and how many workers answer them.
 CONNECTIONS, ALL, REQUESTS, WORKERS = 16, 400, 48, 64
 CROWDED, SLOW, CLOSED = 'too many connections', 'too slow', 'closed'
 LENGTH = re.compile(rb'(?i)\r\ncontent-length:[ \t]*(\d{1,9})[ \t]*\r\n')
@@ -39,8 +40,8 @@ class Request(HTTPRequest):
 
 
 class Connection(HTTPConnection):
-    """A connection: what it has sent, until when the next part has to be there, and what it waits for. It is cut when
-    its time is over."""
+    """A connection: what it has sent, until when the next part has to be there, and what it waits for. It is
+    cut when its time is over."""
     RequestHandlerClass = Request
     last_used = math.inf    # cheroot shall not end it: `until` does.
 
@@ -51,7 +52,8 @@ class Connection(HTTPConnection):
         self.wants, self.is_ready, self.is_whole = selectors.EVENT_READ, not server.tls, False
 
     def take(self):
-        """Takes what has come, without waiting for more: the handshake, and then the request. Tells whether it is whole."""
+        """Takes what has come, without waiting for more: the handshake, and then the request. Tells whether
+        it is whole."""
         try:
             tls = self.server.tls
             if tls and not isinstance(self.socket, ssl.SSLSocket):
@@ -72,7 +74,8 @@ class Connection(HTTPConnection):
         return self.is_whole
 
     def has_all(self):
-        """Whether the request is whole, as far as its headers tell. A worker judges it: too much counts as all."""
+        """Whether the request is whole, as far as its headers tell. A worker judges it: too much counts as
+        all."""
         end = self.text.find(b'\r\n\r\n')
         if end < 0:
             return len(self.text) > HEADERS
@@ -155,8 +158,8 @@ class Server(wsgi.Server):
             conn.close()
 
     def make_room(self, address):
-        """Cuts the oldest connection whose request is not whole, where there are too many of its address or in all: so
-        nobody is kept out by connections that send nothing."""
+        """Cuts the oldest connection whose request is not whole, where there are too many of its address or
+        in all: so nobody is kept out by connections that send nothing."""
         waiting = [it for it in list(self.open) if not (it.is_whole or it.why)]
         own = [it for it in waiting if it.remote_addr == address]
         for these, limit in (own, CONNECTIONS), (waiting, ALL):

@@ -5,15 +5,16 @@ import clerks
 
 # The longest delay, how long a wrong passphrase is remembered (both in seconds), and how many of an address are free.
 LONGEST, MEMORY, FREE = 8, 1800, 4
-# How many tries may wait for their turn: of all addresses, and of one address or browser. Each takes a tenth of a
-# second.
+# How many tries may wait for their turn: of all addresses, and of one address or browser. Each takes a tenth
+# of a second.
 PLACES, SHARE = 16, 8
 
 
 class Door:
-    """Tells who signs in. What delays a clerk are wrong tries at this name from the same address, and at any name from
-    there (the head clerk: at this name alone); or, in a browser in which the clerk has signed in before, wrong tries in
-    that browser alone. A delay is short, so nobody can lock out a clerk who has the right passphrase."""
+    """Tells who signs in. What delays a clerk are wrong tries at this name from the same address, and at any
+    name from there (the head clerk: at this name alone); or, in a browser in which the clerk has signed in
+    before, wrong tries in that browser alone. A delay is short, so nobody can lock out a clerk who has the
+    right passphrase."""
 
     def __init__(self, path):
         self.path, self.stamp, self.wrong, self.waiting = path, None, {}, collections.Counter()
@@ -48,8 +49,8 @@ class Door:
             self.wrong[key] = count, now + (min(2 ** min(power, 20), LONGEST) if power >= 0 else 0)
 
     def judge(self, name, passphrase, address, mark_in):
-        """The clerk and 0; or None and the seconds to wait, 0 where name or passphrase is wrong. `mark_in` gives the
-        mark that the browser keeps for a clerk's number."""
+        """The clerk and 0; or None and the seconds to wait, 0 where name or passphrase is wrong. `mark_in`
+        gives the mark that the browser keeps for a clerk's number."""
         clerk = clerks.named(self.clerks(), name)
         mark = mark_in(clerk['number']) if clerk and clerk['hash'] else ''
         right = self.mark_of(clerk, mark.split('.')[0]) if mark else ''
