@@ -1,5 +1,5 @@
 """Tries the desk of the clerks' window, without a browser: deaths of `serve` and of the window, faults, ballots of others, the shut desk."""
-import concurrent.futures, hashlib, os, re, shutil, signal, stat, subprocess
+import concurrent.futures, hashlib, os, re, shutil, signal, subprocess
 
 from window_clerk import Clerk, Window
 from window_seen import NAMES, new_folder, see
@@ -196,9 +196,8 @@ def try_shut(program, work):
                                 capture_output=True).stdout
         see(page.body == wanted and 'attachment' in page.headers['Content-Disposition'], 'the page of the result')
         copies = sorted((folder / 'copies').iterdir())
-        see(len(copies) == 2 and copies[0].read_bytes() == window.journal.read_bytes()
-            and subprocess.run(['sha256sum', '-c', copies[1].name], cwd=folder / 'copies', capture_output=True).returncode == 0
-            and all(stat.S_IMODE(it.stat().st_mode) == 0o600 for it in copies), 'the copy and its digest', copies)
+        see(len(copies) == 1 and (copies[0] / 'city.journal').read_bytes() == window.journal.read_bytes()
+            and subprocess.run(['sha256sum', '-c', 'SHA256SUMS'], cwd=copies[0], capture_output=True).returncode == 0, 'the copy', copies)
         said, status = window.end()
         window.start()
         head.sign_in('Head')
@@ -206,7 +205,7 @@ def try_shut(program, work):
         see(re.search(r'\(clerk 2\) ?1 ?1 ?2 ', head.get('/head').seen), 'and its counts, also what was refused', head.get('/head').seen)
         shutil.rmtree(folder / 'copies')
         said, status = window.end()
-        see(status == 1 and 'was not copied' in said and 'write both down' in said, 'a copy that fails is told', said, status)
+        see(status == 1 and 'No copy was made' in said and 'write both down' in said, 'a copy that fails is told', said, status)
         (folder / 'copies').mkdir()
         window.options[-1] = '--measure nothing'
         window.start()

@@ -1,6 +1,6 @@
 """Tries what the clerks' window meets on some days: a roll and a least number of projects, an answer that stays out, a `serve`
-with many words, an evening's copy."""
-import concurrent.futures, hashlib, os, pathlib, shutil, signal, stat, subprocess, time
+with many words."""
+import concurrent.futures, os, pathlib, signal, stat, subprocess, time
 
 from window_clerk import LIMIT, PYTHON, RUN, TOP, Clerk, Window
 from window_seen import NAMES, new_folder, see
@@ -148,35 +148,3 @@ def try_words(program, work):
         see(status == 0 and text.count(b'x') >= 2_000_000 and b'row 2' in text,
             'the words are in their file', said, len(text))
         see(stat.S_IMODE(words.stat().st_mode) == 0o600, 'for this account alone')
-
-
-def try_evening(program, work):
-    """Ctrl-C copies the journal and its digest, each evening beside the older copies; a copy can be gone on with."""
-    folder = new_folder(work, 'evening')
-    copies, seen = folder / 'copies', {}
-    copies.mkdir()
-    with Window(program, folder, options=['--backup', copies]) as window:
-        ann = Clerk(window)
-        for day, number in enumerate((signal.SIGINT, signal.SIGTERM, signal.SIGHUP), 1):
-            window.start()
-            ann.cookies = {}
-            ann.sign_in('Ann'), ann.ask('cast', f'v{day}', ['12'])
-            see(len(list(copies.iterdir())) == 2 * day - 2, 'nothing is copied during the day')
-            said, status = window.end(number)
-            text = window.journal.read_bytes()
-            journal, digest = sorted(set(copies.iterdir()) - set(seen))
-            see(status == 0 and all(f'Copied to {it}\n' in said for it in (journal, digest)), 'the copy is told', said)
-            see(journal.read_bytes() == text and text.endswith(b'v%d;0;done\n' % day) and f'{day},' in said, 'it is the journal', said)
-            see(digest.read_text() == f'{hashlib.sha256(text).hexdigest()}  {journal.name}\n' and digest.name == f'{journal.name}.sha256',
-                'the digest is its own', digest.read_text())
-            see(all(stat.S_IMODE(it.stat().st_mode) == 0o600 for it in copies.iterdir()), 'for this account alone')
-            see(all(path.read_bytes() == data for path, data in seen.items()), 'older copies are kept')
-            seen = {path: path.read_bytes() for path in copies.iterdir()}
-    other = new_folder(work, 'other')
-    shutil.copy(journal, other / 'city.journal')
-    with Window(program, other).start() as window:
-        see('Entries in the journal: 3.' in window.first, 'a copy is gone on with', window.first)
-        ann = Clerk(window)
-        ann.sign_in('Ann')
-        see('Entry 4 ' in ann.ask('replace', 'v1', ['7']).seen, 'and has its ballots')
-        window.end()

@@ -4,6 +4,7 @@
 usage: clerks.py add NAME           a new clerk, with the next number; the first one is the head clerk, 0
        clerks.py passphrase NAME    another passphrase for a clerk; a closed name can sign in again
        clerks.py close NAME         the clerk can no longer sign in; nobody else gets the number
+       clerks.py list               the clerks with their numbers
 
 The file is clerks.json here, or the one that --clerks CLERKS names. A passphrase is typed at the terminal, twice, and has
 at least 12 characters.
@@ -42,6 +43,17 @@ def load(path):
         return clerks
     except (OSError, ValueError, KeyError, TypeError) as why:
         raise ValueError(f'{path} cannot be used as the file of clerks: {why}') from None
+
+
+def folded(name):
+    """A name as it is compared: capital and small letters are the same."""
+    return unicodedata.normalize('NFC', name).casefold()
+
+
+def named(clerks, name):
+    """The clerk of this name, or None. If two names of an older file differ in capitals alone, these count."""
+    return (next((it for it in clerks if it['name'] == name), None)
+            or next((it for it in clerks if folded(it['name']) == folded(name)), None))
 
 
 def save(path, clerks):
@@ -83,11 +95,11 @@ def found(path, what, name):
     """The clerks of the file, and the one of this name, or a new one. Ends the program where this cannot be
     done."""
     clerks = load(path) if os.path.exists(path) or what != 'add' else []
-    clerk = next((it for it in clerks if it['name'] == name), {'number': len(clerks), 'name': name})
+    clerk = named(clerks, name) or {'number': len(clerks), 'name': name}
     is_new, names = clerk not in clerks, ', '.join(it['name'] for it in clerks)
     is_seen, is_head = name and name.isprintable(), what == 'close' and clerk['number'] == 0
     refusals = {'a name has at least one character, and only characters that can be seen': not is_seen,
-                f'there is a clerk {name} already; give the new one another name': not is_new and what == 'add',
+                f"there is a clerk {clerk['name']} already; give the new one another name": what == 'add' and not is_new,
                 f'there is no clerk {name}; the clerks are {names}': what != 'add' and is_new,
                 'the head clerk cannot be closed: nobody else can shut the desk': is_head,
                 'there can be 64 clerks at most': what == 'add' and len(clerks) == 64}
@@ -99,9 +111,16 @@ def found(path, what, name):
 def main():
     parser = argparse.ArgumentParser(prog='clerks.py', usage=__doc__.split('usage: ')[1].split('\n\n')[0])
     parser.add_argument('--clerks', default='clerks.json')
-    parser.add_argument('what', choices=['add', 'passphrase', 'close'])
-    parser.add_argument('name')
+    parser.add_argument('what', choices=['add', 'passphrase', 'close', 'list'])
+    parser.add_argument('name', nargs='?')
     given = parser.parse_args()
+    if (given.name is None) != (given.what == 'list'):
+        parser.error('list takes no name' if given.name else f'{given.what} takes a name')
+    if given.what == 'list':
+        for it in load(given.clerks):
+            more = ', the head clerk' * (it['number'] == 0) + ', closed' * (not it['hash'])
+            print(f"{it['number']} {it['name']}{more}")
+        return
     name = given.name.strip()
     before = found(given.clerks, given.what, name)[1]
     change = {'salt': '', 'hash': ''} if given.what == 'close' else typed(name)
@@ -112,7 +131,7 @@ def main():
         if given.what != 'add' and clerk != before:
             sys.exit(f'clerks.py: {name} was changed at another terminal meanwhile; nothing was changed here')
         save(given.clerks, clerks[:clerk['number']] + [clerk | change] + clerks[clerk['number'] + 1:])
-    print(f"{name} is clerk {clerk['number']}", end=', the head clerk' * (clerk['number'] == 0) + ', and can no longer sign in' * (given.what == 'close') + '\n')
+    print(f"{clerk['name']} is clerk {clerk['number']}", end=', the head clerk' * (clerk['number'] == 0) + ', and can no longer sign in' * (given.what == 'close') + '\n')
 
 
 if __name__ == '__main__':

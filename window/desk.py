@@ -70,12 +70,13 @@ class Desk:
             raise Fault(self.lacking(self.log.entries, 0))
         first = []
         while first[:1] != ['entries']:
+            begin = os.fstat(self.words).st_size
             child, rows = started(self.command, self.words)
             first = next((row for row in rows if row[0] != 'torn'), [])
             if first[:1] != ['entries']:
                 child.communicate()
                 if first[:2] != ['fault', 'locked'] or time.monotonic() > until:
-                    raise Fault(f"{';'.join(first) or 'pb_app serve did not start'}; its words are in {journal}.words")
+                    raise Fault(f"{';'.join(first) or 'pb_app serve did not start'}\n{self.words_from(begin)}".strip())
                 time.sleep(0.2)
         lacking = self.read_journal(int(first[1]))
         if lacking:
@@ -98,10 +99,17 @@ class Desk:
             self.newest = before
             return self.lacking(before.number or self.log.entries, count)
 
+    def words_from(self, begin):
+        """What `serve` has written on standard error since then."""
+        with open(f'{self.files[1]}.words', encoding='utf-8', errors='replace') as file:
+            file.seek(begin)
+            return file.read(4096)
+
     def lacking(self, number, count):
         """What is wrong with a journal that has not all that was answered, and what to do."""
         return (f'{self.files[1]} lacks entry {number}, which was answered (its entries: {count}). Give the right '
-                f'journal this name. To go on without what this one lacks, move {self.files[1]}.log to another folder')
+                'journal this name. To go on without what this one lacks, end the window and start it again: '
+                'the head clerk confirms it there')
 
     def note(self, row):
         """Takes an entry."""
@@ -125,6 +133,8 @@ class Desk:
         with self.sending:
             self.child = None
             self.log.write('ended', status=child.returncode, fault=self.fault)
+            if self.fault:
+                print(f'run.py: the desk has stopped: {self.fault}. The head clerk’s page says why.', flush=True)
             while self.waiting:
                 self.unknown[self.waiting[0].form] = self.waiting[0]
                 self.end_first()
@@ -147,6 +157,8 @@ class Desk:
         elif row[:5] == [str(self.newest.number + 1), str(asked.clerk), asked.request, asked.voter, asked.places]:
             entry = self.note(row)
             asked.outcome, told = Outcome('entry', entry), {'entry': entry.number, 'answer': entry.answer}
+            day = time.strftime('%Y-%m-%d', time.gmtime())
+            self.log.turnout[day, asked.clerk, asked.request] += entry.answer == 'done'
         else:
             raise ValueError('the answer of another request')
         self.log.write('answered', form=asked.form, clerk=asked.clerk, request=asked.request, **told)

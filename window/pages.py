@@ -5,7 +5,7 @@ from flask import Flask, Response, abort, g, make_response, redirect, render_tem
 from markupsafe import Markup
 from werkzeug.exceptions import HTTPException
 
-import desk, election
+import desk, election, log
 
 app = Flask(__name__)
 app.logger.disabled = True      # What fails is said in the window's own log: nobody may read standard error.
@@ -26,6 +26,9 @@ ANSWERS = {'done': 'Recorded.', 'already-cast': 'Not recorded: this voter has a 
            'TooFew': 'Not recorded: the ballot has too few projects.', 'changed': 'Nothing was sent.',
            'stopped': 'Not recorded: nothing was sent.', 'held': 'Not recorded: nothing was sent.',
            'unknown': 'It is not known whether this was recorded.'}
+# Why the desk has stopped.
+STOPS = {'write': 'The disk of the journal is full or fails.', 'memory': 'There was no memory left.',
+         'moved': 'Somebody moved or replaced the journal.', 'audit': 'The journal was edited.'}
 STALE = 'The form is too old, or you were signed out. Nothing was sent to the desk just now. Look up the voter to see what is recorded.'
 
 
@@ -85,7 +88,10 @@ def check():
 def words():
     """What each page knows."""
     held = cookie('session') if g.session else g.get('fresh', cookie('sign-in'))
-    return {'clerk': g.clerk, 'desk': office.desk, 'election': office.election, 'unknown': list(office.desk.unknown.values()),
+    why = STOPS.get((office.desk.fault or '').partition(';')[2].split(';')[0], '')
+    return {'clerk': g.clerk, 'desk': office.desk, 'keeper': office.keeper, 'turnout': office.log.turnout,
+            'log_failure': office.log.why_not(), 'why_stopped': why,
+            'election': office.election, 'unknown': list(office.desk.unknown.values()),
             'said': lambda name: ANSWERS.get(name.split()[0], f'Not recorded: {name}.'),
             'name_of': office.door.name_of, 'who': lambda it: f"{office.door.name_of(it)} (clerk {it}{', you' * (it == g.clerk)})",
             'token': Markup('<input type="hidden" name="token" value="%s">') % token_of(held)}
@@ -102,6 +108,8 @@ def failed(why):
     """Says in the log where the window failed, and nothing of what was sent."""
     if isinstance(why, HTTPException):
         return say(why.name, 'Nothing was sent to the desk.', why.code)
+    if isinstance(why, log.Unwritten):
+        return say('Nothing was sent', 'Nothing was sent to the desk just now. Try again once there is room.', 503)
     if isinstance(why, election.Fault):
         return say('The program refused', str(why), 500)
     where = traceback.format_tb(why.__traceback__)[-1].splitlines()[0].strip()

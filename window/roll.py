@@ -1,5 +1,5 @@
 """Whether a voter is on the roll, before a ballot is ticked. `serve` alone knows the rule, so a second one is asked."""
-import contextlib, csv, os, queue, subprocess, tempfile, threading
+import atexit, contextlib, csv, os, queue, subprocess, tempfile, threading
 
 import desk
 
@@ -16,6 +16,7 @@ class Roll:
         file, journal = os.path.join(os.path.dirname(__file__), 'nobody.pb'), os.path.join(self.folder.name, 'journal')
         command = [program, 'serve', '--roll', path, '--min', '1', file, journal]
         self.child, rows = desk.started(command, subprocess.DEVNULL)
+        atexit.register(self.end)
         self.sent, self.told = 0, 0     # The numbers of the last rows that were sent, and answered.
         threading.Thread(target=self.listen, args=(rows,), daemon=True).start()
 
@@ -50,3 +51,9 @@ class Roll:
             return False
         finally:
             self.turn.release()
+
+    def end(self):
+        """Ends it, and then deletes its folder, so that it writes nothing there meanwhile."""
+        self.child.kill()
+        self.child.wait()
+        self.folder.cleanup()

@@ -51,11 +51,11 @@ class Door:
     def judge(self, name, passphrase, address, mark_in):
         """The clerk and 0; or None and the seconds to wait, 0 where name or passphrase is wrong. `mark_in`
         gives the mark that the browser keeps for a clerk's number."""
-        clerk = next((it for it in self.clerks() if it['name'] == name), None)
+        clerk = clerks.named(self.clerks(), name)
         mark = mark_in(clerk['number']) if clerk and clerk['hash'] else ''
         right = self.mark_of(clerk, mark.split('.')[0]) if mark else ''
         is_marked = bool(mark) and hmac.compare_digest(mark.encode(), right.encode())
-        keys = [('name', hash(name), address)] + [('address', address)] * (clerk is not self.known[0])
+        keys = [('name', hash(clerks.folded(name)), address)] + [('address', address)] * (clerk is not self.known[0])
         keys = [('browser', mark)] if is_marked else keys
         if self.delay(keys) > 0:
             return None, self.delay(keys)

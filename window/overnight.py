@@ -1,0 +1,194 @@
+"""What changed overnight: JOURNAL.window has what a day left behind; the next morning is compared with it."""
+import contextlib, datetime, getpass, hashlib, json, os, sys, threading
+
+import clerks, copies
+from election import Fault
+
+# A minute, and after how many seconds the watch looks whether the folder of the copies is there.
+MINUTE, LOOKS = 60, 10
+
+
+def file_digest(path):
+    """The SHA-256 of a file; None where there is none to be read."""
+    with contextlib.suppress(OSError, TypeError):
+        with open(path, 'rb') as file:
+            return hashlib.file_digest(file, 'sha256').hexdigest()
+
+
+def day_of(time):
+    """A time of the log, as the office's clock shows it."""
+    return f'{datetime.datetime.fromisoformat(time).astimezone():%-d %B %Y, %H:%M}'
+
+
+def load(journal):
+    """What the last day left behind; nothing before the first one."""
+    try:
+        with open(f'{journal}.window', encoding='utf-8') as file:
+            state = json.load(file)
+        if not {'file', 'roll', 'settings', 'entries'} <= set(state) or not day_of(state['time']):
+            raise ValueError('it lacks something')
+        state['journal']['length'] + 0, state['journal']['sha256'] + ''
+        return state
+    except FileNotFoundError:
+        return None
+    except (OSError, ValueError, KeyError, TypeError) as why:
+        raise Fault(f'{journal}.window cannot be read, so nobody knows what changed overnight: {why}. Compare {journal} '
+                    f'with the newest copy, and then move {journal}.window to another folder') from None
+
+
+def journal_changed(state, journal):
+    """What is not as it was in the part of the journal that the last day left, in words; it may have grown."""
+    since, kept = day_of(state['time']), state['journal']
+    had = f'Its entries then: {state["entries"]}.'
+    if not os.path.exists(journal):
+        return [f'{journal} is gone: it was there on {since}. {had}']
+    with open(journal, 'rb') as file:
+        front = file.read(kept['length'])
+    if len(front) < kept['length']:
+        return [f'{journal} has changed since {since}: it is shorter. {had}']
+    if copies.digest_of(front) != kept['sha256']:
+        return [f'{journal} has changed since {since}: what it had then is not the same. {had}']
+    return []
+
+
+def changes(state, given, now):
+    """What is not as it was when the last day ended, in words."""
+    since, told = day_of(state['time']), journal_changed(state, given.journal)
+    if now['file'] != state['file']:
+        told.append(f'{given.file} has changed since {since}: its SHA-256 was {state["file"]}.')
+    if now['roll'] and state['roll'] and now['roll'] != state['roll']:
+        told.append(f'{given.roll}, the roll, has changed since {since}.')
+    return told + settings_changed(state['settings'], now['settings'], given.settings)
+
+
+def settings_changed(before, now, path):
+    """Which settings differ from those of the last day, in words. Arguments alone are not compared."""
+    if before is None:
+        return []
+    if now is None:
+        return ['The last day began with a file of settings, and today began without one.']
+    show = lambda it: 'nothing' if it in (None, [], '') else json.dumps(it, ensure_ascii=False)
+    return [f'{path}: {key} was {show(before.get(key))}, and is {show(now.get(key))}.'
+            for key in sorted({*before, *now}) if before.get(key) != now.get(key)]
+
+
+def confirm(told, newest, head, log):
+    """Says what changed, before anybody can sign in; goes on only with the passphrase of the head clerk."""
+    for words in told:
+        print(f'run.py: {words}', file=sys.stderr)
+    print(f'The newest copy is {newest}.' if newest else 'No copy is known here.', file=sys.stderr)
+    log.write('changed-overnight', changes=told)
+    if not sys.stdin.isatty():
+        raise Fault('The head clerk has to confirm this at a terminal. Nothing was opened')
+    try:
+        passphrase = getpass.getpass(f"To go on as it is, {head['name']} types the passphrase: ")
+    except EOFError:
+        passphrase = ''
+    if not clerks.is_right(head, passphrase):
+        log.write('not-confirmed')
+        raise Fault("this is not the head clerk's passphrase. Nothing was opened")
+    # From here on the log asks for no entry that this journal does not have.
+    log.write('confirmed', True, clerk=0, entries=0, changes=told)
+    log.entries = 0
+
+
+class Keeper:
+    """Keeps JOURNAL.window, and makes the copies: each time by `keep`, and every so many minutes."""
+
+    def __init__(self, given, log):
+        self.given, self.log, self.turn, self.parts = given, log, threading.RLock(), copies.parts_of(given)
+        self.copies = copies.Copies(given.backup, given.program, self.parts) if given.backup else None
+        self.now = {'file': file_digest(given.file), 'roll': file_digest(given.roll), 'settings': given.known}
+        self.trouble, self.last, self.is_warned, self.is_over = None, None, False, threading.Event()
+
+    def compare(self, head):
+        """Tells what changed overnight, and lets the head clerk confirm it."""
+        state, given = load(self.given.journal), self.given
+        told, found = changes(state, given, self.now) if state else [], b''
+        with contextlib.suppress(FileNotFoundError):
+            with open(given.journal, 'rb') as file:
+                found = copies.text_of(file.read())
+        count = copies.entries_of(found)
+        if not told and count < self.log.entries:
+            told = [f'{given.journal} lacks entry {self.log.entries}, which was answered (its entries: {count}). '
+                    'Give the right journal this name.']
+        newest = self.copies.newest() if self.copies else None
+        if told and not os.path.exists(given.journal):
+            more = f', or restore the newest copy in a new folder: {newest}' if newest else ''
+            raise Fault(f'{told[0]} Get it back{more}')
+        if told:
+            confirm(told, newest, head, self.log)
+
+    def files(self):
+        """The files of the office as they are now, by their names, and what JOURNAL.window has of them."""
+        time = datetime.datetime.now(datetime.timezone.utc).isoformat(timespec='milliseconds')
+        files = copies.files_of(self.parts)
+        name = os.path.basename(self.given.journal)
+        text, parts = files[name], {part: os.path.basename(path) for part, path in self.parts.items()}
+        state = {'time': time, 'journal': {'length': len(text), 'sha256': copies.digest_of(text)},
+                 'entries': copies.entries_of(text), **self.now, 'has_key': bool(self.given.cert),
+                 'parts': {part: it for part, it in parts.items() if it in files}}
+        return {**files, f'{name}.window': (json.dumps(state, indent=1) + '\n').encode()}
+
+    def keep(self, is_copied=True, is_evening=False):
+        """Writes JOURNAL.window, and makes a copy. Gives the path of the copy."""
+        with self.turn:
+            state, path, failure, whole = load(self.given.journal), f'{self.given.journal}.window', None, None
+            if told := journal_changed(state, self.given.journal) if state and is_copied else []:
+                raise Fault(told[0])
+            files = self.files()
+            try:
+                with contextlib.suppress(FileNotFoundError):
+                    os.remove(f'{path}.new')
+                copies.put(f'{path}.new', files[os.path.basename(path)])
+                os.replace(f'{path}.new', path)
+            except OSError as why:      # A full disk here is one more reason for a copy elsewhere.
+                failure = why
+            if self.copies and is_copied:
+                whole = self.last = self.copies.make(files, is_evening)
+                self.trouble = None
+                self.log.write('copied', name=os.path.basename(whole))
+                self.warn(whole)
+            if failure:
+                raise failure
+            return whole
+
+    def warn(self, whole):
+        """Says once where the disk of the copies keeps no permissions."""
+        if os.stat(whole).st_mode & 0o077 and not self.is_warned:
+            self.is_warned = True
+            print(f'run.py: the disk of {self.copies.folder} keeps no permissions: whoever has it can read the copies. '
+                  'Lock it up.', file=sys.stderr)
+
+    def tell(self, words):
+        """Says at the terminal, in the log and on the head clerk's page what fails; the same words once."""
+        if words != self.trouble:
+            print(f'run.py: {words}', file=sys.stderr, flush=True)
+            self.log.write('not-copied', why=words)
+        self.trouble = words
+
+    def missing(self):
+        """Why no copy could be made now, in words, or None."""
+        missing = self.copies and self.copies.lacks()
+        more = 'Put the stick in, or end the window and name another folder.'
+        return f'No copy can be made: {missing}. {more}' if missing else None
+
+    def watch(self):
+        """Makes a copy every so many minutes, and looks in between whether its folder is there."""
+        left = period = max(1, int(self.given.backup_every * MINUTE / LOOKS))
+        was_missing = False
+        while not self.is_over.wait(LOOKS):
+            missing, left = self.missing(), left - 1
+            if missing:
+                self.tell(missing)
+            elif was_missing or left <= 0:
+                self.try_to_keep()
+                left = period
+            was_missing = bool(missing)
+
+    def try_to_keep(self, is_copied=True):
+        """Keeps what can be kept, and tells what failed."""
+        try:
+            self.keep(is_copied)
+        except (Fault, OSError, ValueError) as why:
+            self.tell(f'No copy was made: {copies.words_of(why)}')
