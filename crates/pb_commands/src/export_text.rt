@@ -6,7 +6,7 @@ ghost use Rattle.pb_commands.specs.Inner.Exporting.{IsStopped, is_won};
 ghost use Rattle.pb_commands.specs.Exported.{IsExportOf, own_comment};
 ghost use Rattle.pb_faults.specs.Fault.{merged};
 ghost use Rattle.pb_price.specs.Supporters.{support_of};
-ghost use Rattle.pb_reasons.specs.Counted.{IsCountBy, is_selected};
+ghost use Rattle.pb_reasons.specs.Counted.{IsCountBy, IsCounted, is_selected};
 ghost use Rattle.pb_rounds.specs.MostVotes.{votes_at};
 ghost use Rattle.pb_rounds.specs.RuleNames.{rule_text};
 
@@ -14,7 +14,7 @@ use crate::counting::Counting;
 use pb_core::election::Election;
 use pb_core::no_memory::NoMemory;
 use pb_export::write_pb::write_pb;
-use pb_export::{Carried, Further, Told};
+use pb_export::{Carried, Told};
 use pb_faults::AppFault;
 use pb_reasons::{Counted, Ending, ProjectTeller};
 use pb_rounds::rule::Rule;
@@ -34,30 +34,9 @@ pub(crate) fn export_text<T, G>(
     ensures merged { IfErr result (λ fault. merged fault ≡ fault) }
 {
     let further = carried.further()?;
-    let teller = ProjectTeller::of(counting.alloc, election, counted)?;
-    let text = told_text(counting, election, &teller, further);
-    drop(teller);
-    text
-}
-
-/// The file of an election, with what this teller tells of its projects and with what was kept.
-fn told_text<T, G>(
-    counting: &Counting<T, G>,
-    election: &Election,
-    teller: &ProjectTeller,
-    further: &Further,
-) -> Result<Vec<u8>, AppFault>
-    requires own { teller.now.0 ≡ election.now }
-    requires counted { IsCountBy counting.now.rule.now election.now teller.now.1 }
-    ensures ok { IfOk result (λ text. IsExportOf counting.now.rule.now further.now election.now
-        text.items) }
-    ensures fault { IfErr result (IsStopped election.now) }
-    ensures merged { IfErr result (λ fault. merged fault ≡ fault) }
-{
     let alloc = counting.alloc;
     let comment = comment_text(alloc, counting.rule, further.comment())?;
-    let votes = votes_of(alloc, election, teller)?;
-    let selected = selected_of(alloc, election, teller)?;
+    let (votes, selected) = columns_of(alloc, election, counted)?;
     let told = Told {
         rule: counting.rule.word(),
         comment: comment.as_str(),
@@ -67,6 +46,27 @@ fn told_text<T, G>(
     };
     let text = write_pb(alloc, election, &told)?;
     Ok(text)
+}
+
+/// How many ballots approve each project, and whether it is elected or added. What they are told from is
+/// gone before the text is made.
+fn columns_of(
+    alloc: Global,
+    election: &Election,
+    counted: &Counted,
+) -> Result<(Vec<u32>, Vec<bool>), NoMemory>
+    requires { IsCounted election.now counted.now }
+    ensures votes { IfOk result (λ columns. columns.0.items
+        ≡ map (votes_at (support_of election.now)) (range_with_len 0 (length election.now.projects))) }
+    ensures selected { IfOk result (λ columns. columns.1.items
+        ≡ map (is_selected counted.now) (range_with_len 0 (length election.now.projects))) }
+{
+    let teller = ProjectTeller::of(alloc, election, counted)?;
+    let votes = votes_of(alloc, election, &teller);
+    let selected = selected_of(alloc, election, &teller);
+    drop(teller);
+    let (votes, selected) = (votes?, selected?);
+    Ok((votes, selected))
 }
 
 /// How many ballots approve each project.
