@@ -7,6 +7,7 @@ ghost use Rattle.pb_app.specs.Inner.Page.{IsPageBy};
 use crate::kinship::Kinship;
 use crate::page_watch::PageWatch;
 use crate::tongue::Tongue;
+use pb_command_line::currency::is_currency;
 use pb_command_line::{PROGRAM, PageRun, Source};
 use pb_commands::{CountedElection, Counting};
 use pb_core::election::Election;
@@ -88,13 +89,24 @@ fn page_with<'a, T: Threads + Sync, G: Gate, S: Tongue>(
     ensures { IfOk result (λ text. IsPageBy counting.now.rule.now count.now.election text.items) }
 {
     let (rt, alloc, gate) = (counting.rt, counting.alloc, counting.gate);
-    let said = speech.said(alloc, seen.run.currency.or(seen.notes.currency()))?;
+    let said = speech.said(alloc, currency_of(seen))?;
     let title = seen.run.title.unwrap_or(said.title);
     let language = said.language(is_whole(&count.election));
     let facts = facts_of(counting.rule, seen, title, language);
     let page = page_of(rt, alloc, gate, &count.election, &count.counted, &facts);
     drop(said);
     page
+}
+
+/// The currency that was asked for, or else the one that META names, if it is one.
+fn currency_of<'a>(seen: &'a Seen<'a>) -> Option<&'a str> {
+    match seen.run.currency {
+        Some(asked) => Some(asked),
+        None => match seen.notes.currency() {
+            Some(named) if is_currency(named) => Some(named),
+            _ => None,
+        },
+    }
 }
 
 /// What the page says beside the outcome, with this title and in this language.

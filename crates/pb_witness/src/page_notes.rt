@@ -48,12 +48,10 @@ impl PageNotes {
         self.is_whole
     }
 
-    /// The currency that META names. A text with a digit is none: beside an amount it would be read as a part
-    /// of it.
+    /// The currency that META names.
     pub fn currency(&self) -> Option<&str> {
         let currency = self.currency.as_str();
-        let has_digit = currency.as_bytes().iter().any(|byte| byte.is_ascii_digit());
-        if currency.is_empty() || has_digit {
+        if currency.is_empty() {
             None
         } else {
             Some(currency)
