@@ -212,4 +212,5 @@ MADE = {
 }
 
 # Those that `rt try` would be slow on: it copies each file for each case, and runs with checks.
-LARGE = {'large.pb', 'largest.pb', 'records.pb', 'records-and-one.pb', 'full.roll', 'full-and-one.roll', 'far.pb', 'long.journal'}
+LARGE = {'large.pb', 'largest.pb', 'records.pb', 'records-and-one.pb', 'full.roll', 'full-and-one.roll', 'far.pb', 'heavy.pb',
+         'long.journal', *(f'report-{size}.pb' for size in SIZES if size > 100_000)}
