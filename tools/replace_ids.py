@@ -342,8 +342,9 @@ def replace(given):
 
 def given_arguments():
     parts = __doc__.split('\n\n')
-    name, told = os.path.basename(sys.argv[0]), '\n\n'.join(textwrap.fill(part, 79) for part in parts[2:])
-    parser = argparse.ArgumentParser(prog=name, description=textwrap.fill(parts[0], 79), epilog=told,
+    name, wrapped = os.path.basename(sys.argv[0]), textwrap.TextWrapper(79, break_on_hyphens=False)
+    parser = argparse.ArgumentParser(prog=name, description=wrapped.fill(parts[0]),
+                                     epilog='\n\n'.join(map(wrapped.fill, parts[2:])),
                                      formatter_class=argparse.RawDescriptionHelpFormatter)
     parser.error = lambda said: parser.exit(2, f'{name}: {said}; `{name} --help` says what it takes\n')
     parser.add_argument('file', metavar='FILE', help="the election's .pb file")
@@ -357,8 +358,8 @@ def given_arguments():
     take = parser.add_argument_group('with --publish').add_argument
     take('--program', metavar='PROGRAM', help='the program that counts; pb_app beside this tool or on the PATH, if '
          'none is named')
-    for name in RULE:
-        take(f'--{name}', metavar=name.upper(), help='as with `pb_app count`')
+    for rule in RULE:
+        take(f'--{rule}', metavar=rule.upper(), help='as with `pb_app count`')
     take('--plain', action='store_true', help='as with `pb_app count`')
     take('--other-file', action='store_true', help='as with `pb_app audit`')
     given = parser.parse_args()
