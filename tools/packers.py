@@ -17,7 +17,7 @@ def missing(programs):
 
 
 def install(*more, programs=ALL):
-    """Installs those programs that are missing, and more packages, where this runs as root and apt-get is there."""
+    """Installs the programs that are missing, and more packages, where this is root and apt-get is there."""
     if os.geteuid() != 0 or not shutil.which('apt-get'):
         return
     environment = {**os.environ, 'DEBIAN_FRONTEND': 'noninteractive'}

@@ -4,22 +4,23 @@
 usage: replace_ids.py FILE JOURNAL NEW_FILE NEW_JOURNAL [--keep NAME]..
        replace_ids.py FILE JOURNAL NEW_FILE NEW_JOURNAL --publish [OPTIONS OF THE COUNT] [--keep NAME]..
 
-The new files are made for this account alone. It replaces no file, and leaves none where it refuses: the status is
-then 1, and one line on standard error says why. Where there is no journal, /dev/null stands for it, and for the new
-one.
+The new files are made for this account alone. It replaces no file, and leaves none where it refuses: the
+status is then 1, and one line on standard error says why. Where there is no journal, /dev/null stands for
+it, and for the new one.
 
-Columns of VOTES that are headed voter_id, or have the voter's own id in each row, get the new ids. It refuses a file
-that has an id of a voter anywhere else: as the value of a key, or in another column. Delete what says who somebody is.
-Where a text only happens to be some voter's id, as an age can be, name its key or column with --keep.
+Columns of VOTES that are headed voter_id, or have the voter's own id in each row, get the new ids. It
+refuses a file that has an id of a voter anywhere else: as the value of a key, or in another column. Delete
+what says who somebody is. Where a text only happens to be some voter's id, as an age can be, name its key
+or column with --keep.
 
-With --publish the new files are such as everybody may read. Of VOTES it keeps voter_id and vote alone, and says which
-columns it drops. It writes the rows of VOTES in an order drawn at random: else they tell in which order people came.
-The rows of a journal stay in their order, or nobody could audit it. So the journal still tells in which order, and by
-which clerk, requests came.
+With --publish the new files are such as everybody may read. Of VOTES it keeps voter_id and vote alone, and
+says which columns it drops. It writes the rows of VOTES in an order drawn at random: else they tell in
+which order people came. The rows of a journal stay in their order, or nobody could audit it. So the journal
+still tells in which order, and by which clerk, requests came.
 
-With --publish `pb_app count` has to give the same report of both files before the new ones get their names. With a
-journal so has `pb_app audit --require-shut`. Give --publish the options of your count. Without pb_app nothing is
-written.
+With --publish `pb_app count` has to give the same report of both files before the new ones get their names.
+With a journal so has `pb_app audit --require-shut`. Give --publish the options of your count. Without
+pb_app nothing is written.
 """
 import argparse, csv, errno, os, re, secrets, shutil, signal, subprocess, sys, textwrap
 
@@ -177,7 +178,7 @@ def behind_votes(rows):
 
 
 def drop_columns(rows):
-    """Leaves of VOTES the ids and the votes alone. Answers what was dropped, each name as the header has it."""
+    """Leaves of VOTES the ids and the votes alone. Answers the names of what was dropped."""
     votes = rows[behind_votes(rows):]
     header = [*next(row for row in votes if any(map(trimmed, row)))]
     columns = columns_of(header)
@@ -203,8 +204,8 @@ def program_of(named):
     beside = os.path.dirname(os.path.abspath(__file__))
     found = shutil.which(named) if named else shutil.which('pb_app', path=beside) or shutil.which('pb_app')
     if not found:
-        raise Refused(f'there is no program {named}' if named else 'pb_app, which has to count both files, is neither '
-                      'on the PATH nor beside this tool: name it with --program')
+        raise Refused(f'there is no program {named}' if named else 'pb_app, which has to count both files, '
+                      'is neither on the PATH nor beside this tool: name it with --program')
     return found
 
 
@@ -217,8 +218,8 @@ def reports_of(given, program, file, journal=None):
         other = ['--other-file'] if given.other_file else []
         calls.append(['audit', *map(os.path.abspath, (file, journal)), '--require-shut', *other, *rule])
     for words in calls:
-        done = subprocess.run([program, *words], stdin=subprocess.DEVNULL, capture_output=True, encoding='utf-8',
-                              errors='replace')
+        done = subprocess.run([program, *words], stdin=subprocess.DEVNULL, capture_output=True,
+                              encoding='utf-8', errors='replace')
         if done.returncode:
             why = (done.stderr or done.stdout).partition('\n')[0]
             raise Refused(f'nothing is written, since pb_app {words[0]} refuses {file}: {why}')
@@ -229,7 +230,8 @@ def see_winners(given, program, new):
     """The rows of the winners, which have to be the same of the old files and of the new ones."""
     reports = [[*reports_of(given, program, *files)] for files in ((given.file, given.journal), new)]
     if reports[0] != reports[1]:
-        raise Refused(f'nothing is written, since pb_app gives another report of the new files than of {given.file}')
+        raise Refused('nothing is written, since pb_app gives another report of the new files than of '
+                      f'{given.file}')
     return re.findall('^(?:elected|added);.*$', reports[0][-1], re.M)
 
 
@@ -244,7 +246,8 @@ def say_published(given, dropped, winners):
     say(f'dropped from VOTES: {", ".join(dropped) or "nothing"}')
     say('the rows of VOTES are in an order drawn at random')
     if given.journal != os.devnull:
-        say('the rows of the journal are in their order: it tells in which order, and by which clerk, requests came')
+        say('the rows of the journal are in their order: it tells in which order, and by which clerk, '
+            'requests came')
     say(f'pb_app gives the same report of both, with {len(winners)} winners')
 
 
@@ -293,8 +296,9 @@ def give_name(beside, path):
 
 
 def write_all(texts, see=None):
-    """Makes these new files, all or none of them: each gets its name when all are whole and on the disk. Before, `see` looks
-    at them, if it is given, under the names that they have until then; it may refuse them. Its answer is the answer.
+    """Makes these new files, all or none of them: each gets its name when all are whole and on the disk.
+    Before that `see`, if there is one, looks at them under the names that they have until then, and may refuse
+    them. Its answer is the answer.
     """
     beside, made, path = {}, [], None
     try:
@@ -350,20 +354,23 @@ def given_arguments():
     parser.add_argument('file', metavar='FILE', help="the election's .pb file")
     parser.add_argument('journal', metavar='JOURNAL', help="the desk's journal; /dev/null, where there is none")
     parser.add_argument('new_file', metavar='NEW_FILE', help='the file that is made, with new ids')
-    parser.add_argument('new_journal', metavar='NEW_JOURNAL', help='the journal that is made, with the same new ids; /dev/null, where there is none')
+    parser.add_argument('new_journal', metavar='NEW_JOURNAL',
+                        help='the journal that is made, with the same new ids; /dev/null, where there is '
+                             'none')
     parser.add_argument('--keep', metavar='NAME', action='append', default=[],
                         help="a key or a column whose texts are kept, also those that happen to be some voter's id")
     parser.add_argument('--publish', action='store_true',
-                        help='writes files for everybody: only ids and votes in VOTES, its rows in a random order')
+                        help='writes files for everybody: only ids and votes in VOTES, in a random order')
     take = parser.add_argument_group('with --publish').add_argument
-    take('--program', metavar='PROGRAM', help='the program that counts; pb_app beside this tool or on the PATH, if '
-         'none is named')
+    take('--program', metavar='PROGRAM',
+         help='the program that counts; pb_app beside this tool or on the PATH, if none is named')
     for rule in RULE:
         take(f'--{rule}', metavar=rule.upper(), help='as with `pb_app count`')
     take('--plain', action='store_true', help='as with `pb_app count`')
     take('--other-file', action='store_true', help='as with `pb_app audit`')
     given = parser.parse_args()
-    if not given.publish and any([given.program, given.plain, given.other_file, *(getattr(given, it) for it in RULE)]):
+    of_count = [given.program, given.plain, given.other_file, *(getattr(given, rule) for rule in RULE)]
+    if not given.publish and any(of_count):
         parser.error('options of the count go with --publish')
     return given
 
