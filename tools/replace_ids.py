@@ -248,7 +248,7 @@ def say_published(given, dropped, winners):
     if given.journal != os.devnull:
         say('the rows of the journal are in their order: it tells in which order, and by which clerk, '
             'requests came')
-    say(f'pb_app gives the same report of both, with {len(winners)} winners')
+    say(f'pb_app gives the same report of both; winners: {len(winners)}')
 
 
 def text_of(rows):
