@@ -1,7 +1,7 @@
 """The arguments of the tools: `--help` says what a tool does and takes; what it does not take is refused in one line, with
 status 2.
 """
-import argparse, os, pathlib
+import argparse, os, pathlib, sys
 
 TOP = pathlib.Path(__file__).resolve().parent.parent
 BUILT = TOP / 'crates' / 'pb_app' / 'out' / 'pb_app'
@@ -11,7 +11,10 @@ class Parser(argparse.ArgumentParser):
     """Reads a tool's arguments. The help begins with the first paragraph at the head of the tool's file."""
 
     def __init__(self, tool, head, more=None):
-        super().__init__(prog=f'tools/{tool}', description=head.split('\n\n')[0], epilog=more, allow_abbrev=False)
+        # The package gives a tool another name.
+        called = os.path.basename(sys.argv[0])
+        prog = called if called.startswith('pb_') else f'tools/{tool}'
+        super().__init__(prog=prog, description=head.split('\n\n')[0], epilog=more, allow_abbrev=False)
 
     def error(self, said):
         self.exit(2, f'{self.prog}: {said}; `{self.prog} --help` says what it takes\n')

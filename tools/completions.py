@@ -7,6 +7,8 @@ Command = collections.namedtuple('Command', 'name about options takes_files')
 Option = collections.namedtuple('Option', 'short long value choices about')
 
 OPTION = re.compile(r'^ +(?:(-\w), )? *(--[\w-]+)(?: <(\w+)>)?  +(.*)$')
+# The values that are names of files; that of --recount is one, or an address.
+FILES = ('PATH', 'FILE', 'JOURNAL', 'ROLL', 'WORDS', 'URL')
 CHOICES = re.compile(r' \[possible values: ([^]]+)\]')
 
 
@@ -48,7 +50,7 @@ def for_bash(program, commands):
             if option.choices:
                 choices = shlex.quote(' '.join(option.choices))
                 lines.append(f'        {names}) COMPREPLY=($(compgen -W {choices} -- "$word")); return ;;')
-            elif option.value not in (None, 'PATH', 'FILE'):
+            elif option.value not in (None, *FILES):
                 lines.append(f'        {names}) return ;;')
     lines += ['    esac', '    local words', '    case $command in']
     for command in others:
@@ -57,7 +59,8 @@ def for_bash(program, commands):
     names = [it.name for it in others] + ['help'] + [option.long for option in whole.options]
     lines += [f'        *) words={shlex.quote(" ".join(names))} ;;', '    esac',
               '    if [[ $word == -* || $COMP_CWORD -eq 1 ]]; then', '        COMPREPLY=($(compgen -W "$words" -- "$word"))',
-              '    else', '        compopt -o filenames', '        COMPREPLY=($(compgen -f -- "$word"))', '    fi', '}',
+              '    else', "        local IFS=$'\\n'", '        compopt -o filenames',
+              '        COMPREPLY=($(compgen -f -- "$word"))', '    fi', '}',
               f'complete -F _{program} {program}']
     return '\n'.join(lines) + '\n'
 
@@ -71,7 +74,7 @@ def for_zsh(program, commands):
     def shown(option):
         names = f"'({option.short} {option.long})'{{{option.short},{option.long}}}'" if option.short else f"'{option.long}"
         value = f':{option.value}:' if option.value else ''
-        files = '_files' if option.value in ('PATH', 'FILE') else ''
+        files = '_files' if option.value in FILES else ''
         value += f'({" ".join(option.choices)})' if option.choices else files
         return f"{names}[{escaped(option.about)}]{value}'"
 
@@ -100,7 +103,7 @@ def for_fish(program, commands):
         words += ['-s', option.short[1:]] if option.short else []
         words += ['-x', '-a', quoted(' '.join(option.choices))] if option.choices else []
         if option.value and not option.choices:
-            words += ['-r', '-F'] if option.value in ('PATH', 'FILE') else ['-x']
+            words += ['-r', '-F'] if option.value in FILES else ['-x']
         return ' '.join([*words, '-d', quoted(option.about)])
 
     lines = [f'# Completion of {program} for fish.']
