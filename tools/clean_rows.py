@@ -1,5 +1,5 @@
 """How tools/pb_clean mends the rows of an election: by itself, by an option, and what it refuses."""
-import collections, fractions, itertools, re
+import collections, fractions, itertools, re, unicodedata
 
 ORDER = ['meta', 'projects', 'votes']
 # White space as docs/formats.md has it, and what nobody sees besides: controls, formats, fillers.
@@ -10,7 +10,7 @@ EDGES = WHITE + ''.join(map(chr, [*range(0x20), *range(0x7F, 0xA0), 0xAD, 0x34F,
                                   *range(0x2060, 0x2070), 0x3164, 0xFEFF, 0xFFA0, *range(0xFE00, 0xFE10),
                                   *range(0xFFF9, 0xFFFC), *range(0xE0000, 0xE0080)]))
 QUOTES = '\'"`´‘’‚‛“”„‟«»‹›'
-BRACKETS = {'[': ']', '(': ')', '{': '}'}
+BRACKETS = [('[', ']'), ('(', ')'), ('{', '}'), ('c(', ')')]      # `c(..)` is R's
 # Groups of thousands by one mark: the mark, further groups, the mark of decimals. Then by spaces or apostroph
 GROUPS = re.compile(r'[1-9][0-9]{0,2}([.,])[0-9]{3}((?:\1[0-9]{3})*)(?:(?!\1)([.,])[0-9]+)?')
 SPACES = ' \u00a0\u2009\u202f\'’'
@@ -21,7 +21,15 @@ SHORTENED = re.compile(r'[0-9]+(?:[.,][0-9]+)?E\+[0-9]+', re.I)
 CELL_DATE = re.compile(r'[0-9]{4}-[0-9]{2}-[0-9]{2}T[0-9:.]+|[0-9]{2}:[0-9]{2}:[0-9]{2}(?:\.[0-9]+)?')
 DATE = re.compile(r'[0-9]{1,4}[-./][0-9]{1,2}[-./][0-9]{1,4}|[0-9]{1,2}[-. ]+[A-Za-z]{3,9}\.?|'
                   r'[A-Za-z]{3,9}[-. ]+[0-9]{1,4}')
-POINTS = {'points', 'point', 'score', 'scores', 'rank', 'ranks', 'ranking', 'weight', 'weights'}
+MONTH = re.compile(r'[0-9]{1,2}[-. ]+[A-Za-z]{3}\.?|[A-Za-z]{3}[-. ]+[0-9]{1,4}|[0-9]{4}-[0-9]{2}-[0-9]{2}|'
+                   r'[0-9]{1,2}[./][0-9]{1,2}[./][0-9]{4}')
+POINTS = {'points', 'point', 'score', 'scores', 'rank', 'ranks', 'ranking', 'weight', 'weights',
+          'votes', 'count'}
+# Columns that say which rows count, which no count reads.
+STATES = {'valid', 'invalid', 'is_valid', 'accepted', 'status', 'state', 'withdrawn', 'cancelled', 'deleted'}
+LAST = ('only the last rows name it, and no project: if they are totals or notes, delete them; if the project was '
+        'withdrawn, take its id out of them')
+NO_VOTE = 'no vote names a project: PROJECTS may be of another election, or its ids were changed'
 # What programs write where there is no value.
 NOTHING = {'nan', 'none', 'null', 'nil', 'na', 'n/a', '-', '\\n'}
 # What changes are called. Those that an option decided come first.
@@ -31,7 +39,7 @@ UNSEEN, GROUPED = "characters that can't be seen", 'groups of thousands'
 DUST, JOINED = 'float dust', 'rows joined'
 KNOWN = {*DECIDED, UNSEEN, GROUPED, DUST, JOINED, 'encoding', 'separator', 'spaces before quotation marks',
          'workbook', 'row added', 'empty row', 'text above META', 'text above the columns',
-         'heading of rows to join', 'brackets', 'quotation marks', 'bars', 'point and zero'}
+         'heading of rows to join', 'column names again', 'brackets', 'quotation marks', 'bars', 'point and zero'}
 # What to do about a fault that is left, by its name.
 REMEDIES = {
     'NoSection': 'a section is missing, or the file does not begin with META',
@@ -109,9 +117,9 @@ class Cleaner:
         self.log, self.first = collections.defaultdict(list), {}
         self.added, self.refusals, self.unknown = {}, [], collections.defaultdict(list)
         # Rows that are told in the summary: joined ones that differ, column names that are there twice.
-        self.differ, self.twice = [], []
+        self.differ, self.twice, self.states = [], [], []
         # Of each section: its rows, what LOG calls its fields, its columns. Of META: the rows of needed keys.
-        self.places, self.labels, self.columns, self.meta = {}, {}, {}, {}
+        self.places, self.labels, self.names, self.columns, self.meta = {}, {}, {}, {}, {}
         self.is_long, self.voters = False, set()
 
     def refuse(self, at, words):
@@ -160,9 +168,16 @@ class Cleaner:
                 self.edit_unseen(at, 0)
         if list(heads) != ORDER:
             lost = ', '.join(it.upper() for it in ORDER if it not in heads)
-            words = f'the file has no heading {lost} on a row of its own'
-            words = words if lost else REMEDIES['SectionOrder']
-            return self.refuse(max(heads.values(), default=0), words)
+            words = f'the file has no heading {lost} on a row of its own' if lost else ''
+            open_at = next((at for at, row in enumerate(self.rows) for it in row or ()
+                            if '\n' in it and re.search('^(PROJECTS|VOTES)\\b', it, re.M)), None)
+            if open_at is not None:
+                return self.refuse(open_at, f'{words}: here a quotation mark is not closed, or is too many')
+            return self.refuse(max(heads.values(), default=0),
+                               '; '.join(filter(None, [words, REMEDIES['SectionOrder']])))
+        for at in range(heads['votes'] + 1, len(self.rows)):
+            if self.rows[at] and seen(self.rows[at][0]).lower() in ORDER and not any(self.rows[at][1:]):
+                return self.refuse(at, 'another election begins here: make a file of each')
         for at in range(heads['meta']):
             if self.rows[at] and seen(self.rows[at][0]).lower() in ('budget', 'vote_type', 'max_length'):
                 self.refuse(at, 'a row of META stands above META: move it below')
@@ -184,12 +199,21 @@ class Cleaner:
             head = next((at for at in range(begin, end) if self.rows[at]
                          and is_columns(self.rows[at], section)), None)
             if head is None and begin < end:
-                return self.refuse(begin, REMEDIES['MissingColumn'])
+                return self.refuse(begin, self.no_columns(section, begin))
             for at in range(begin, head or begin):
                 if self.rows[at]:
                     self.drop(at, 'text above the columns')
             self.places[section] = range((begin if head is None else head) + 1, end)
         return True
+
+    def no_columns(self, section, at):
+        """What is said where the row of column names has not the needed ones."""
+        names = [seen(it) for it in re.split('[;,\t]', ';'.join(self.rows[at] or []))]
+        ids = {seen(row[0]) for _, row in self.rows_of('projects')}
+        if section == 'votes' and len(ids.intersection(names)) > 1:
+            return 'it has a column for each project: make one column vote of them, with `,` between the ids ' \
+                   'that a voter approves'
+        return f'{REMEDIES["MissingColumn"]}; what is found is {shown(", ".join(filter(None, names)))}'
 
     def clean_columns(self):
         """Mends the names of columns, and of META the keys, and the values that a count needs."""
@@ -199,13 +223,18 @@ class Cleaner:
             for column in range(len(row)):
                 self.edit_unseen(at, column)
             names = [trimmed(it).lower() for it in row]
+            if section != 'meta' and row and not is_columns(row, section):
+                self.refuse(at, self.no_columns(section, at))
+            for again, other in self.rows_of(section) if names else ():
+                if seen(other[0]).lower() == names[0] and [seen(it).lower() for it in other] == names:
+                    self.drop(again, 'column names again')
             if section == 'votes' and 'vote' not in names and names.count('project_id') == 1:
                 self.is_long = True
                 self.edit(at, names.index('project_id'), 'heading of rows to join', 'vote')
                 names[names.index('project_id')] = 'vote'
             if any(names.count(it) > 1 for it in ('project_id', 'cost', 'voter_id', 'vote')):
                 self.twice.append(at)
-            self.labels[section] = labels_of(row)
+            self.labels[section], self.names[section] = labels_of(row), names
             self.columns[section] = {it: names.index(it) for it in names}
         for at, row in self.rows_of('meta'):
             self.edit_unseen(at, 0)
@@ -215,7 +244,7 @@ class Cleaner:
                     self.edit_unseen(at, 1)
 
     def judge_fields(self):
-        """Refuses values that another separator cut, and points and ranks."""
+        """Refuses values that another separator cut, ids behind the vote, points and ranks."""
         for section in ('projects', 'votes') if self.is_cut else ():
             for at, row in self.rows_of(section):
                 if any(map(seen, row[len(self.labels[section]):])):
@@ -225,11 +254,16 @@ class Cleaner:
             if any(map(seen, self.rows[at][2:])):
                 self.refuse(at, 'the value has the separator in it: put quotation marks around it, or leave '
                             'the mark out')
+        for section, columns in self.columns.items():
+            for name, column in columns.items():
+                values = {it[column]: at for at, it in self.rows_of(section) if column < len(it)} \
+                    if name in STATES else {}
+                self.states += [min(values.values())] if len(values) > 1 else []
         for column in [it for name, it in self.columns.get('votes', {}).items() if name in POINTS]:
             said = [at for at, row in self.rows_of('votes') if len(row) > column
                     and seen(row[column]) not in ('', '1')]
             if said:
-                self.refuse(said[0], 'the votes have points or ranks, which are no approvals: they can not '
+                self.refuse(said[0], 'the votes have points or ranks, or numbers of votes, which are no approvals: they can not '
                             'be counted')
 
     # Amounts
@@ -331,18 +365,32 @@ class Cleaner:
 
     @staticmethod
     def plain(project):
-        """The id without what gets changed: case, white space, zeros at its front, `.0` at its end."""
-        return re.sub(r'\.0$', '', re.sub(r'\s', '', project).casefold()).lstrip('0') or '0'
+        """The id without what gets changed: case, white space, dashes, marks at its ends, zeros, `.0`."""
+        text = re.sub('[\u00ad\u2010-\u2015\u2212]', '-', unicodedata.normalize('NFKC', project)).casefold()
+        text = re.sub(r'\s|^[\W_]+|[\W_]+$', '', text)
+        return re.sub(r'\.0$', '', text).lstrip('0') or '0'
 
     # Votes
     def clean_votes(self):
         """Mends each vote, and joins or chooses among the rows of a voter."""
         voter, vote = (self.columns['votes'].get(it, 1 << 30) if 'votes' in self.columns else 0
                        for it in ('voter_id', 'vote'))
+        names = self.names.get('votes', [])
+        self.tail, self.last = len(self.rows), NO_VOTE
+        for at, row in ((at, self.rows[at]) for at in reversed(self.places['votes'])):
+            pieces = self.pieces_of(row[vote])[0] if row and vote < len(row) else []
+            if any(it in self.ids for it in pieces):
+                self.last = LAST
+                break
+            self.tail = at
         is_single, rows, good, joined = self.is_single_choice(), {}, {'': None}, {}
         for at, row in self.rows_of('votes'):
             if max(voter, vote) >= len(row):
                 continue
+            if len(row) > vote + 1 and not self.is_cut and any(seen(row[it]) in self.ids for it in range(vote + 1, len(row))
+                                           if names[it:it + 1] in ([], [''], ['vote'])):
+                self.refuse(at, 'an id is behind the vote, where it is not counted: write the ids of a vote into '
+                            'one field, with `,` between')
             name = row[voter].strip(EDGES)
             if name != row[voter]:
                 self.edit_unseen(at, voter, 'votes')
@@ -399,22 +447,26 @@ class Cleaner:
             return pieces, []
         body, pieces = seen(text), []
         kinds = {UNSEEN: 1} if body != trimmed(text) else {}
-        ends = body[:1], body[-1:]
-        if BRACKETS.get(ends[0]) == ends[1] and self.is_free[ends[0]] and self.is_free[ends[1]]:
-            body, kinds['brackets'] = body[1:-1], 1
+        for begin, end in BRACKETS:
+            if body.startswith(begin) and body.endswith(end) and self.is_free[begin[-1]] and self.is_free[end]:
+                body, kinds['brackets'] = body[len(begin):-1], 1
         if '|' in body and self.is_free['|']:
             body, kinds['bars'] = body.replace('|', ','), 1
         for piece in map(trimmed, body.split(',')):
             if piece not in self.ids and seen(piece) != piece:
                 piece, kinds[UNSEEN] = seen(piece), 1
-            if piece and piece not in self.ids and all(it in QUOTES and self.is_free[it]
-                                                       for it in (piece[0], piece[-1])):
+            if piece and piece not in self.ids and self.is_quoted(piece):
                 piece, kinds['quotation marks'] = seen(piece.strip(QUOTES)), 1
             is_float = re.fullmatch(r'[0-9]+\.0', piece) and piece[:-2] in self.ids and '0' not in self.ids
             if is_float and piece not in self.ids:
                 piece, kinds['point and zero'] = piece[:-2], 1
             pieces += [piece] if piece else []
         return pieces, list(kinds)
+
+    def is_quoted(self, piece):
+        """Whether a piece has quotation marks at both ends, or at one of an id: they can be the whole vote's."""
+        ends = [it in QUOTES and self.is_free[it] for it in (piece[0], piece[-1])]
+        return all(ends) or any(ends) and seen(piece.strip(QUOTES)) in self.ids
 
     def clean_vote(self, at, column, good):
         """Mends a vote. `good` gets what a vote needs that names projects alone."""
@@ -431,7 +483,8 @@ class Cleaner:
         for piece in unknown:
             cause = self.causes.get(piece)
             if cause is None:
-                cause = self.causes[piece] = self.cause_of(piece)
+                is_note = at >= self.tail and piece.lower() not in NOTHING
+                cause = self.causes[piece] = self.cause_of(piece) or (self.last if is_note else '')
             if cause or not self.given.drop_unknown:
                 self.unknown[piece, cause].append(at)
         kept = [it for it in pieces if it not in self.zero]
@@ -446,9 +499,12 @@ class Cleaner:
         has_known = any(it in self.ids for it in parts)
         length = next(iter(self.lengths)) if len(self.lengths) == 1 else 3
         cut = [piece[it:it + length] for it in range(0, len(piece), length)]
-        like = self.alike.get(self.plain(piece))
+        like, lines = self.alike.get(self.plain(piece)), [*map(seen, piece.splitlines())]
+        dated = next((it for it in self.ids if MONTH.fullmatch(it)), '')
         causes = [
             (not self.ids, 'PROJECTS has no projects: get its rows first'),
+            (len(lines) > 1 and all(it in self.ids for it in lines), 'its ids are on lines of their own: write `,` '
+             'between them'),
             (re.search('[\r\n]', piece), 'it goes over several lines: a quotation mark is not closed, or is '
              'too many'),
             (SHORTENED.fullmatch(piece), 'a spreadsheet shortened it: get the ids again, as text'),
@@ -457,12 +513,13 @@ class Cleaner:
             (re.fullmatch('[0-9]+[.][0-9]+', piece) and has_known,
              'a spreadsheet read ids with a comma as one number, so ids are lost: get the votes again, as '
              'text'),
-            (like, f'the project {shown(like or "")} differs only by case, zeros, a point or white space: '
-             'correct one of both'),
+            (like, f'the project {shown(like or "")} differs only by case, zeros, marks, white space or how its '
+             'letters are coded: correct one of both'),
             (len(parts) > 1 and has_known, 'it has the id of a project and more: write `,` between ids, and '
              'nothing else; points and ranks are no approvals'),
             (length > 1 and len(cut) > 1 and piece.isdigit() and all(it in self.ids for it in cut),
              'it is made of ids whose commas are lost: get the votes again, as text'),
+            (dated, f'a spreadsheet made a date of an id of PROJECTS, {shown(dated)}: get the ids again, as text'),
             (piece in self.called, f'it is the name of the project {shown(self.called.get(piece, ""))}: '
              'write its id')]
         return next((words for holds, words in causes if holds), '')
