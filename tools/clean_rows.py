@@ -27,7 +27,7 @@ MADE_DATE = re.compile(r'[0-9]{1,2}[-. ]+[A-Za-z]{3}\.?|[A-Za-z]{3}[-. ]+[0-9]{1
 POINTS = {*'points point score scores rank ranks ranking weight weights votes count'.split()}
 STATES = {*'valid invalid is_valid accepted status state withdrawn cancelled deleted'.split()}
 # What programs write where there is no value.
-NOTHING = {'nan', 'none', 'null', 'nil', 'na', 'n/a', '-', '\\n'}
+NOTHING = {*'nan none null nil na n/a - 0 \\n'.split()}
 # What changes are called. Those that an option decided come first.
 DECIDED = ['--encoding', '--drop-unknown', '--drop-zero-cost', '--round', '--repeated-voters',
            '--single-choice', '--marks']
