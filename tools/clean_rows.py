@@ -44,17 +44,14 @@ REMEDIES = {
     'NoHeader': "the row of column names below the section's heading is missing",
     'MissingColumn': 'PROJECTS needs the columns project_id and cost; VOTES needs voter_id and vote, or '
                      'voter_id and project_id with a row for each vote',
-    'MissingField': 'the row ends before a needed column: complete it, or delete it if it is a total or a '
-                    'note',
+    'MissingField': 'the row is too short: complete it, or delete it if it is a total or a note',
     'MissingKey': 'META needs budget;AMOUNT and vote_type;approval',
-    'VoteType': 'only approval ballots can be counted; if each voter picks one project (choose-1), name '
-                '`--single-choice`',
+    'VoteType': 'only approval ballots are counted; if each voter picks one project, name `--single-choice`',
     'BadMoney': 'an amount is digits, with at most one point or comma: no currency, no minus, no letters',
     'MoneyTooFine': 'more than two decimals: if that is meant, name `--round half-up`, `down` or `up`',
     'MoneyTooLarge': 'the amount has too many digits',
-    'ZeroCost': 'the project costs 0: write its cost, or name `--drop-zero-cost`, which drops it and the '
-                'votes for it',
-    'EmptyId': 'the id is empty: fill it in, or delete the row if it is a total or a note',
+    'ZeroCost': 'the project costs 0: write its cost, or drop it and the votes for it by `--drop-zero-cost`',
+    'EmptyId': 'the id is empty: fill it in; if the row is a total or a note, delete it',
     'RepeatedProject': 'an earlier row has the same project id: give one of the two projects another id',
     'RepeatedVoter': 'an earlier row has the same voter id. If the rows are one ballot, name '
                      '`--repeated-voters merge`; if they are different people, `distinct`; if only the first '
@@ -283,14 +280,15 @@ class Cleaner:
         places = [(self.meta['budget'], 1)] if 'budget' in self.meta else []
         places = [it for it in places + [(row, cost) for row in self.rows_of('projects')]
                   if it[1] < len(it[0].fields)]
-        for row, column in places:      # what the marks are that an amount has
+        for row, column in places:      # what each mark is, where an amount shows it
             row.edit_unseen(column)
             text = trimmed(row.fields[column])
             groups, decimals = GROUPS.fullmatch(text), DECIMALS.fullmatch(text)
+            mark = groups[3] if groups else decimals and decimals[1]
+            if mark:
+                shows.setdefault((mark, 'decimals'), row)
             if groups and (groups[2] or groups[3]):
                 shows.setdefault((groups[1], 'thousands'), row)
-            if (decimals and not groups) or (groups and groups[3]):
-                shows.setdefault((groups[3] if groups else decimals[1], 'decimals'), row)
         for mark in '.,':
             both = [shows[it] for it in [(mark, 'thousands'), (mark, 'decimals')] if it in shows]
             if len(both) == 2:
