@@ -19,12 +19,14 @@ DECIMALS = re.compile(f'[0-9{SPACES}]*[0-9]([.,])[0-9]+')
 SHORTENED = re.compile(r'[0-9]+(?:[.,][0-9]+)?E\+[0-9]+', re.I)
 # A date as a workbook's cell has it; as a spreadsheet writes it; as an id that can hardly be anything else.
 CELL_DATE = re.compile(r'[0-9]{4}-[0-9]{2}-[0-9]{2}T[0-9:.]+|[0-9]{2}:[0-9]{2}:[0-9]{2}(?:\.[0-9]+)?')
-DATE = re.compile(r'[0-9]{1,4}[-./][0-9]{1,2}[-./][0-9]{1,4}|[0-9]{1,2}[-. ]+[A-Za-z]{3,9}\.?|'
-                  r'[A-Za-z]{3,9}[-. ]+[0-9]{1,4}')
-MADE_DATE = re.compile(r'[0-9]{1,2}[-. ]+[A-Za-z]{3}\.?|[A-Za-z]{3}[-. ]+[0-9]{1,4}|'
-                       r'[0-9]{4}-[0-9]{2}-[0-9]{2}|[0-9]{1,2}[./][0-9]{1,2}[./][0-9]{4}')
+MONTH = '(?:jan|feb|f[eé]v|mar|mär|apr|avr|abr|ma[ijy]|jun|jui|jul|aug|ao[uû]|ago|sep|set|o[ck]t|ott|out|nov|' \
+        'de[cz]|dic|sty|lut|kwi|cze|lip|sie|wrz|paź|lis|gru)[^\\W\\d_]{0,7}'
+NAMED_DATE = rf'[0-9]{{1,2}}[-. ]+{MONTH}\.?(?:[-. ]+[0-9]{{2,4}})?|{MONTH}[-. ]+[0-9]{{1,4}}'
+DATE = re.compile(rf'[0-9]{{1,4}}[-./][0-9]{{1,2}}[-./][0-9]{{1,4}}|{NAMED_DATE}', re.I)
+MADE_DATE = re.compile(r'[0-9]{4}-[0-9]{2}-[0-9]{2}|[0-9]{1,2}[./][0-9]{1,2}[./][0-9]{4}|' + NAMED_DATE, re.I)
 # Columns whose votes are no approvals, and columns that say which rows count, which no count reads.
 POINTS = {*'points point score scores rank ranks ranking weight weights votes count'.split()}
+IDS = {'vote', 'project_id'}
 STATES = {*'valid invalid is_valid accepted status state withdrawn cancelled deleted'.split()}
 # What programs write where there is no value.
 NOTHING = {*'nan none null nil na n/a - 0 \\n'.split()}
@@ -220,6 +222,9 @@ class Cleaner:
                     row.drop('column names again')
             if section == 'votes' and 'vote' not in names and names.count('project_id') == 1:
                 self.is_long = True
+                if self.given.repeated_voters not in (None, 'merge'):
+                    self.refuse(head, 'the rows have one project each, and become one ballot: leave '
+                                '`--repeated-voters` out')
                 head.edit(names.index('project_id'), 'heading of rows to join', 'vote')
                 names[names.index('project_id')] = 'vote'
             if any(names.count(it) > 1 for it in ('project_id', 'cost', 'voter_id', 'vote')):
@@ -251,9 +256,9 @@ class Cleaner:
                             'the mark out')
         for section in ORDER[1:]:
             names, rows = self.names[section], self.rows_of(section)
-            # Behind the vote, columns without a name or of the same name hold no ids.
+            # Beside the vote, columns without a name, or named as those of votes are, hold no ids.
             vote = self.column(section, 'vote')
-            bare = [at for at, it in enumerate(names) if it in ('', 'vote') and at > vote]
+            bare = [at for at, it in enumerate(names) if at > vote and not it or at != vote and it in IDS]
             for row in rows if bare or any(len(it.fields) > len(names) for it in rows) else ():
                 more = [*map(seen, row.fields[len(names):])]
                 if self.is_cut and any(more):
@@ -261,8 +266,8 @@ class Cleaner:
                                 'marks around the field that has the separator in it')
                 more += [seen(it) for at, it in enumerate(row.fields) if at in bare]
                 if not self.is_cut and section == 'votes' and any(it in self.ids for it in more):
-                    self.refuse(row, 'an id is behind the vote, where it is not counted: write the ids of a '
-                                'vote into one field, with `,` between')
+                    self.refuse(row, 'an id is behind the vote, or beside it, where it is not counted: write '
+                                'the ids of a vote into one field, with `,` between')
             for at, name in enumerate(names):
                 values = {row.fields[at]: row for row in reversed(rows) if at < len(row.fields)} \
                     if name in POINTS | STATES else {}
@@ -351,7 +356,8 @@ class Cleaner:
                 row.drop('--drop-zero-cost')
                 continue
             self.ids.setdefault(project, row)
-            self.called[trimmed(row.fields[name]) if name < len(row.fields) else ''] = project
+            called = row.fields[name] if name < len(row.fields) else ''
+            self.called |= {self.plain(it): project for it in [*called.split(','), called] if seen(it)}
         self.zero -= {*self.ids}
         # A character that an id has separates nothing in votes.
         self.is_free = {it: not any(it in project for project in self.ids) for it in '|[](){}' + QUOTES}
@@ -394,6 +400,9 @@ class Cleaner:
             first = firsts.setdefault(name, row)
             if name and first is not row:
                 self.repeat(row, name, (voter, vote), firsts, joined)
+        cases = collections.Counter(map(str.casefold, firsts))
+        self.notes['ids of voters differ from another only by case'] += [
+            row for name, row in firsts.items() if cases[name.casefold()] > 1] if len(cases) < len(firsts) else []
         for row, pieces in joined.items():
             after = ','.join(dict.fromkeys(it for it in pieces if it))
             if after != trimmed(row.fields[vote]):
@@ -497,7 +506,7 @@ class Cleaner:
         has_known = any(it in self.ids for it in parts)
         length = next(iter(self.lengths)) if len(self.lengths) == 1 else 3
         cut = [piece[it:it + length] for it in range(0, len(piece), length)]
-        like = self.alike.get(self.plain(piece))
+        like, called = self.alike.get(self.plain(piece), ''), self.called.get(self.plain(piece), '')
         is_date, again = CELL_DATE.fullmatch(piece) or DATE.fullmatch(piece), 'get the votes again, as text'
         causes = [
             (not self.ids, 'PROJECTS has no projects: get its rows first'),
@@ -508,15 +517,14 @@ class Cleaner:
             (is_date, f'a spreadsheet made a date of it: {again}'),
             (re.fullmatch('[0-9]+[.][0-9]+', piece) and has_known,
              f'a spreadsheet read ids with a comma as one number, so ids are lost: {again}'),
-            (like, f'the project {shown(like or "")} differs only by case, zeros, marks, white space or how '
+            (like, f'the project {shown(like)} differs only by case, zeros, marks, white space or how '
              'its letters are coded: correct one of both'),
             (len(parts) > 1 and has_known, 'it has the id of a project and more: write `,` between ids, and '
              'nothing else; points and ranks are no approvals'),
             (length > 1 and len(cut) > 1 and piece.isdigit() and all(it in self.ids for it in cut),
              f'it is made of ids whose commas are lost: {again}'),
             (self.dated, f'a spreadsheet made a date of the id {shown(self.dated)}: get PROJECTS again'),
-            (piece in self.called,
-             f'it is the name of the project {shown(self.called.get(piece, ""))}: write its id')]
+            (called, f'it is the name of the project {shown(called)}, or a part of it: write its id')]
         return next((words for holds, words in causes if holds), '')
 
     def say_unknown(self):
