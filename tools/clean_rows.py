@@ -238,6 +238,11 @@ class Cleaner:
                 self.meta[trimmed(row.fields[0]).lower()] = row
                 if len(row.fields) > 1:
                     row.edit_unseen(1)
+        row = self.meta.get('vote_type')
+        is_one = row and trimmed(''.join(row.fields[1:2])).lower() in ('choose-1', 'choose1')
+        self.is_single = self.given.single_choice and is_one
+        if self.is_single:
+            row.edit(1, '--single-choice', 'approval')
 
     def no_columns(self, section, head):
         """What is said where the row of column names has not the needed ones."""
@@ -382,8 +387,11 @@ class Cleaner:
         """Mends each vote, and joins or chooses among the rows of a voter."""
         voter, vote = self.column('votes', 'voter_id'), self.column('votes', 'vote')
         rows = [row for row in self.rows_of('votes') if max(voter, vote) < len(row.fields)]
-        is_single, firsts, good, joined = self.is_single_choice(), {}, {'': None}, {}
-        self.find_tail(rows, vote)
+        firsts, good, joined = {}, {'': None}, {}
+        # The last rows, of which none names a project: they may be totals and notes.
+        tail = [*itertools.takewhile(
+            lambda row: self.ids.keys().isdisjoint(self.pieces_of(row.fields[vote])[0]), reversed(rows))]
+        self.tail, self.tail_words = {*tail}, TAIL if len(tail) < len(rows) else NO_VOTE
         for row in rows:
             fields = row.fields
             name = seen(fields[voter])
@@ -393,7 +401,7 @@ class Cleaner:
                 self.clean_vote(row, vote, good)
             elif good[fields[vote]]:
                 row.edit(vote, *good[fields[vote]])
-            if is_single and len({*map(trimmed, fields[vote].split(','))}) > 1:
+            if self.is_single and len({*map(trimmed, fields[vote].split(','))}) > 1:
                 self.refuse(row, 'the vote names several projects, so the file is not choose-1')
             if '+' in name or ':' in name:
                 self.judge_id(row, name)
@@ -407,22 +415,6 @@ class Cleaner:
             after = ','.join(dict.fromkeys(it for it in pieces if it))
             if after != trimmed(row.fields[vote]):
                 row.edit(vote, JOINED if self.is_long else '--repeated-voters', after)
-
-    def find_tail(self, rows, vote):
-        """The last rows, of which none names a project: they may be totals and notes."""
-        self.tail, self.tail_words = set(), NO_VOTE
-        for row in reversed(rows):
-            if any(it in self.ids for it in self.pieces_of(row.fields[vote])[0]):
-                self.tail_words = TAIL
-                break
-            self.tail.add(row)
-
-    def is_single_choice(self):
-        row = self.meta.get('vote_type')
-        is_one = row and trimmed(''.join(row.fields[1:2])).lower() in ('choose-1', 'choose1')
-        if self.given.single_choice and is_one:
-            row.edit(1, '--single-choice', 'approval')
-        return self.given.single_choice and is_one
 
     def repeat(self, row, name, columns, firsts, joined):
         """A further row of a voter."""
