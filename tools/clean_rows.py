@@ -409,8 +409,9 @@ class Cleaner:
             if name and first is not row:
                 self.repeat(row, name, (voter, vote), firsts, joined)
         cases = collections.Counter(map(str.casefold, firsts))
-        self.notes['ids of voters differ from another only by case'] += [
-            row for name, row in firsts.items() if cases[name.casefold()] > 1] if len(cases) < len(firsts) else []
+        if len(cases) < len(firsts):
+            self.notes['ids of voters differ from another only by case'] += [
+                row for name, row in firsts.items() if cases[name.casefold()] > 1]
         for row, pieces in joined.items():
             after = ','.join(dict.fromkeys(it for it in pieces if it))
             if after != trimmed(row.fields[vote]):
