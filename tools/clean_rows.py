@@ -1,29 +1,35 @@
 """How tools/pb_clean mends the rows of an election: by itself, by an option, and what it refuses."""
-import collections, fractions, itertools, re
+import collections, fractions, itertools, re, unicodedata
 
 ORDER = ['meta', 'projects', 'votes']
 # White space as docs/formats.md has it, and what nobody sees besides: controls, formats, fillers.
 WHITE = ''.join(map(chr, [*range(0x9, 0xE), 0x20, 0x85, 0xA0, 0x1680, *range(0x2000, 0x200B), 0x2028, 0x2029,
                           0x202F, 0x205F, 0x3000]))
-EDGES = WHITE + ''.join(map(chr, [*range(0x20), *range(0x7F, 0xA0), 0xAD, 0x34F, 0x61C, 0x115F, 0x1160,
-                                  0x180E, *range(0x200B, 0x2010), *range(0x202A, 0x202F),
-                                  *range(0x2060, 0x2070), 0x3164, 0xFEFF, 0xFFA0, *range(0xFE00, 0xFE10),
-                                  *range(0xFFF9, 0xFFFC), *range(0xE0000, 0xE0080)]))
+EDGES = WHITE + ''.join(map(chr, [
+    *range(0x20), *range(0x7F, 0xA0), 0xAD, 0x34F, 0x61C, 0x115F, 0x1160, 0x180E, *range(0x200B, 0x2010),
+    *range(0x202A, 0x202F), *range(0x2060, 0x2070), 0x3164, 0xFEFF, 0xFFA0, *range(0xFE00, 0xFE10),
+    *range(0xFFF9, 0xFFFC), *range(0xE0000, 0xE0080)]))
 QUOTES = '\'"`´‘’‚‛“”„‟«»‹›'
-BRACKETS = {'[': ']', '(': ')', '{': '}'}
-# Groups of thousands by one mark: the mark, further groups, the mark of decimals. Then by spaces or apostroph
+BRACKETS = [('[', ']'), ('(', ')'), ('{', '}'), ('c(', ')')]      # `c(..)` is R's
+# Groups of thousands by one mark: the mark, further groups, the mark of decimals. Then by spaces.
 GROUPS = re.compile(r'[1-9][0-9]{0,2}([.,])[0-9]{3}((?:\1[0-9]{3})*)(?:(?!\1)([.,])[0-9]+)?')
 SPACES = ' \u00a0\u2009\u202f\'’'
 SPACED = re.compile(f'[1-9][0-9]{{0,2}}([{SPACES}])[0-9]{{3}}(?:\\1[0-9]{{3}})*(?:[.,][0-9]+)?')
 DECIMALS = re.compile(f'[0-9{SPACES}]*[0-9]([.,])[0-9]+')
 SHORTENED = re.compile(r'[0-9]+(?:[.,][0-9]+)?E\+[0-9]+', re.I)
-# A date as a workbook's cell has it, and as a spreadsheet writes it.
+# A date as a workbook's cell has it; as a spreadsheet writes it; as an id that can hardly be anything else.
 CELL_DATE = re.compile(r'[0-9]{4}-[0-9]{2}-[0-9]{2}T[0-9:.]+|[0-9]{2}:[0-9]{2}:[0-9]{2}(?:\.[0-9]+)?')
-DATE = re.compile(r'[0-9]{1,4}[-./][0-9]{1,2}[-./][0-9]{1,4}|[0-9]{1,2}[-. ]+[A-Za-z]{3,9}\.?|'
-                  r'[A-Za-z]{3,9}[-. ]+[0-9]{1,4}')
-POINTS = {'points', 'point', 'score', 'scores', 'rank', 'ranks', 'ranking', 'weight', 'weights'}
+MONTH = '(?:jan|feb|f[eé]v|mar|mär|apr|avr|abr|ma[ijy]|jun|jui|jul|aug|ao[uû]|ago|sep|set|o[ck]t|ott|out|nov|' \
+        'de[cz]|dic|sty|lut|kwi|cze|lip|sie|wrz|paź|lis|gru)[^\\W\\d_]{0,7}'
+NAMED_DATE = rf'[0-9]{{1,2}}[-. ]+{MONTH}\.?(?:[-. ]+[0-9]{{2,4}})?|{MONTH}[-. ]+[0-9]{{1,4}}'
+DATE = re.compile(rf'[0-9]{{1,4}}[-./][0-9]{{1,2}}[-./][0-9]{{1,4}}|{NAMED_DATE}', re.I)
+MADE_DATE = re.compile(r'[0-9]{4}-[0-9]{2}-[0-9]{2}|[0-9]{1,2}[./][0-9]{1,2}[./][0-9]{4}|' + NAMED_DATE, re.I)
+# Columns whose votes are no approvals, and columns that say which rows count, which no count reads.
+POINTS = {*'points point score scores rank ranks ranking weight weights votes count'.split()}
+IDS = {'vote', 'project_id'}
+STATES = {*'valid invalid is_valid accepted status state withdrawn cancelled deleted'.split()}
 # What programs write where there is no value.
-NOTHING = {'nan', 'none', 'null', 'nil', 'na', 'n/a', '-', '\\n'}
+NOTHING = {*'nan none null nil na n/a - 0 \\n'.split()}
 # What changes are called. Those that an option decided come first.
 DECIDED = ['--encoding', '--drop-unknown', '--drop-zero-cost', '--round', '--repeated-voters',
            '--single-choice', '--marks']
@@ -31,7 +37,8 @@ UNSEEN, GROUPED = "characters that can't be seen", 'groups of thousands'
 DUST, JOINED = 'float dust', 'rows joined'
 KNOWN = {*DECIDED, UNSEEN, GROUPED, DUST, JOINED, 'encoding', 'separator', 'spaces before quotation marks',
          'workbook', 'row added', 'empty row', 'text above META', 'text above the columns',
-         'heading of rows to join', 'brackets', 'quotation marks', 'bars', 'point and zero'}
+         'column names again', 'heading of rows to join', 'brackets', 'quotation marks', 'bars',
+         'point and zero'}
 # What to do about a fault that is left, by its name.
 REMEDIES = {
     'NoSection': 'a section is missing, or the file does not begin with META',
@@ -39,27 +46,22 @@ REMEDIES = {
     'NoHeader': "the row of column names below the section's heading is missing",
     'MissingColumn': 'PROJECTS needs the columns project_id and cost; VOTES needs voter_id and vote, or '
                      'voter_id and project_id with a row for each vote',
-    'MissingField': 'the row ends before a needed column: complete it, or delete it if it is a total or a '
-                    'note',
+    'MissingField': 'the row is too short: complete it, or delete it if it is a total or a note',
     'MissingKey': 'META needs budget;AMOUNT and vote_type;approval',
-    'VoteType': 'only approval ballots can be counted; if each voter picks one project (choose-1), name '
-                '`--single-choice`',
-    'BadMoney': 'an amount is digits, with at most one point or comma: no currency, no minus sign, no '
-                'letters',
-    'MoneyTooFine': 'more than two decimals: if that is meant, name `--round half-up`, `--round down` or '
-                    '`--round up`',
+    'VoteType': 'only approval ballots are counted; if each voter picks one project, name `--single-choice`',
+    'BadMoney': 'an amount is digits, with at most one point or comma: no currency, no minus, no letters',
+    'MoneyTooFine': 'more than two decimals: if that is meant, name `--round half-up`, `down` or `up`',
     'MoneyTooLarge': 'the amount has too many digits',
-    'ZeroCost': 'the project costs 0: write its cost, or name `--drop-zero-cost`, which drops it and the '
-                'votes for it',
-    'EmptyId': 'the id is empty: fill it in, or delete the row if it is a total or a note',
+    'ZeroCost': 'the project costs 0: write its cost, or drop it and the votes for it by `--drop-zero-cost`',
+    'EmptyId': 'the id is empty: fill it in; if the row is a total or a note, delete it',
     'RepeatedProject': 'an earlier row has the same project id: give one of the two projects another id',
     'RepeatedVoter': 'an earlier row has the same voter id. If the rows are one ballot, name '
-                     '`--repeated-voters merge`; if they are different people, `distinct`; if only the '
-                     'first or last row is valid, `first` or `last`',
+                     '`--repeated-voters merge`; if they are different people, `distinct`; if only the first '
+                     'or last row is valid, `first` or `last`',
     'BadLength': 'max_length is a number without decimals, or empty'}
-
-# The rows of a file: a key for each, as LOG names it, their fields, LOG's rows on how the file was read.
-Table = collections.namedtuple('Table', 'keys rows reading')
+TAIL = 'only the last rows name it, and no project: if they are totals or notes, delete them; if the ' \
+       'project was withdrawn, take its id out of them'
+NO_VOTE = 'no vote names a project: PROJECTS may be of another election, or its ids were changed'
 
 class Refused(Exception):
     """Nothing was written; each argument is a line that says why."""
@@ -70,6 +72,10 @@ def trimmed(text):
 def seen(text):
     """The text without white space, and without what nobody sees, at its ends."""
     return text.strip(EDGES)
+
+def word_of(fields):
+    """The first field as a heading, or a name of a column, is compared."""
+    return seen(fields[0]).lower()
 
 def shown(text):
     """A value as words show it."""
@@ -100,297 +106,339 @@ def is_columns(fields, section):
         return {'project_id', 'cost'} <= names
     return 'voter_id' in names and not names.isdisjoint({'vote', 'project_id'})
 
-# How rows are mended
-class Cleaner:
-    """Mends the rows of an election. Its log has for each row that changes the field, what, before, after."""
-    def __init__(self, table, given):
-        self.keys, self.rows, self.given = table.keys, table.rows, given
-        self.is_cut = any(it[2] == 'separator' for it in table.reading)
-        self.log, self.first = collections.defaultdict(list), {}
-        self.added, self.refusals, self.unknown = {}, [], collections.defaultdict(list)
-        # Rows that are told in the summary: joined ones that differ, column names that are there twice.
-        self.differ, self.twice = [], []
-        # Of each section: its rows, what LOG calls its fields, its columns. Of META: the rows of needed keys.
-        self.places, self.labels, self.columns, self.meta = {}, {}, {}, {}
-        self.is_long, self.voters = False, set()
+class Row:
+    """A row: its key in LOG, its fields (None where it is left out), its changes, its section's labels."""
+    __slots__ = 'key', 'fields', 'log', 'first', 'labels'
 
-    def refuse(self, at, words):
-        self.refusals.append((at, words))
+    def __init__(self, key, fields, log=()):
+        self.key, self.fields, self.log, self.first, self.labels = key, fields, log, None, ()
 
-    def edit(self, at, column, what, after, section=None):
-        row = self.rows[at]
-        if at not in self.first:
-            self.first[at] = row[:]
-        self.log[at].append((label_of(self.labels.get(section, []), column), what, row[column], after))
-        row[column] = after
+    def edit(self, column, what, after):
+        self.first = self.first or self.fields[:]
+        self.log = [*self.log, (label_of(self.labels, column), what, self.fields[column], after)]
+        self.fields[column] = after
 
-    def edit_unseen(self, at, column, section=None):
+    def edit_unseen(self, column):
         """Takes what nobody sees from the ends of a field."""
-        if seen(self.rows[at][column]) != trimmed(self.rows[at][column]):
-            self.edit(at, column, UNSEEN, seen(self.rows[at][column]), section)
+        if seen(self.fields[column]) != trimmed(self.fields[column]):
+            self.edit(column, UNSEEN, seen(self.fields[column]))
 
-    def drop(self, at, what):
-        """Leaves a row out. LOG shows it as it was, and no former change of it."""
-        self.log[at] = [('', what, row_text(self.first.get(at, self.rows[at])), '')]
-        self.rows[at] = None
+    def drop(self, what):
+        """Leaves the row out. LOG shows it as it was, and no former change of it."""
+        self.log, self.fields = [('', what, row_text(self.first or self.fields), '')], None
+
+class Cleaner:
+    """Mends the rows of an election."""
+    def __init__(self, rows, reading, given):
+        self.rows, self.given = rows, given
+        self.is_cut = any(it[2] == 'separator' for it in reading)
+        self.refusals, self.unknown = {}, collections.defaultdict(list)
+        # Of each section the row of column names, the names, and the rows below. Of META the needed rows.
+        self.heads, self.names, self.below, self.meta = {}, {}, {}, {}
+        # Rows that the summary tells of, by what it says.
+        self.notes = collections.defaultdict(list)
+        self.is_long = False
+
+    def refuse(self, row, words):
+        self.refusals.setdefault(row, []).append(words)
+
+    def column(self, section, name):
+        """The place of a column: the first of this name; beyond each row where there is none."""
+        return self.names[section].index(name) if name in self.names[section] else 1 << 30
 
     def rows_of(self, section):
-        """The rows of a section below its column names, each with its place."""
-        return ((at, self.rows[at]) for at in self.places.get(section, ()) if self.rows[at] is not None)
+        return [row for row in self.below[section] if row.fields]
 
     def clean(self):
-        for at, row in enumerate(self.rows):
-            if not (row[0].strip(EDGES) or ''.join(row).strip(EDGES)):
-                self.drop(at, 'empty row')
+        for row in self.rows:
+            if not seen(row.fields[0]) and not seen(''.join(row.fields)):
+                row.drop('empty row')
         if self.put_together() if self.given.projects else self.find_sections():
             self.clean_columns()
-            self.judge_fields()
             self.clean_amounts()
             self.clean_projects()
+            self.judge_fields()
             self.clean_votes()
             self.say_unknown()
 
+    # Sections and columns
     def find_sections(self):
         """Finds and mends the headings, and drops what stands above META."""
         heads = {}
         for at, row in enumerate(self.rows):
-            word = seen(row[0]).lower() if row and 'votes' not in heads else ''
-            if word in ORDER and word not in heads:
+            word = word_of(row.fields) if row.fields else ''
+            if word in ORDER and word not in heads and 'votes' not in heads:
                 heads[word] = at
-                self.edit_unseen(at, 0)
+                row.edit_unseen(0)
+            elif word in ORDER and 'votes' in heads and not any(row.fields[1:]):
+                return self.refuse(row, 'another election begins here, or the sections are not in the order '
+                                   'META, PROJECTS, VOTES: make a file of each election')
         if list(heads) != ORDER:
             lost = ', '.join(it.upper() for it in ORDER if it not in heads)
-            words = f'the file has no heading {lost} on a row of its own'
-            words = words if lost else REMEDIES['SectionOrder']
-            return self.refuse(max(heads.values(), default=0), words)
-        for at in range(heads['meta']):
-            if self.rows[at] and seen(self.rows[at][0]).lower() in ('budget', 'vote_type', 'max_length'):
-                self.refuse(at, 'a row of META stands above META: move it below')
-            elif self.rows[at]:
-                self.drop(at, 'text above META')
+            words = f'the file has no heading {lost} on a row of its own: ' if lost else ''
+            for row in self.rows:
+                if row.fields and re.search('\n(PROJECTS|VOTES)\\b', '\t'.join(row.fields)):
+                    return self.refuse(row, f'{words}here a quotation mark is not closed, or is too many')
+            return self.refuse(self.rows[max(heads.values(), default=0)], words + REMEDIES['SectionOrder'])
+        for row in self.rows[:heads['meta']]:
+            if row.fields and word_of(row.fields) in ('budget', 'vote_type', 'max_length'):
+                self.refuse(row, 'a row of META stands above META: move it below')
+            elif row.fields:
+                row.drop('text above META')
         for section, end in zip(ORDER, [heads['projects'], heads['votes'], len(self.rows)]):
-            below = next((at for at in range(heads[section] + 1, end) if self.rows[at]), end)
-            self.places[section] = range(below + 1, end)
+            rows = [row for row in self.rows[heads[section] + 1:end] if row.fields]
+            self.heads[section], self.below[section] = rows[0] if rows else None, rows[1:]
         return True
 
     def put_together(self):
         """The sections of two tables: rows of projects, and rows of votes."""
-        middle = next((at for at, key in enumerate(self.keys) if key.startswith('votes')), len(self.keys))
-        limit = [f'max_length;{self.given.max_length}'] if self.given.max_length is not None else []
-        self.added = {0: ['META', 'key;value', f'budget;{self.given.budget}', 'vote_type;approval', *limit,
-                          'PROJECTS'],
-                      middle: ['VOTES'] + ['voter_id;vote'] * (middle == len(self.keys))}
-        for section, begin, end in [('projects', 0, middle), ('votes', middle, len(self.keys))]:
-            head = next((at for at in range(begin, end) if self.rows[at]
-                         and is_columns(self.rows[at], section)), None)
-            if head is None and begin < end:
-                return self.refuse(begin, REMEDIES['MissingColumn'])
-            for at in range(begin, head or begin):
-                if self.rows[at]:
-                    self.drop(at, 'text above the columns')
-            self.places[section] = range((begin if head is None else head) + 1, end)
+        parts = {it: [row for row in self.rows if row.key.startswith(it)] for it in ORDER[1:]}
+        limit = [['max_length', self.given.max_length]] if self.given.max_length is not None else []
+        added = {'projects': [['META'], ['key', 'value'], ['budget', self.given.budget],
+                              ['vote_type', 'approval'], *limit, ['PROJECTS']],
+                 'votes': [['VOTES']] if parts['votes'] else [['VOTES'], ['voter_id', 'vote']]}
+        self.rows, self.below['meta'] = [], []
+        for section, part in parts.items():
+            key = part[0].key if part else f'projects:{len(parts["projects"]) + 1}'
+            self.rows += [Row(key, it, [('', 'row added', '', row_text(it))]) for it in added[section]] + part
+            full = [row for row in part if row.fields]
+            at = next((at for at, row in enumerate(full) if is_columns(row.fields, section)), 0)
+            for row in full[:at]:
+                row.drop('text above the columns')
+            self.heads[section], self.below[section] = full[at] if full else None, full[at + 1:]
         return True
 
     def clean_columns(self):
         """Mends the names of columns, and of META the keys, and the values that a count needs."""
-        for section in self.places:
-            at = self.places[section].start - 1
-            row = self.rows[at] if at < len(self.rows) and self.rows[at] and section != 'meta' else []
-            for column in range(len(row)):
-                self.edit_unseen(at, column)
-            names = [trimmed(it).lower() for it in row]
+        for section in ORDER[1:]:
+            head = self.heads[section]
+            for column in range(len(head.fields) if head else 0):
+                head.edit_unseen(column)
+            names = self.names[section] = [trimmed(it).lower() for it in head.fields] if head else []
+            if head and not is_columns(names, section):
+                self.refuse(head, self.no_columns(section, head))
+            for row in self.below[section] if names else ():
+                if word_of(row.fields) == names[0] and [seen(it).lower() for it in row.fields] == names:
+                    row.drop('column names again')
             if section == 'votes' and 'vote' not in names and names.count('project_id') == 1:
                 self.is_long = True
-                self.edit(at, names.index('project_id'), 'heading of rows to join', 'vote')
+                if self.given.repeated_voters not in (None, 'merge'):
+                    self.refuse(head, 'the rows have one project each, and become one ballot: leave '
+                                '`--repeated-voters` out')
+                head.edit(names.index('project_id'), 'heading of rows to join', 'vote')
                 names[names.index('project_id')] = 'vote'
             if any(names.count(it) > 1 for it in ('project_id', 'cost', 'voter_id', 'vote')):
-                self.twice.append(at)
-            self.labels[section] = labels_of(row)
-            self.columns[section] = {it: names.index(it) for it in names}
-        for at, row in self.rows_of('meta'):
-            self.edit_unseen(at, 0)
-            if trimmed(row[0]).lower() in ('budget', 'vote_type', 'max_length'):
-                self.meta[trimmed(row[0]).lower()] = at
-                if len(row) > 1:
-                    self.edit_unseen(at, 1)
+                self.notes['rows of column names have a needed column twice: the first counts'] += [head]
+            labels = labels_of(names)
+            for row in self.below[section]:
+                row.labels = labels
+        for row in self.below['meta']:
+            row.edit_unseen(0)
+            if trimmed(row.fields[0]).lower() in ('budget', 'vote_type', 'max_length'):
+                self.meta[trimmed(row.fields[0]).lower()] = row
+                if len(row.fields) > 1:
+                    row.edit_unseen(1)
+        row = self.meta.get('vote_type')
+        is_one = row and trimmed(''.join(row.fields[1:2])).lower() in ('choose-1', 'choose1')
+        self.is_single = self.given.single_choice and is_one
+        if self.is_single:
+            row.edit(1, '--single-choice', 'approval')
+
+    def no_columns(self, section, head):
+        """What is said where the row of column names has not the needed ones."""
+        names = [seen(it) for it in re.split('[;,\t]', ';'.join(head.fields))]
+        ids = {seen(row.fields[0]) for row in self.rows_of('projects')}
+        if section == 'votes' and len(ids & {*names}) > 1:
+            return 'it has a column for each project: make one column vote of them, with `,` between the ' \
+                   'ids that a voter approves'
+        return f'{REMEDIES["MissingColumn"]}; what is found is {shown(", ".join(filter(None, names)))}'
 
     def judge_fields(self):
-        """Refuses values that another separator cut, and points and ranks."""
-        for section in ('projects', 'votes') if self.is_cut else ():
-            for at, row in self.rows_of(section):
-                if any(map(seen, row[len(self.labels[section]):])):
-                    self.refuse(at, 'the row has more fields than there are column names: put quotation '
-                                'marks around the field that has the separator in it')
-        for at in self.meta.values() if self.is_cut else ():
-            if any(map(seen, self.rows[at][2:])):
-                self.refuse(at, 'the value has the separator in it: put quotation marks around it, or leave '
+        """Refuses values that another separator cut, ids behind the vote, points and ranks."""
+        for row in self.meta.values() if self.is_cut else ():
+            if any(map(seen, row.fields[2:])):
+                self.refuse(row, 'the value has the separator in it: put quotation marks around it, or leave '
                             'the mark out')
-        for column in [it for name, it in self.columns.get('votes', {}).items() if name in POINTS]:
-            said = [at for at, row in self.rows_of('votes') if len(row) > column
-                    and seen(row[column]) not in ('', '1')]
-            if said:
-                self.refuse(said[0], 'the votes have points or ranks, which are no approvals: they can not '
-                            'be counted')
+        for section in ORDER[1:]:
+            names, rows = self.names[section], self.rows_of(section)
+            # Beside the vote, columns without a name, or named as those of votes are, hold no ids.
+            vote = self.column(section, 'vote')
+            bare = [at for at, it in enumerate(names) if at > vote and not it or at != vote and it in IDS]
+            for row in rows if bare or any(len(it.fields) > len(names) for it in rows) else ():
+                more = [*map(seen, row.fields[len(names):])]
+                if self.is_cut and any(more):
+                    self.refuse(row, 'the row has more fields than there are column names: put quotation '
+                                'marks around the field that has the separator in it')
+                more += [seen(it) for at, it in enumerate(row.fields) if at in bare]
+                if not self.is_cut and section == 'votes' and any(it in self.ids for it in more):
+                    self.refuse(row, 'an id is behind the vote, or beside it, where it is not counted: write '
+                                'the ids of a vote into one field, with `,` between')
+            for at, name in enumerate(names):
+                values = {row.fields[at]: row for row in reversed(rows) if at < len(row.fields)} \
+                    if name in POINTS | STATES else {}
+                if name in STATES and len(values) > 1:
+                    self.notes['columns such as valid or status differ, and all rows are counted'] += rows[:1]
+                points = {it: row for it, row in values.items() if seen(it) not in ('', '1')}
+                if name in POINTS and section == 'votes' and points:
+                    self.refuse([*points.values()][-1], 'the votes have points or ranks, or numbers of '
+                                'votes, which are no approvals: they can not be counted')
 
     # Amounts
     def clean_amounts(self):
         """Takes groups of thousands out where only one reading is possible, then rounds what is asked for."""
-        places, roles = [(self.meta['budget'], 1, None)] if 'budget' in self.meta else [], {}
-        places += [(at, self.columns['projects']['cost'], 'projects') for at, _ in self.rows_of('projects')
-                   if 'cost' in self.columns['projects']]
-        places = [it for it in places if it[1] < len(self.rows[it[0]])]
-        for at, column, section in places:
-            self.edit_unseen(at, column, section)
-            for role in self.roles_of(trimmed(self.rows[at][column])):
-                roles.setdefault(role, at)
+        cost, shows = self.column('projects', 'cost'), {}
+        places = [(self.meta['budget'], 1)] if 'budget' in self.meta else []
+        places = [it for it in places + [(row, cost) for row in self.rows_of('projects')]
+                  if it[1] < len(it[0].fields)]
+        for row, column in places:      # what each mark is, where an amount shows it
+            row.edit_unseen(column)
+            text = trimmed(row.fields[column])
+            groups, decimals = GROUPS.fullmatch(text), DECIMALS.fullmatch(text)
+            mark = groups[3] if groups else decimals and decimals[1]
+            if mark:
+                shows.setdefault((mark, 'decimals'), row)
+            if groups and (groups[2] or groups[3]):
+                shows.setdefault((groups[1], 'thousands'), row)
         for mark in '.,':
-            pair = sorted(roles[it] for it in [(mark, 'thousands'), (mark, 'decimals')] if it in roles)
-            if len(pair) == 2:
-                self.refuse(pair[1], f'`{mark}` marks thousands in one amount and decimals in another '
-                                     '(record '
-                                     f'{self.keys[pair[0]]}): write all amounts alike')
-        for at, column, section in places:
-            self.clean_groups(at, column, section, roles)
-            self.clean_decimals(at, column, section)
+            both = [shows[it] for it in [(mark, 'thousands'), (mark, 'decimals')] if it in shows]
+            if len(both) == 2:
+                first, last = sorted(both, key=self.rows.index)
+                self.refuse(last, f'`{mark}` marks thousands in one amount and decimals in another (record '
+                            f'{first.key}): write all amounts alike')
+        for row, column in places:
+            self.clean_groups(row, column, shows)
+            self.clean_decimals(row, column)
 
-    @staticmethod
-    def roles_of(text):
-        """What the marks are that an amount has: each mark with `thousands`, `decimals`, or `either`."""
-        groups, decimals = GROUPS.fullmatch(text), DECIMALS.fullmatch(text)
-        if groups:
-            first = (groups[1], 'thousands' if groups[2] or groups[3] else 'either')
-            return [first, (groups[3], 'decimals')] if groups[3] else [first]
-        return [(decimals[1], 'decimals')] if decimals else []
-
-    def clean_groups(self, at, column, section, roles):
-        text, marks = trimmed(self.rows[at][column]), self.given.marks
+    def clean_groups(self, row, column, shows):
+        text, marks = trimmed(row.fields[column]), self.given.marks
         spaced, groups = SPACED.fullmatch(text), GROUPS.fullmatch(text)
         if spaced:
-            self.edit(at, column, GROUPED, text.replace(spaced[1], ''), section)
+            row.edit(column, GROUPED, text.replace(spaced[1], ''))
         if spaced or not groups:
             return
         mark = groups[1]
-        shows = {it: roles.get((mark, it)) for it in ('thousands', 'decimals')}
-        other = {'thousands': 'decimals', 'decimals': 'thousands'}.get(marks)
-        if marks and shows[other] is not None:
-            self.refuse(at, f'`{mark}` marks {other} in record {self.keys[shows[other]]}, whatever `--marks '
-                        f'{marks}` says')
-        elif shows['thousands'] is not None or marks == 'thousands':
-            what = GROUPED if shows['thousands'] is not None else '--marks'
-            self.edit(at, column, what, text.replace(mark, ''), section)
-        elif shows['decimals'] is None and not marks:
-            self.refuse(at, f'the amount {shown(text)} can be {text.replace(mark, "")} or {text[:-1]}: name '
-                            '`--marks thousands` or `--marks decimals`')
+        thousands, decimals = shows.get((mark, 'thousands')), shows.get((mark, 'decimals'))
+        other, against = ('decimals', decimals) if marks == 'thousands' else ('thousands', thousands)
+        if marks and against:
+            self.refuse(row, f'`{mark}` marks {other} in record {against.key}, whatever `--marks {marks}` '
+                        'says')
+        elif thousands or marks == 'thousands':
+            row.edit(column, GROUPED if thousands else '--marks', text.replace(mark, ''))
+        elif not decimals and not marks:
+            self.refuse(row, f'the amount {shown(text)} can be {text.replace(mark, "")} or {text[:-1]}: name '
+                        '`--marks thousands` or `--marks decimals`')
 
-    def clean_decimals(self, at, column, section):
+    def clean_decimals(self, row, column):
         """Rounds more than two decimals: those that a computer's sum left, or if the option asks for it."""
-        parts = re.fullmatch('([0-9]{1,20})([.,])([0-9]{3,40})', trimmed(self.rows[at][column]))
+        parts = re.fullmatch('([0-9]{1,20})([.,])([0-9]{3,40})', trimmed(row.fields[column]))
         if parts and parts[3][2:].strip('0'):
             exact = fractions.Fraction(int(parts[1] + parts[3]), 10 ** (len(parts[3]) - 2))
             near = int(exact + fractions.Fraction(1, 2))
             is_dust = abs(exact - near) * 10**6 <= 1
-            if is_dust or self.given.round:
-                amount = near if is_dust else {'half-up': near, 'down': int(exact),
-                                               'up': -int(-exact // 1)}[self.given.round]
+            way = 'half-up' if is_dust else self.given.round
+            if way:
+                amount = {'half-up': near, 'down': int(exact), 'up': -int(-exact // 1)}[way]
                 text = f'{amount // 100}{parts[2]}{amount % 100:02}'
-                self.edit(at, column, DUST if is_dust else '--round', text, section)
+                row.edit(column, DUST if is_dust else '--round', text)
 
     # Projects
     def clean_projects(self):
         """Mends the ids of projects, and drops projects of cost 0 where the option asks for it."""
         self.ids, self.zero, self.called, self.causes = {}, set(), {}, {}
-        column, cost, name = (self.columns['projects'].get(it, 1 << 30)
-                              for it in ('project_id', 'cost', 'name'))
-        for at, row in self.rows_of('projects'):
-            if max(column, cost) >= len(row):
+        column, cost, name = (self.column('projects', it) for it in ('project_id', 'cost', 'name'))
+        for row in self.rows_of('projects'):
+            if max(column, cost) >= len(row.fields):
                 continue
-            project = seen(row[column])
-            if project != trimmed(row[column]) and project in self.ids:
-                self.refuse(at, f'the id differs from that of record {self.keys[self.ids[project]]} only by '
-                            f'{UNSEEN}')
-            self.edit_unseen(at, column, 'projects')
-            self.judge_id(at, project)
-            was_zero = not any(what in (DUST, '--round') for _, what, _, _ in self.log.get(at, ()))
-            if self.given.drop_zero_cost and was_zero and re.fullmatch('0+(?:[.,]0+)?', trimmed(row[cost])):
+            project = seen(row.fields[column])
+            if project != trimmed(row.fields[column]) and project in self.ids:
+                self.refuse(row, f'the id of record {self.ids[project].key} differs only by {UNSEEN}')
+            row.edit_unseen(column)
+            self.judge_id(row, project)
+            is_rounded = any(what in (DUST, '--round') for _, what, _, _ in row.log)
+            is_zero = re.fullmatch('0+(?:[.,]0+)?', trimmed(row.fields[cost]))
+            if self.given.drop_zero_cost and is_zero and not is_rounded:
                 self.zero.add(project)
-                self.drop(at, '--drop-zero-cost')
+                row.drop('--drop-zero-cost')
                 continue
-            self.ids.setdefault(project, at)
-            self.called[trimmed(row[name]) if name < len(row) else ''] = project
+            self.ids.setdefault(project, row)
+            called = row.fields[name] if name < len(row.fields) else ''
+            self.called |= {self.plain(it): project for it in [*called.split(','), called] if seen(it)}
         self.zero -= {*self.ids}
         # A character that an id has separates nothing in votes.
         self.is_free = {it: not any(it in project for project in self.ids) for it in '|[](){}' + QUOTES}
         self.alike = {self.plain(it): it for it in self.ids}
         self.lengths = {len(it) for it in self.ids}
+        self.dated = next((it for it in self.ids if MADE_DATE.fullmatch(it)), '')
 
-    def judge_id(self, at, text):
+    def judge_id(self, row, text):
         if SHORTENED.fullmatch(text) or CELL_DATE.fullmatch(text):
-            self.refuse(at, f'a spreadsheet changed the id {shown(text)} (a shortened number, or a date): '
-                        'no row can be told '
-                            'from another; get the ids again, as text')
+            self.refuse(row, f'a spreadsheet changed the id {shown(text)} (a shortened number, or a date): '
+                        'no row can be told from another; get the ids again, as text')
 
     @staticmethod
     def plain(project):
-        """The id without what gets changed: case, white space, zeros at its front, `.0` at its end."""
-        return re.sub(r'\.0$', '', re.sub(r'\s', '', project).casefold()).lstrip('0') or '0'
+        """The id without what gets changed: case, white space, dashes, marks at its ends, zeros, `.0`."""
+        text = unicodedata.normalize('NFKC', project).casefold()
+        text = re.sub(r'\s|^[\W_]+|[\W_]+$', '', re.sub('[\u00ad\u2010-\u2015\u2212]', '-', text))
+        return re.sub(r'\.0$', '', text).lstrip('0') or '0'
 
     # Votes
     def clean_votes(self):
         """Mends each vote, and joins or chooses among the rows of a voter."""
-        voter, vote = (self.columns['votes'].get(it, 1 << 30) if 'votes' in self.columns else 0
-                       for it in ('voter_id', 'vote'))
-        is_single, rows, good, joined = self.is_single_choice(), {}, {'': None}, {}
-        for at, row in self.rows_of('votes'):
-            if max(voter, vote) >= len(row):
-                continue
-            name = row[voter].strip(EDGES)
-            if name != row[voter]:
-                self.edit_unseen(at, voter, 'votes')
-            if row[vote] not in good:
-                self.clean_vote(at, vote, good)
-            elif good[row[vote]]:
-                self.edit(at, vote, *good[row[vote]], 'votes')
-            if is_single and len({*map(trimmed, row[vote].split(','))}) > 1:
-                self.refuse(at, 'the vote names several projects, so the file is not choose-1')
+        voter, vote = self.column('votes', 'voter_id'), self.column('votes', 'vote')
+        rows = [row for row in self.rows_of('votes') if max(voter, vote) < len(row.fields)]
+        firsts, good, joined = {}, {'': None}, {}
+        # The last rows, of which none names a project: they may be totals and notes.
+        tail = [*itertools.takewhile(
+            lambda row: self.ids.keys().isdisjoint(self.pieces_of(row.fields[vote])[0]), reversed(rows))]
+        self.tail, self.tail_words = {*tail}, TAIL if len(tail) < len(rows) else NO_VOTE
+        for row in rows:
+            fields = row.fields
+            name = seen(fields[voter])
+            if name != fields[voter]:
+                row.edit_unseen(voter)
+            if fields[vote] not in good:
+                self.clean_vote(row, vote, good)
+            elif good[fields[vote]]:
+                row.edit(vote, *good[fields[vote]])
+            if self.is_single and len({*map(trimmed, fields[vote].split(','))}) > 1:
+                self.refuse(row, 'the vote names several projects, so the file is not choose-1')
             if '+' in name or ':' in name:
-                self.judge_id(at, name)
-            if name and name in rows:
-                self.repeat(at, name, voter, vote, rows, joined)
-            else:
-                rows[name] = at
-        for at, pieces in joined.items():
-            after = ','.join(dict.fromkeys(pieces))
-            if after != trimmed(self.rows[at][vote]):
-                self.edit(at, vote, JOINED if self.is_long else '--repeated-voters', after, 'votes')
+                self.judge_id(row, name)
+            first = firsts.setdefault(name, row)
+            if name and first is not row:
+                self.repeat(row, name, (voter, vote), firsts, joined)
+        cases = collections.Counter(map(str.casefold, firsts))
+        if len(cases) < len(firsts):
+            self.notes['ids of voters differ from another only by case'] += [
+                row for name, row in firsts.items() if cases[name.casefold()] > 1]
+        for row, pieces in joined.items():
+            after = ','.join(dict.fromkeys(it for it in pieces if it))
+            if after != trimmed(row.fields[vote]):
+                row.edit(vote, JOINED if self.is_long else '--repeated-voters', after)
 
-    def is_single_choice(self):
-        at = self.meta.get('vote_type')
-        is_one = at is not None and trimmed(''.join(self.rows[at][1:2])).lower() in ('choose-1', 'choose1')
-        if self.given.single_choice and is_one:
-            self.edit(at, 1, '--single-choice', 'approval')
-        return self.given.single_choice and is_one
-
-    def repeat(self, at, name, voter, vote, rows, joined):
+    def repeat(self, row, name, columns, firsts, joined):
         """A further row of a voter."""
-        way, first = self.given.repeated_voters, rows[name]
+        (voter, vote), way, first = columns, self.given.repeated_voters, firsts[name]
         if way and not self.is_long and len(name) > 15 and name.isdigit() and not name[15:].strip('0'):
-            self.refuse(at, f'a spreadsheet shortened the id {shown(name)}: get the ids again, as text')
+            self.refuse(row, f'a spreadsheet shortened the id {shown(name)}: get the ids again, as text')
         elif self.is_long or way == 'merge':
-            others = [[*map(seen, row[:vote] + row[vote + 1:])] for row in (self.rows[first], self.rows[at])]
-            self.differ += [at] if others[0] != others[1] else []
-            joined.setdefault(first, self.rows[first][vote].split(','))
-            joined[first] = [it for it in map(trimmed, joined[first] + self.rows[at][vote].split(',')) if it]
-            self.drop(at, JOINED if self.is_long else '--repeated-voters')
+            others = [[*map(seen, it.fields[:vote] + it.fields[vote + 1:])] for it in (first, row)]
+            if others[0] != others[1]:
+                self.notes['rows joined differ in other columns, as other people would'] += [row]
+            joined.setdefault(first, [*map(trimmed, first.fields[vote].split(','))])
+            joined[first] += map(trimmed, row.fields[vote].split(','))
+            row.drop(JOINED if self.is_long else '--repeated-voters')
         elif way in ('first', 'last'):
-            self.drop(at if way == 'first' else first, '--repeated-voters')
-            rows[name] = first if way == 'first' else at
+            (row if way == 'first' else first).drop('--repeated-voters')
+            firsts[name] = first if way == 'first' else row
         elif way == 'distinct':
-            if not self.voters:
-                self.voters = {seen(row[voter]) for _, row in self.rows_of('votes') if voter < len(row)}
-            other = next(it for it in (f'{name}-{number}' for number in itertools.count(2))
-                         if it not in self.voters)
-            self.voters.add(other)
-            self.edit(at, voter, '--repeated-voters', other, 'votes')
+            self.taken = getattr(self, 'taken', None) or {
+                seen(it.fields[voter]) for it in self.rows_of('votes') if voter < len(it.fields)}
+            numbered = (f'{name}-{number}' for number in itertools.count(2))
+            other = next(it for it in numbered if it not in self.taken)
+            self.taken.add(other)
+            row.edit(voter, '--repeated-voters', other)
 
     def pieces_of(self, text):
         """The ids that a vote names, and what had to be mended to read them."""
@@ -399,16 +447,16 @@ class Cleaner:
             return pieces, []
         body, pieces = seen(text), []
         kinds = {UNSEEN: 1} if body != trimmed(text) else {}
-        ends = body[:1], body[-1:]
-        if BRACKETS.get(ends[0]) == ends[1] and self.is_free[ends[0]] and self.is_free[ends[1]]:
-            body, kinds['brackets'] = body[1:-1], 1
+        for begin, end in BRACKETS:
+            is_pair = body.startswith(begin) and body.endswith(end)
+            if is_pair and self.is_free[begin[-1]] and self.is_free[end]:
+                body, kinds['brackets'] = body[len(begin):-1], 1
         if '|' in body and self.is_free['|']:
             body, kinds['bars'] = body.replace('|', ','), 1
         for piece in map(trimmed, body.split(',')):
             if piece not in self.ids and seen(piece) != piece:
                 piece, kinds[UNSEEN] = seen(piece), 1
-            if piece and piece not in self.ids and all(it in QUOTES and self.is_free[it]
-                                                       for it in (piece[0], piece[-1])):
+            if piece and piece not in self.ids and self.is_quoted(piece):
                 piece, kinds['quotation marks'] = seen(piece.strip(QUOTES)), 1
             is_float = re.fullmatch(r'[0-9]+\.0', piece) and piece[:-2] in self.ids and '0' not in self.ids
             if is_float and piece not in self.ids:
@@ -416,64 +464,67 @@ class Cleaner:
             pieces += [piece] if piece else []
         return pieces, list(kinds)
 
-    def clean_vote(self, at, column, good):
+    def is_quoted(self, piece):
+        """Whether a piece has quotation marks at both ends, or an id at one: they can be the vote's."""
+        ends = [it in QUOTES and self.is_free[it] for it in (piece[0], piece[-1])]
+        return all(ends) or any(ends) and seen(piece.strip(QUOTES)) in self.ids
+
+    def clean_vote(self, row, column, good):
         """Mends a vote. `good` gets what a vote needs that names projects alone."""
-        text = self.rows[at][column]
+        text = row.fields[column]
         pieces, kinds = self.pieces_of(text)
-        left = [it for it in pieces if it not in self.ids]
         mended = (', '.join(kinds), ','.join(pieces)) if kinds else None
         if mended:
-            self.edit(at, column, *mended, 'votes')
-        if not left:
+            row.edit(column, *mended)
+        if all(it in self.ids for it in pieces):
             good[text] = mended
             return
-        unknown = [it for it in dict.fromkeys(left) if it not in self.zero]
-        for piece in unknown:
-            cause = self.causes.get(piece)
-            if cause is None:
-                cause = self.causes[piece] = self.cause_of(piece)
-            if cause or not self.given.drop_unknown:
-                self.unknown[piece, cause].append(at)
         kept = [it for it in pieces if it not in self.zero]
+        unknown = [it for it in dict.fromkeys(kept) if it not in self.ids]
+        for piece in unknown:
+            if piece not in self.causes:
+                is_note = row in self.tail and piece.lower() not in NOTHING
+                self.causes[piece] = self.cause_of(piece) or (self.tail_words if is_note else '')
+            if self.causes[piece] or not self.given.drop_unknown:
+                self.unknown[piece].append(row)
         if len(kept) < len(pieces):
-            self.edit(at, column, '--drop-zero-cost', ','.join(kept), 'votes')
+            row.edit(column, '--drop-zero-cost', ','.join(kept))
         if unknown and self.given.drop_unknown:
-            self.edit(at, column, '--drop-unknown', ','.join(it for it in kept if it in self.ids), 'votes')
+            row.edit(column, '--drop-unknown', ','.join(it for it in kept if it in self.ids))
 
     def cause_of(self, piece):
         """What an unknown id is, if it is hardly that of a project that is gone. Then it is never dropped."""
         parts = [it for it in re.split(r'[\W_]+', piece) if it]
+        lines = [*map(seen, piece.splitlines())]
         has_known = any(it in self.ids for it in parts)
         length = next(iter(self.lengths)) if len(self.lengths) == 1 else 3
         cut = [piece[it:it + length] for it in range(0, len(piece), length)]
-        like = self.alike.get(self.plain(piece))
+        like, called = self.alike.get(self.plain(piece), ''), self.called.get(self.plain(piece), '')
+        is_date, again = CELL_DATE.fullmatch(piece) or DATE.fullmatch(piece), 'get the votes again, as text'
         causes = [
             (not self.ids, 'PROJECTS has no projects: get its rows first'),
-            (re.search('[\r\n]', piece), 'it goes over several lines: a quotation mark is not closed, or is '
-             'too many'),
-            (SHORTENED.fullmatch(piece), 'a spreadsheet shortened it: get the ids again, as text'),
-            (CELL_DATE.fullmatch(piece) or DATE.fullmatch(piece),
-             'a spreadsheet made a date of it: get the votes again, as text'),
+            (len(lines) > 1 and all(it in self.ids for it in lines),
+             'its ids are on lines of their own: write `,` between them'),
+            (len(lines) > 1, 'it goes over several lines: a quotation mark is not closed, or is too many'),
+            (SHORTENED.fullmatch(piece), f'a spreadsheet shortened it: {again}'),
+            (is_date, f'a spreadsheet made a date of it: {again}'),
             (re.fullmatch('[0-9]+[.][0-9]+', piece) and has_known,
-             'a spreadsheet read ids with a comma as one number, so ids are lost: get the votes again, as '
-             'text'),
-            (like, f'the project {shown(like or "")} differs only by case, zeros, a point or white space: '
-             'correct one of both'),
+             f'a spreadsheet read ids with a comma as one number, so ids are lost: {again}'),
+            (like, f'the project {shown(like)} differs only by case, zeros, marks, white space or how '
+             'its letters are coded: correct one of both'),
             (len(parts) > 1 and has_known, 'it has the id of a project and more: write `,` between ids, and '
              'nothing else; points and ranks are no approvals'),
             (length > 1 and len(cut) > 1 and piece.isdigit() and all(it in self.ids for it in cut),
-             'it is made of ids whose commas are lost: get the votes again, as text'),
-            (piece in self.called, f'it is the name of the project {shown(self.called.get(piece, ""))}: '
-             'write its id')]
+             f'it is made of ids whose commas are lost: {again}'),
+            (self.dated, f'a spreadsheet made a date of the id {shown(self.dated)}: get PROJECTS again'),
+            (called, f'it is the name of the project {shown(called)}, or a part of it: write its id')]
         return next((words for holds, words in causes if holds), '')
 
     def say_unknown(self):
-        for (piece, cause), places in self.unknown.items():
-            more = f' (and in {len(places) - 1} more votes, such as record {self.keys[places[1]]})' \
-                if len(places) > 1 else ''
-            advice = 'if the project was withdrawn, `--drop-unknown` takes its id out of the votes'
-            if piece.lower() in NOTHING:
-                advice = 'if it says that nothing was voted for, `--drop-unknown` leaves a ballot that ' \
-                         'approves nothing'
-            self.refuse(places[0], f'the vote names {shown(piece)}, which no project has{more}: '
-                        f'{cause or advice}')
+        for piece, rows in self.unknown.items():
+            more = len(rows) > 1 and f' (and in {len(rows) - 1} more votes, such as record {rows[1].key})'
+            advice = 'if it says that nothing was voted for, `--drop-unknown` makes an empty ballot of it' \
+                if piece.lower() in NOTHING else \
+                'if the project was withdrawn, `--drop-unknown` takes its id out of the votes'
+            self.refuse(rows[0], f'the vote names {shown(piece)}, which no project has{more or ""}: '
+                        f'{self.causes[piece] or advice}')
