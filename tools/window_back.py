@@ -1,9 +1,18 @@
 """Tries what a clerk sees of a voter's history, and how the head clerk puts back what stood."""
 import datetime, subprocess
 
-from window_clerk import Clerk, Window
+from window_clerk import PYTHON, TOP, Clerk, Window
 from window_seen import CITY, NAMES, new_folder, see
 
+# A log whose journal was replaced by an older one.
+OLDER = '''
+import json, log, sys
+lines = [('answered', {'entry': 1}), ('answered', {'entry': 2}), ('answered', {'entry': 3}), ('started', {'entries': 1}), ('answered', {'entry': 2})]
+with open(sys.argv[1], 'w') as file:
+    for day, (what, more) in enumerate(lines):
+        print(json.dumps({'time': f'2026-11-0{day + 1}T10:00:00.000Z', 'what': what, 'form': str(day), 'clerk': 1, **more}), file=file)
+print(*(f'{number}:{time[8:10]}' for number, time in log.Log(sys.argv[1]).times.items()))
+'''
 HOLDS = '<ul class="ballot">'
 
 
@@ -46,6 +55,8 @@ def try_back(program, work):
         window.end()
     see(window.audit('--require-shut').returncode == 0, 'the journal is audited', window.audit())
     try_refusals(program, work)
+    done = subprocess.run([PYTHON, '-B', '-c', OLDER, work / 'log'], cwd=TOP / 'window', capture_output=True, text=True)
+    see(done.stdout == '1:01 2:05\n', 'an entry of an older journal has no time of another one', done)
 
 
 def try_shown(window, ben, head):
