@@ -94,7 +94,7 @@ def words():
             'election': office.election, 'unknown': list(office.desk.unknown.values()),
             'said': lambda name: ANSWERS.get(name.split()[0], f'Not recorded: {name}.'),
             'name_of': office.door.name_of, 'who': lambda it: f"{office.door.name_of(it)} (clerk {it}{', you' * (it == g.clerk)})",
-            'when': when, 'token': Markup('<input type="hidden" name="token" value="%s">') % token_of(held)}
+            'when': when, 'named': office.roll.names if office.roll else {}, 'token': Markup('<input type="hidden" name="token" value="%s">') % token_of(held)}
 
 
 @app.after_request

@@ -89,9 +89,9 @@ class Day:
         self.log = log.Log(f'{given.journal}.log')
         self.keeper = overnight.Keeper(given, self.log)
         self.keeper.compare(self.door.known[0])
-        serve = [given.program, 'serve', '--by-id', *(['--roll', given.roll] if given.roll else []), f'--min={given.min}',
-                 *['--other-file'] * given.other_file]
         self.roll = roll.Roll(given.program, given.roll) if given.roll else None
+        serve = [given.program, 'serve', '--by-id', *(['--roll', self.roll.path] if self.roll else []), f'--min={given.min}',
+                 *['--other-file'] * given.other_file]
         self.desk = desk.Desk(serve, given.file, given.journal, self.log, self.election)
         self.desk.start()
         self.keeper.try_to_keep(is_copied=False)
