@@ -14,7 +14,7 @@ office = None       # The day, which run.py puts here.
 KEY = os.urandom(32)
 HEADERS = {'Cache-Control': 'no-store', 'Referrer-Policy': 'no-referrer', 'X-Content-Type-Options': 'nosniff',
            'Content-Security-Policy': "default-src 'none'; frame-ancestors 'none'; base-uri 'none'; form-action 'self'; "
-                                      "style-src 'self'; script-src 'self'; img-src data:"}
+                                      "style-src 'self'; script-src 'self'; connect-src 'self'; img-src data:"}
 # What the desk answers; after that why it refuses a row, which is then no entry, and why there is no answer.
 ANSWERS = {'done': 'Recorded.', 'already-cast': 'Not recorded: this voter has a ballot already.',
            'no-ballot': 'Not recorded: this voter has no ballot.',
