@@ -89,7 +89,7 @@ def words():
     """What each page knows."""
     held = cookie('session') if g.session else g.get('fresh', cookie('sign-in'))
     why = STOPS.get((office.desk.fault or '').partition(';')[2].split(';')[0], '')
-    return {'clerk': g.clerk, 'desk': office.desk, 'keeper': office.keeper, 'turnout': office.log.turnout,
+    return {'clerk': g.clerk, 'office_title': office.given.title or 'Clerks’ window', 'desk': office.desk, 'keeper': office.keeper, 'turnout': office.log.turnout,
             'log_failure': office.log.why_not(), 'why_stopped': why,
             'election': office.election, 'unknown': list(office.desk.unknown.values()),
             'said': lambda name: ANSWERS.get(name.split()[0], f'Not recorded: {name}.'),
