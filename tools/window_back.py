@@ -144,14 +144,20 @@ def try_refusals(program, work):
     (folder / 'city.pb').write_text(text)
     (folder / 'roll.csv').write_text('v1\nv2\nold1\n')
     rows = '1;cast;v1;3\n1;replace;v1;0\n1;cast;v2;\n1;replace;v2;0\n1;replace;old1;0\n1;replace;old2;0\n'
+    rows += '1;cast;v3;0\n' + '2;cast;v3;1\n' * 100 + '1;replace;v3;1\n' + '2;cast;v3;1\n' * 199 + '1;cast;v4;0\n' + '2;cast;v4;1\n' * 205
     done = subprocess.run([program, 'serve', folder / 'city.pb', folder / 'city.journal'], input=rows, capture_output=True, text=True)
-    see(done.stdout.count('done') == 6, 'six entries', done)
+    see(done.stdout.count('done') == 9 and done.stdout.count('\n') == 514, '513 entries', done)
     warned = 'A ballot has 1 at least, 1 at most: the desk will not take this one.'
     with Window(program, folder, options=['--roll', folder / 'roll.csv', '--min', 1]).start() as window:
         head = Clerk(window)
         head.sign_in('Head')
         page = head.post('/voter', {'voter': 'v1'})
         see('2not in the logAnn (clerk 1)replace' in page.seen, 'entries that the log does not have', page.seen)
+        page = head.post('/voter', {'voter': 'v3'})
+        see(page.seen.count('not in the log') == 200 and 'Older entries are not shown here: the first is entry 7.' in page.seen
+            and buttons(page) == [108], 'the newest 200 entries of many', buttons(page), page.seen[-3000:])
+        page = head.post('/voter', {'voter': 'v4'})
+        see(page.seen.count('not in the log') == 200 and not buttons(page), 'none of which has changed anything', buttons(page))
         for voter, before, words, answer in (
                 ('v2', 4, warned, 'the ballot has too few projects'), ('old1', 5, warned, 'the ballot has too many projects'),
                 ('old2', 6, 'This voter is not on the roll: the desk will not take this.', 'this voter is not on the roll'),
@@ -162,6 +168,6 @@ def try_refusals(program, work):
             see('Not recorded' in page.seen and answer in page.seen, f'{answer}: and refused', page.seen)
             page = head.post('/voter', {'voter': voter, 'form': page.text.split('<button name="form" value="')[1].split('"')[0]})
             see(' checked' not in page.text and HOLDS not in page.text, 'the way back shows no ballot', page.text)
-        see([row[5] for row in window.entries()[6:]] == ['too-long'], 'a row that names other projects is never sent', window.entries())
+        see([row[5] for row in window.entries()[513:]] == ['too-long'], 'a row that names other projects is never sent', window.entries())
         window.end()
     see(window.audit().returncode == 0, 'the journal is audited', window.audit())

@@ -8,7 +8,7 @@ from election import Fault, is_fit, records
 # many without an answer a `serve` is held. How many pages may wait for answers, so that there are workers for
 # others, and how many seconds a page waits for the start, or until it may wait for an answer.
 LOCKED, ANSWERS, HELD, SEATS, PATIENCE = 10, 60, 3, 32, 1.5
-SHOWN = 50      # How many entries of a voter a page shows.
+SHOWN = 200     # How many entries of a voter a page shows.
 Entry = collections.namedtuple('Entry', 'number clerk request voter places answer')
 NOTHING = Entry(0, 0, '', '', '', '')
 # How a request ended: with an 'entry'; 'refused', by this name; not sent, since the voter's last entry had
@@ -226,8 +226,12 @@ class Desk:
 
     def shown(self, voter):
         """The voter's newest entries, the newest first, each with whether something else stood before it than now."""
-        now, rows = self.standing(voter), self.history.get(voter, ())[-SHOWN:]
-        return [(it, self.standing(voter, it.number) != now) for it in reversed(rows)]
+        now, shown = self.standing(voter), self.history.get(voter, [])[-SHOWN:]
+        stood, rows = self.standing(voter, shown[0].number) if shown else None, []
+        for it in shown:
+            rows.insert(0, (it, stood != now))
+            stood = it if it.answer == 'done' else stood
+        return rows
 
     def ask(self, asked):
         """Sends a request, and waits for its answer. A second call only waits: nothing is ever sent again.
