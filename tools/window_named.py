@@ -1,7 +1,10 @@
 """Tries names on the roll: shown to the clerk alone; rolls that are made to hurt."""
 import os, pathlib, stat, subprocess, tempfile, time
 
+import browser
+from browser_tab import Tab
 from window_clerk import LIMIT, PYTHON, RUN, Clerk, Window
+from window_day import look_at, sign_in
 from window_office import until
 from window_seen import new_folder, see
 
@@ -57,6 +60,7 @@ def try_named(program, work):
         ann.ask('cast', 'nobody', ['12'])
         window.kill_serve()
         see('Entry 3 ' in ann.ask('cast', 'dora', ['12']).seen and path.exists(), 'and so after serve was killed')
+        try_in_browser(window)
         said, _ = window.end()
         see(not path.parent.exists(), 'and is gone in the evening', path)
         for file in folder.iterdir():
@@ -65,6 +69,27 @@ def try_named(program, work):
         see(not any(it in said + window.told for it in ('Müller', 'Neil')), 'and none at the terminal', said)
     try_bad_rolls(program, new_folder(work, 'bad'))
     try_many_names(program, work)
+
+
+def try_in_browser(window):
+    """Names of markup, and of many letters without a space, on the voter's page and on the check page, at two widths."""
+    if not browser.installed():
+        return print('try_window: no browser is installed, so names were not looked at')
+    with browser.Browser(browser.installed()) as led:
+        tab = Tab(led)
+        sign_in(tab, window, 'Ann')
+        for voter in ('old1', 'long'):
+            tab.type(voter)
+            tab.enter()
+            see(NAMES[voter][:200] in tab.text('main'), f'the name of {voter} in a browser', tab.text('main'))
+            look_at(tab, f'named-{voter}', None)
+            tab.run('document.getElementById("search").focus()')
+            tab.type('12 7')
+            tab.enter()
+            see(NAMES[voter][:200] in tab.text('main') and tab.text('h1') == 'Check before you record', 'and before it is recorded', tab.text('main'))
+            look_at(tab, f'named-{voter}-check', None)
+            tab.press('Escape', loads=True)
+        see(not tab.fetched(window), 'no address has a name', tab.fetched(window))
 
 
 def try_bad_rolls(program, folder):
