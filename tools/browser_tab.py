@@ -47,16 +47,18 @@ class Tab:
                 self.said.append(json.dumps(it['params']['exceptionDetails']))
         loads = sum(it['method'] == 'Page.loadEventFired' for it in mine)
         self.pages += loads
-        return loads or any(it['method'].startswith('Network.loadingF') and it['params']['requestId'] in self.fetches for it in mine)
+        return loads or any(it['method'].startswith('Network.loadingF')
+                            and it['params']['requestId'] in self.fetches for it in mine)
 
     def loaded(self, act):
-        """Does something, and waits until the page that it leads to is loaded, or has taken the place of what was shown."""
+        """Does something, and waits until what it leads to is loaded, or has taken the place of what was shown."""
         self.take_events()
         act()
         while not self.take_events():
             self.led.events.append(self.led._message())
         until = time.monotonic() + 5
-        while self.ask('document.body.inert || document.activeElement === document.body && !!document.querySelector("[autofocus]")') and time.monotonic() < until:
+        waits = 'document.body.inert || document.activeElement === document.body && !!document.querySelector("[autofocus]")'
+        while self.ask(waits) and time.monotonic() < until:
             time.sleep(0.02)
 
     def open(self, url):

@@ -17,8 +17,8 @@ Outcome = collections.namedtuple('Outcome', 'kind value', defaults=[None])
 
 
 class Request:
-    """What a clerk has looked at and may send, once: a request, with the number of the voter's last entry as it was shown.
-    `before` is the number of the entry before which stood what this puts back; None where a clerk has chosen."""
+    """What a clerk has looked at and may send, once: a request, with the number of the voter's last entry as it
+    was shown. `before` is the entry before which stood what this puts back; None where a clerk has chosen."""
 
     def __init__(self, clerk, request, voter='', ids=(), seen=0, form=None, before=None):
         self.form, self.clerk, self.request, self.voter = form or secrets.token_urlsafe(16), clerk, request, voter
@@ -48,7 +48,8 @@ class Desk:
     """The child, and what its journal says of each voter."""
 
     def __init__(self, serve, file, journal, its_log, election):
-        self.command, self.files, self.words = [*serve, file, journal], (file, journal), log.opened(f'{journal}.words')
+        self.command, self.files = [*serve, file, journal], (file, journal)
+        self.words = log.opened(f'{journal}.words')
         self.log, self.election, self.votes = its_log, election, election.votes
         # Whoever sends, or starts the child, does it alone, and no page that sends nothing waits for that.
         self.sending, self.seats = threading.RLock(), threading.BoundedSemaphore(SEATS)
@@ -116,7 +117,8 @@ class Desk:
 
     def note(self, row):
         """Takes an entry."""
-        entry = self.newest = Entry(int(row[0]), int(row[1]), sys.intern(row[2]), *row[3:5], sys.intern(row[5]))
+        entry = self.newest = Entry(int(row[0]), int(row[1]), sys.intern(row[2]), *row[3:5],
+                                    sys.intern(row[5]))
         self.history.setdefault(entry.voter, []).append(entry)
         if entry[2::3] == ('shut', 'done'):
             self.shut = entry
@@ -215,8 +217,8 @@ class Desk:
         return self.history.get(voter, [NOTHING])[-1]
 
     def standing(self, voter, before=float('inf')):
-        """The entry by which the voter's ballot stands, or was withdrawn, or so it was before an entry; None where
-        no entry has changed what came with the file."""
+        """The entry by which the voter's ballot stands, or was withdrawn, now or before an entry; None where no
+        entry has changed what came with the file."""
         entries = reversed(self.history.get(voter, ()))
         return next((it for it in entries if it.answer == 'done' and it.number < before), None)
 
@@ -225,7 +227,7 @@ class Desk:
         return entry.request != 'withdraw' if entry else voter in self.votes
 
     def shown(self, voter):
-        """The voter's newest entries, the newest first, each with whether something else stood before it than now."""
+        """The voter's entries, the newest first, each with whether something else stood before it than now."""
         now, shown = self.standing(voter), self.history.get(voter, [])[-SHOWN:]
         stood, rows = self.standing(voter, shown[0].number) if shown else None, []
         for it in shown:
@@ -255,8 +257,8 @@ class Desk:
         is_ballot = asked.request in ('cast', 'replace', 'withdraw') and is_fit(asked.voter)
         if not (is_ballot or (asked.request, asked.voter) == ('shut', '')):
             raise ValueError('no such request')
-        back = {} if asked.before is None else {'before': asked.before}
-        self.log.write('asked', True, **{it: vars(asked)[it] for it in ('form', 'clerk', 'request', 'voter', 'seen')}, **back)
+        told = ['form', 'clerk', 'request', 'voter', 'seen'] + ['before'] * (asked.before is not None)
+        self.log.write('asked', True, **{it: vars(asked)[it] for it in told})
         self.keep_up(seconds=HELD)
         if self.held() and not self.is_late(asked):
             return self.unsent(asked, 'held')

@@ -14,7 +14,7 @@ office = None       # The day, which run.py puts here.
 KEY = os.urandom(32)
 HEADERS = {'Cache-Control': 'no-store', 'Referrer-Policy': 'no-referrer', 'X-Content-Type-Options': 'nosniff',
            'Content-Security-Policy': "default-src 'none'; frame-ancestors 'none'; base-uri 'none'; form-action 'self'; "
-                                      "style-src 'self'; script-src 'self'; connect-src 'self'; img-src data:"}
+                                      "style-src 'self'; script-src 'self'; img-src data:; connect-src 'self'"}
 # What the desk answers; after that why it refuses a row, which is then no entry, and why there is no answer.
 ANSWERS = {'done': 'Recorded.', 'already-cast': 'Not recorded: this voter has a ballot already.',
            'no-ballot': 'Not recorded: this voter has no ballot.',
@@ -89,12 +89,14 @@ def words():
     """What each page knows."""
     held = cookie('session') if g.session else g.get('fresh', cookie('sign-in'))
     why = STOPS.get((office.desk.fault or '').partition(';')[2].split(';')[0], '')
-    return {'clerk': g.clerk, 'office_title': office.given.title or 'Clerks’ window', 'desk': office.desk, 'keeper': office.keeper, 'turnout': office.log.turnout,
+    return {'clerk': g.clerk, 'office_title': office.given.title or 'Clerks’ window', 'desk': office.desk,
+            'keeper': office.keeper, 'turnout': office.log.turnout,
             'log_failure': office.log.why_not(), 'why_stopped': why,
             'election': office.election, 'unknown': list(office.desk.unknown.values()),
             'said': lambda name: ANSWERS.get(name.split()[0], f'Not recorded: {name}.'),
             'name_of': office.door.name_of, 'who': lambda it: f"{office.door.name_of(it)} (clerk {it}{', you' * (it == g.clerk)})",
-            'when': when, 'named': office.roll.names if office.roll else {}, 'token': Markup('<input type="hidden" name="token" value="%s">') % token_of(held)}
+            'when': when, 'named': office.roll.names if office.roll else {},
+            'token': Markup('<input type="hidden" name="token" value="%s">') % token_of(held)}
 
 
 @app.after_request
@@ -182,7 +184,8 @@ def is_off_roll(voter):
 def show(voter, ids=None, is_asked_for=False):
     """The page of a voter. It begins without ticks, or with those that the clerk has just made."""
     office.desk.keep_up()
-    return page('voter', 'Voter', voter=voter, ids=ids, held=ballot_of(voter, is_asked_for), is_off_roll=is_off_roll(voter))
+    return page('voter', 'Voter', voter=voter, ids=ids, held=ballot_of(voter, is_asked_for),
+                is_off_roll=is_off_roll(voter))
 
 
 @app.post('/voter')
@@ -233,11 +236,13 @@ def number_in(name):
 
 
 def look_at(asked, is_asked_for=False):
-    """The page on which a clerk checks a request, with what the desk will refuse. What is put back is shown to who asks."""
+    """The page on which a clerk checks a request, with what the desk will refuse; what is put back, on demand."""
     g.session.add(asked)
     is_shown = asked.before is None or is_asked_for
-    return page('look', 'Check before you record', asked=asked, is_shown=is_shown, chosen=office.election.chosen(asked.ids),
-                held=ballot_of(asked.voter) if asked.before is None else None, is_off_roll=is_off_roll(asked.voter),
+    return page('look', 'Check before you record', asked=asked, is_shown=is_shown,
+                chosen=office.election.chosen(asked.ids),
+                held=ballot_of(asked.voter) if asked.before is None else None,
+                is_off_roll=is_off_roll(asked.voter),
                 is_named=office.election.places_of(asked.ids) is not None)
 
 
@@ -253,7 +258,8 @@ def record():
 def answer(asked):
     outcome = office.desk.ask(asked)
     words = office.end() if outcome.kind == 'entry' and outcome.value[2::3] == ('shut', 'done') else None
-    return page('start', 'Answer', outcome=outcome, asked=asked, last=office.desk.last(asked.voter), words=words)
+    return page('start', 'Answer', outcome=outcome, asked=asked, last=office.desk.last(asked.voter),
+                words=words)
 
 
 @app.post('/settle')

@@ -90,7 +90,8 @@ class Day:
         self.keeper = overnight.Keeper(given, self.log)
         self.keeper.compare(self.door.known[0])
         self.roll = roll.Roll(given.program, given.roll) if given.roll else None
-        serve = [given.program, 'serve', '--by-id', *(['--roll', self.roll.path] if self.roll else []), f'--min={given.min}',
+        serve = [given.program, 'serve', '--by-id', *(['--roll', self.roll.path] if self.roll else []),
+                 f'--min={given.min}',
                  *['--other-file'] * given.other_file]
         self.desk = desk.Desk(serve, given.file, given.journal, self.log, self.election)
         self.desk.start()
