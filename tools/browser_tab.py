@@ -14,7 +14,9 @@ class Tab:
         context = led.call('Target.createBrowserContext')['browserContextId']
         target = led.call('Target.createTarget', url='about:blank', browserContextId=context)['targetId']
         self.session = led.call('Target.attachToTarget', targetId=target, flatten=True)['sessionId']
-        self.asked, self.said = [], []
+        self.asked, self.said, self.fetches = [], [], set()
+        # How many keys were pressed, and how many pages were loaded.
+        self.keys = self.pages = 0
         for domain in DOMAINS:
             self.call(f'{domain}.enable')
         self.call('Emulation.setFocusEmulationEnabled', enabled=True)
@@ -38,20 +40,25 @@ class Tab:
         for it in mine:
             if it['method'] == 'Network.requestWillBeSent':
                 self.asked.append(it['params']['request']['url'])
+                self.fetches |= {it['params']['requestId']} if it['params']['type'] == 'Fetch' else set()
             elif it['method'] == 'Log.entryAdded':
                 self.said.append(it['params']['entry']['text'])
             elif it['method'] == 'Runtime.exceptionThrown':
                 self.said.append(json.dumps(it['params']['exceptionDetails']))
-        return any(it['method'] == 'Page.loadEventFired' for it in mine)
+        loads = sum(it['method'] == 'Page.loadEventFired' for it in mine)
+        self.pages += loads
+        return loads or any(it['method'].startswith('Network.loadingF')
+                            and it['params']['requestId'] in self.fetches for it in mine)
 
     def loaded(self, act):
-        """Does something, and waits until the page that it leads to is loaded."""
+        """Does something, and waits until what it leads to is loaded, or has taken the place of what was shown."""
         self.take_events()
         act()
         while not self.take_events():
             self.led.events.append(self.led._message())
         until = time.monotonic() + 5
-        while self.ask('document.activeElement === document.body && !!document.querySelector("[autofocus]")') and time.monotonic() < until:
+        waits = 'document.body.inert || document.activeElement === document.body && !!document.querySelector("[autofocus]")'
+        while self.ask(waits) and time.monotonic() < until:
             time.sleep(0.02)
 
     def open(self, url):
@@ -63,6 +70,7 @@ class Tab:
     def press(self, key, loads=False, **more):
         """Presses a key and lets it go; it may lead to another page. A `timestamp` says when that is."""
         code, text = KEYS.get(key) or (ord(key.upper()), key)
+        self.keys += 1
 
         def act():
             self.call('Input.dispatchKeyEvent', type='keyDown', key=key, code=key, windowsVirtualKeyCode=code,
@@ -85,6 +93,7 @@ class Tab:
 
     def type(self, text):
         """Types into the field that has the focus."""
+        self.keys += len(text)
         self.call('Input.insertText', text=text)
 
     def tab_to(self, name):

@@ -74,6 +74,11 @@ def try_pages(program, work, pictures):
         try_day(window, ann, ben, head, pictures)
         try_scanner(window, ben)
         try_escape(window, ben)
+        try_figures(window, ben)
+        try_keys(window, ben)
+        for tab, name in ((ann, 'Ann'), (head, 'Head')):
+            sign_in(tab, window, name)
+        ben.said.clear()        # The browser complains where the window has ended.
         try_deaths_in_browser(window, ann, ben, head, pictures)
         ann.open(f'http://127.0.0.1:{window.port}/nowhere')
         look_at(ann, 'nowhere', pictures)
@@ -206,9 +211,10 @@ def try_day(window, ann, ben, head, pictures):
     see(ann.focus() == 'Withdraw it' and 'The old ballot' in ann.text(), 'the button says what it does', ann.focus())
     ann.enter()
     see(entry() == ['4', '1', 'withdraw', 'ann 2', '', 'done'], 'a ballot is withdrawn by the keyboard', entry())
-    # A second sending: the page is loaded again, which sends its form again.
+    # The answer stands in the voter's page: if that is loaded again, it shows the voter as it is now.
     ann.reload()
-    see('Entry 4 of the journal: withdraw' in ann.text() and len(window.entries()) == 4, 'a page that is loaded again sends nothing new', ann.text())
+    see('it was withdrawn by entry 4' in ann.text() and len(window.entries()) == 4,
+        'a page that is loaded again sends nothing', ann.text())
     # The head clerk looks, which is logged.
     head.type('ann 1')
     head.enter()
@@ -216,6 +222,7 @@ def try_day(window, ann, ben, head, pictures):
     head.enter()
     see('Park & ride <img' in head.text('.ballot') and window.log()[-1]['what'] == 'looked', 'the head clerk looks, and that is logged', head.text())
     head.press('Escape', loads=True)
+    try_history(window, head, pictures)
     # With the mouse, and without the script.
     ben.call('Emulation.setScriptExecutionDisabled', value=True)
     ben.type('no script')
@@ -228,6 +235,90 @@ def try_day(window, ann, ben, head, pictures):
     ben.call('Emulation.setScriptExecutionDisabled', value=False)
     ben.press_button('Record this')
     see(entry()[:5] == ['5', '2', 'cast', 'no script', '0,1'], 'a ballot without the script', entry(), ben.text())
+
+
+def try_history(window, head, pictures):
+    """The head clerk sees a voter's history, goes as far as the check page for what stood, and back."""
+    head.type(MARKUP)
+    head.enter()
+    see('0 A ballot came with the file.' in head.text('table'), 'the history of a voter', head.text('table'))
+    look_at(head, 'history', pictures)
+    head.press_button('Put back what stood before entry 2')
+    see('the ballot that came with the file' in head.text() and head.focus() == 'Put it back'
+        and not head.text('.ballot'),
+        'what is put back is named, and the button has the focus', head.text(), head.focus())
+    look_at(head, 'back', pictures)
+    head.press_button('Show this ballot (this is logged)')
+    see('Library' in head.text('.ballot') and window.log()[-1]['what'] == 'looked', 'and shown on demand',
+        head.text())
+    look_at(head, 'back-shown', pictures)
+    head.press_button('Back')
+    see(head.text('h1') == 'Voter' and len(window.entries()) == 4, 'the way back sends nothing',
+        head.text('h1'))
+    head.press('Escape', loads=True)
+
+
+def try_keys(window, tab):
+    """Ids of projects one after the other; an Enter that is held down; a window that has ended."""
+    count = len(window.entries())
+    chosen = lambda: tab.run('[...document.querySelectorAll(":checked")].map(it => it.value).join()')
+    tab.open(f'http://127.0.0.1:{window.port}/')
+    tab.type('listed')
+    tab.enter()
+    for text, words in (('12 8', 'No project has the last of these ids'), ('13 7', 'No projects match'),
+                        ('12 b,c', 'No projects match')):
+        tab.type(text)
+        tab.enter(loads=False)
+        see(chosen() == '' and words in tab.text('#count'), f'{text} ticks nothing', chosen(),
+            tab.text('#count'))
+        tab.run('document.getElementById("search").select()')
+        tab.press('Backspace')
+    tab.type('99, 12 99')
+    pages = tab.pages
+    tab.enter()
+    see('2 projects.' in tab.text() and 'Library' in tab.text() and tab.focus() == 'Record this'
+        and len(window.entries()) == count,
+        'ids one after the other lead to the check', tab.text(), tab.focus())
+    tab.press('Enter', autoRepeat=True)
+    time.sleep(0.5)
+    see(tab.focus() == 'Record this' and len(window.entries()) == count,
+        'an Enter that is held down records nothing', tab.focus())
+    tab.enter()
+    see(window.entries()[-1][2:] == ['cast', 'listed', '0,4', 'done'] and tab.pages == pages,
+        'and the voter’s page answers', window.entries()[-1])
+    tab.type('nobody answers')
+    tab.enter()
+    tab.type('7')
+    tab.enter(loads=False)
+    os.kill(window.child.pid,
+            signal.SIGSTOP)       # No connection is taken any more, and the one that is sent is reset.
+    threading.Timer(0.5, window.child.kill).start()
+    tab.enter()
+    see('The window did not answer.' in tab.text() and chosen() == '7',
+        'a window that has ended is told, and no tick is lost', tab.text())
+    window.child.communicate()
+    window.start()
+    sign_in(tab, window, NAMES[2])
+
+
+def try_figures(window, tab):
+    """Twenty ballots by the keyboard: how many pages are loaded, and how many keys pressed."""
+    count, sets = len(window.entries()), ('12 7 99', '99 12', '7 99 12')
+    tab.open(f'http://127.0.0.1:{window.port}/')
+    tab.pages = tab.keys = 0
+    for number in range(20):
+        tab.type(f'w{number:04}')
+        tab.enter()
+        tab.type(sets[number % 3])
+        tab.enter()
+        tab.enter()
+    places = {'12 7 99': '0,1,4', '99 12': '0,4', '7 99 12': '0,1,4'}
+    wanted = [['2', 'cast', f'w{number:04}', places[sets[number % 3]], 'done'] for number in range(20)]
+    see([row[1:] for row in window.entries()[count:]] == wanted, 'twenty ballots stand',
+        window.entries()[count:])
+    see(tab.pages <= 30 and tab.keys <= 300, 'twenty ballots are 30 pages and 300 keys at most', tab.pages,
+        tab.keys)
+    print(f'try_window: pages: twenty ballots by the keyboard: {tab.pages} pages loaded, {tab.keys} keys pressed')
 
 
 def try_scanner(window, tab):

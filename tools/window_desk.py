@@ -194,6 +194,9 @@ def try_shut(program, work):
         page = head.get('/result/result.html')
         wanted = subprocess.run([program, 'page', window.file, '--journal', window.journal, '--title', 'A <b>vote</b>', '--measure', 'cost'],
                                 capture_output=True).stdout
+        see(all('<title>' + it in head.get(path).text for path,
+                it in (('/', 'Next voter - A &lt;b&gt;vote&lt;/b&gt;</title>'),
+                ('/head', 'The head clerk - A &lt;b&gt;vote'))), "the pages have the office's title, as text")
         see(page.body == wanted and 'attachment' in page.headers['Content-Disposition'], 'the page of the result')
         copies = sorted((folder / 'copies').iterdir())
         see(len(copies) == 1 and (copies[0] / 'city.journal').read_bytes() == window.journal.read_bytes()

@@ -1,13 +1,14 @@
 """The desk: `pb_app serve --by-id`, the window's child, which alone writes the journal. Here its answers are read."""
-import collections, contextlib, csv, io, os, secrets, subprocess, threading, time
+import collections, contextlib, csv, io, os, secrets, subprocess, sys, threading, time
 
+import log
 from election import Fault, is_fit, records
-from log import opened
 
 # How many seconds the start waits for a journal that another run has, and a clerk for an answer; after how
 # many without an answer a `serve` is held. How many pages may wait for answers, so that there are workers for
 # others, and how many seconds a page waits for the start, or until it may wait for an answer.
 LOCKED, ANSWERS, HELD, SEATS, PATIENCE = 10, 60, 3, 32, 1.5
+SHOWN = 200     # How many entries of a voter a page shows.
 Entry = collections.namedtuple('Entry', 'number clerk request voter places answer')
 NOTHING = Entry(0, 0, '', '', '', '')
 # How a request ended: with an 'entry'; 'refused', by this name; not sent, since the voter's last entry had
@@ -16,11 +17,13 @@ Outcome = collections.namedtuple('Outcome', 'kind value', defaults=[None])
 
 
 class Request:
-    """What a clerk has looked at and may send, once: a request, with the number of the voter's last entry as it was shown."""
+    """What a clerk has looked at and may send, once: a request, with the number of the voter's last entry as it
+    was shown. `before` is the entry before which stood what this puts back; None where a clerk has chosen."""
 
-    def __init__(self, clerk, request, voter='', ids=(), seen=0, form=None):
+    def __init__(self, clerk, request, voter='', ids=(), seen=0, form=None, before=None):
         self.form, self.clerk, self.request, self.voter = form or secrets.token_urlsafe(16), clerk, request, voter
         self.ids, self.seen, self.outcome, self.turn, self.ended = ids, seen, None, threading.Lock(), threading.Event()
+        self.before = before
         # What its answer has to have: its places, or its number among the rows of its `serve`; and when it
         # was sent.
         self.places, self.number, self.sent = '', 0, 0
@@ -44,9 +47,10 @@ def send(child, *row):
 class Desk:
     """The child, and what its journal says of each voter."""
 
-    def __init__(self, serve, file, journal, log, election):
-        self.command, self.files, self.words = [*serve, file, journal], (file, journal), opened(f'{journal}.words')
-        self.log, self.election, self.votes = log, election, election.votes
+    def __init__(self, serve, file, journal, its_log, election):
+        self.command, self.files = [*serve, file, journal], (file, journal)
+        self.words = log.opened(f'{journal}.words')
+        self.log, self.election, self.votes = its_log, election, election.votes
         # Whoever sends, or starts the child, does it alone, and no page that sends nothing waits for that.
         self.sending, self.seats = threading.RLock(), threading.BoundedSemaphore(SEATS)
         # How many rows this child was sent; who starts it, and since when.
@@ -55,7 +59,7 @@ class Desk:
         # The child that runs, the line with which one has stopped, and why none was started after that.
         self.child, self.fault, self.failure = None, None, None
         self.unknown = {form: Request(it['clerk'], it['request'], it['voter'], seen=it.get('seen', -1), form=form)
-                        for form, it in log.asked.items()}
+                        for form, it in its_log.asked.items()}
 
     def start(self):
         """Starts the child and reads the journal as it stands. Where another run has it, it tries for some seconds."""
@@ -90,8 +94,8 @@ class Desk:
     def read_journal(self, count):
         """Takes the entries of the journal. Says so where the newest one that was answered before is not among them."""
         before, self.newest, self.shut = self.newest, NOTHING, None
-        # The last entry of each voter, the one by which a ballot stands, and how many there are of each kind.
-        self.last, self.standing, self.counts = {}, {}, collections.Counter()
+        # The entries of each voter, in their order, and how many there are of each kind.
+        self.history, self.counts = {}, collections.Counter()
         with open(self.files[1], encoding='utf-8', newline='') as text:
             rows = (row for row in records(text) if row[0] != 'journal')
             entries = [NOTHING] + [self.note(next(rows)) for _ in range(count)]
@@ -113,11 +117,11 @@ class Desk:
 
     def note(self, row):
         """Takes an entry."""
-        entry = Entry(int(row[0]), int(row[1]), *row[2:])
-        self.last[entry.voter] = self.newest = entry
-        if entry.answer == 'done':
-            self.standing[entry.voter] = entry
-            self.shut = entry if entry.request == 'shut' else self.shut
+        entry = self.newest = Entry(int(row[0]), int(row[1]), sys.intern(row[2]), *row[3:5],
+                                    sys.intern(row[5]))
+        self.history.setdefault(entry.voter, []).append(entry)
+        if entry[2::3] == ('shut', 'done'):
+            self.shut = entry
         self.counts[entry.clerk, entry.answer.split()[0]] += 1
         return entry
 
@@ -157,8 +161,8 @@ class Desk:
         elif row[:5] == [str(self.newest.number + 1), str(asked.clerk), asked.request, asked.voter, asked.places]:
             entry = self.note(row)
             asked.outcome, told = Outcome('entry', entry), {'entry': entry.number, 'answer': entry.answer}
-            day = time.strftime('%Y-%m-%d', time.gmtime())
-            self.log.turnout[day, asked.clerk, asked.request] += entry.answer == 'done'
+            now = self.log.times[entry.number] = log.now()
+            self.log.turnout[now[:10], asked.clerk, asked.request] += entry.answer == 'done'
         else:
             raise ValueError('the answer of another request')
         self.log.write('answered', form=asked.form, clerk=asked.clerk, request=asked.request, **told)
@@ -208,12 +212,28 @@ class Desk:
             print('\npb_app serve has not ended yet: most likely it waits for its disk.', flush=True)
         self.listener.join()
 
-    def number_of(self, voter):
-        """The number of the voter's last entry, or 0."""
-        return self.last[voter].number if voter in self.last else 0
+    def last(self, voter):
+        """The voter's last entry; NOTHING, whose number is 0, where there is none."""
+        return self.history.get(voter, [NOTHING])[-1]
 
-    def has_ballot(self, voter):
-        return self.standing[voter].request != 'withdraw' if voter in self.standing else voter in self.votes
+    def standing(self, voter, before=float('inf')):
+        """The entry by which the voter's ballot stands, or was withdrawn, now or before an entry; None where no
+        entry has changed what came with the file."""
+        entries = reversed(self.history.get(voter, ()))
+        return next((it for it in entries if it.answer == 'done' and it.number < before), None)
+
+    def has_ballot(self, voter, before=float('inf')):
+        entry = self.standing(voter, before)
+        return entry.request != 'withdraw' if entry else voter in self.votes
+
+    def shown(self, voter):
+        """The voter's entries, the newest first, each with whether something else stood before it than now."""
+        now, shown = self.standing(voter), self.history.get(voter, [])[-SHOWN:]
+        stood, rows = self.standing(voter, shown[0].number) if shown else None, []
+        for it in shown:
+            rows.insert(0, (it, stood != now))
+            stood = it if it.answer == 'done' else stood
+        return rows
 
     def ask(self, asked):
         """Sends a request, and waits for its answer. A second call only waits: nothing is ever sent again.
@@ -237,7 +257,8 @@ class Desk:
         is_ballot = asked.request in ('cast', 'replace', 'withdraw') and is_fit(asked.voter)
         if not (is_ballot or (asked.request, asked.voter) == ('shut', '')):
             raise ValueError('no such request')
-        self.log.write('asked', True, **{it: vars(asked)[it] for it in ('form', 'clerk', 'request', 'voter', 'seen')})
+        told = ['form', 'clerk', 'request', 'voter', 'seen'] + ['before'] * (asked.before is not None)
+        self.log.write('asked', True, **{it: vars(asked)[it] for it in told})
         self.keep_up(seconds=HELD)
         if self.held() and not self.is_late(asked):
             return self.unsent(asked, 'held')
@@ -261,7 +282,7 @@ class Desk:
 
     def is_late(self, asked):
         """Whether another request for this voter came since the clerk looked."""
-        return asked.voter in self.busy or self.number_of(asked.voter) != asked.seen
+        return asked.voter in self.busy or self.last(asked.voter).number != asked.seen
 
     def unsent(self, asked, why, name=None):
         """Notes that a request was not sent."""

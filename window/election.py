@@ -67,8 +67,8 @@ class Election:
         return [self.by_id.get(it) or Project(it, 'No project has this id.', '') for it in ids]
 
     def places_of(self, ids):
-        """The places of a ballot's projects, as `serve` answers them; None if some id is no project's."""
-        if all(it in self.places for it in ids):
+        """The places of a ballot's projects, as `serve` answers them; None if no row can name them all."""
+        if all(it in self.places and ',' not in it for it in ids):
             return ','.join(map(str, sorted({self.places[it] for it in ids})))
 
     def warning(self):

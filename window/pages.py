@@ -1,11 +1,11 @@
 """The pages: what a clerk sees, and what comes of each form."""
-import hashlib, hmac, os, secrets, traceback
+import contextlib, hashlib, hmac, os, secrets, traceback
 
 from flask import Flask, Response, abort, g, make_response, redirect, render_template, request
 from markupsafe import Markup
 from werkzeug.exceptions import HTTPException
 
-import desk, election, log
+import desk, election, log, overnight
 
 app = Flask(__name__)
 app.logger.disabled = True      # What fails is said in the window's own log: nobody may read standard error.
@@ -14,7 +14,7 @@ office = None       # The day, which run.py puts here.
 KEY = os.urandom(32)
 HEADERS = {'Cache-Control': 'no-store', 'Referrer-Policy': 'no-referrer', 'X-Content-Type-Options': 'nosniff',
            'Content-Security-Policy': "default-src 'none'; frame-ancestors 'none'; base-uri 'none'; form-action 'self'; "
-                                      "style-src 'self'; script-src 'self'; img-src data:"}
+                                      "style-src 'self'; script-src 'self'; img-src data:; connect-src 'self'"}
 # What the desk answers; after that why it refuses a row, which is then no entry, and why there is no answer.
 ANSWERS = {'done': 'Recorded.', 'already-cast': 'Not recorded: this voter has a ballot already.',
            'no-ballot': 'Not recorded: this voter has no ballot.',
@@ -79,7 +79,7 @@ def check():
             return say('Not accepted', STALE, 403)
     if g.session is None and request.endpoint not in ('start', 'sign_in', 'static', None):
         return redirect('/', 303)
-    if g.clerk != 0 and request.endpoint in ('show_ballot', 'head', 'again', 'shut', 'result'):
+    if g.clerk != 0 and request.endpoint in ('show_ballot', 'put_back', 'head', 'again', 'shut', 'result'):
         office.log.write('refused', path=request.path, address=request.remote_addr, clerk=g.clerk)
         return say('For the head clerk', 'Only the head clerk may do this. Nothing was sent to the desk.', 403)
 
@@ -89,11 +89,13 @@ def words():
     """What each page knows."""
     held = cookie('session') if g.session else g.get('fresh', cookie('sign-in'))
     why = STOPS.get((office.desk.fault or '').partition(';')[2].split(';')[0], '')
-    return {'clerk': g.clerk, 'desk': office.desk, 'keeper': office.keeper, 'turnout': office.log.turnout,
+    return {'clerk': g.clerk, 'office_title': office.given.title or 'Clerks’ window', 'desk': office.desk,
+            'keeper': office.keeper, 'turnout': office.log.turnout,
             'log_failure': office.log.why_not(), 'why_stopped': why,
             'election': office.election, 'unknown': list(office.desk.unknown.values()),
             'said': lambda name: ANSWERS.get(name.split()[0], f'Not recorded: {name}.'),
             'name_of': office.door.name_of, 'who': lambda it: f"{office.door.name_of(it)} (clerk {it}{', you' * (it == g.clerk)})",
+            'when': when, 'named': office.roll.names if office.roll else {},
             'token': Markup('<input type="hidden" name="token" value="%s">') % token_of(held)}
 
 
@@ -160,29 +162,47 @@ def asked_voter():
     return voter
 
 
+def when(number):
+    """When an entry was answered, as the log has it."""
+    with contextlib.suppress(KeyError, ValueError):
+        return overnight.day_of(office.log.times[number])
+    return 'not in the log'
+
+
 def ballot_of(voter, is_asked_for=False):
     """The projects of a voter's ballot: for the clerk who took it, and for the head clerk who asks; else None."""
-    entry = office.desk.standing.get(voter)
+    entry = office.desk.standing(voter)
     is_own = entry is not None and entry.clerk == g.clerk
     if office.desk.has_ballot(voter) and (is_own or is_asked_for):
         return office.election.held(voter, entry)
+
+
+def is_off_roll(voter):
+    return office.roll is not None and office.roll.lacks(voter)
 
 
 def show(voter, ids=None, is_asked_for=False):
     """The page of a voter. It begins without ticks, or with those that the clerk has just made."""
     office.desk.keep_up()
     return page('voter', 'Voter', voter=voter, ids=ids, held=ballot_of(voter, is_asked_for),
-                is_off_roll=office.roll is not None and office.roll.lacks(voter))
+                is_off_roll=is_off_roll(voter))
 
 
 @app.post('/voter')
 def voter():
     asked = g.session.forms.get(request.form.get('form'))
-    return show(asked.voter, asked.ids if asked.request != 'withdraw' else None) if asked else show(asked_voter())
+    if asked is None:
+        return show(asked_voter())
+    # What the head clerk puts back is nobody's choice, and is not shown before that is asked for.
+    return show(asked.voter, asked.ids if asked.request != 'withdraw' and asked.before is None else None)
 
 
 @app.post('/show')
 def show_ballot():
+    asked = g.session.forms.get(request.form.get('form'))
+    if asked and asked.before is not None:
+        office.log.write('looked', is_synced=True, clerk=g.clerk, voter=asked.voter, before=asked.before)
+        return look_at(asked, is_asked_for=True)
     office.log.write('looked', is_synced=True, clerk=g.clerk, voter=asked_voter())
     return show(asked_voter(), is_asked_for=True)
 
@@ -190,14 +210,40 @@ def show_ballot():
 @app.post('/look')
 def look():
     """What will be recorded, before it is sent."""
-    wanted, seen = request.form.get('request'), request.form.get('seen', '')
-    if wanted not in ('cast', 'replace', 'withdraw') or not (seen.isdecimal() and len(seen) < 10):
+    wanted, seen = request.form.get('request'), number_in('seen')
+    if wanted not in ('cast', 'replace', 'withdraw'):
         abort(400)
     ids = election.ids_of(','.join(request.form.getlist('id'))) if wanted != 'withdraw' else []
-    asked = desk.Request(g.clerk, wanted, asked_voter(), ids, int(seen))
+    return look_at(desk.Request(g.clerk, wanted, asked_voter(), ids, seen))
+
+
+@app.post('/back')
+def put_back():
+    """What stood before an entry of a voter, to be recorded again."""
+    voter, before, it = asked_voter(), number_in('before'), office.desk
+    if before not in [entry.number for entry in it.history.get(voter, ())]:
+        abort(400)
+    has, had = it.has_ballot(voter), it.has_ballot(voter, before)
+    ids = [project.id for project in office.election.held(voter, it.standing(voter, before))] if had else []
+    wanted = ('replace' if has else 'cast') if had else 'withdraw'
+    return look_at(desk.Request(g.clerk, wanted, voter, ids, number_in('seen'), before=before))
+
+
+def number_in(name):
+    """The number of an entry in a form."""
+    text = request.form.get(name, '')
+    return int(text) if text.isdecimal() and len(text) < 10 else abort(400)
+
+
+def look_at(asked, is_asked_for=False):
+    """The page on which a clerk checks a request, with what the desk will refuse; what is put back, on demand."""
     g.session.add(asked)
-    chosen = office.election.chosen(ids)
-    return page('look', 'Check before you record', asked=asked, chosen=chosen, held=ballot_of(asked.voter))
+    is_shown = asked.before is None or is_asked_for
+    return page('look', 'Check before you record', asked=asked, is_shown=is_shown,
+                chosen=office.election.chosen(asked.ids),
+                held=ballot_of(asked.voter) if asked.before is None else None,
+                is_off_roll=is_off_roll(asked.voter),
+                is_named=office.election.places_of(asked.ids) is not None)
 
 
 @app.post('/record')
@@ -212,7 +258,8 @@ def record():
 def answer(asked):
     outcome = office.desk.ask(asked)
     words = office.end() if outcome.kind == 'entry' and outcome.value[2::3] == ('shut', 'done') else None
-    return page('start', 'Answer', outcome=outcome, asked=asked, last=office.desk.last.get(asked.voter), words=words)
+    return page('start', 'Answer', outcome=outcome, asked=asked, last=office.desk.last(asked.voter),
+                words=words)
 
 
 @app.post('/settle')

@@ -24,7 +24,7 @@ OPTIONS = {
     '--roll': dict(metavar='ROLL', help='takes requests only for the voters in this file'),
     '--other-file': dict(action='store_true', help='goes on with a FILE that was corrected, as with pb_app serve'),
     '--min': dict(metavar='N', type=int, default=0, help='the smallest number of projects that a new ballot may name'),
-    '--title': dict(metavar='TEXT', help='the title of the page of the result'),
+    '--title': dict(metavar='TEXT', help='the title of the pages, and of the page of the result'),
     '--language': dict(metavar='WORDS', help='the words of the page of the result, such as words/de.words'),
     '--currency': dict(metavar='TEXT', help='the currency on the page of the result'),
     '--count': dict(metavar='OPTIONS', default='', help='the options of the count in one word, such as --count="--measure cost"'),
@@ -89,9 +89,10 @@ class Day:
         self.log = log.Log(f'{given.journal}.log')
         self.keeper = overnight.Keeper(given, self.log)
         self.keeper.compare(self.door.known[0])
-        serve = [given.program, 'serve', '--by-id', *(['--roll', given.roll] if given.roll else []), f'--min={given.min}',
-                 *['--other-file'] * given.other_file]
         self.roll = roll.Roll(given.program, given.roll) if given.roll else None
+        serve = [given.program, 'serve', '--by-id', *(['--roll', self.roll.path] if self.roll else []),
+                 f'--min={given.min}',
+                 *['--other-file'] * given.other_file]
         self.desk = desk.Desk(serve, given.file, given.journal, self.log, self.election)
         self.desk.start()
         self.keeper.try_to_keep(is_copied=False)
