@@ -57,6 +57,10 @@ STARTS = [
     ('<main>', '<form><input name="closest"><input name="getAttribute"><input name="parentElement"></form><main>', '<form> within <body>'),
     ('</head>', '<meta http-equiv="refresh" content="0;url=other.html"></head>', '<meta> that acts on the page'),
     ("<link rel='icon' href='data:,'>", "<link rel='stylesheet' href='other.css'>", '<link> to another file'),
+    ("data-project='b'><th role='rowheader' scope='row'><span class='id' dir='auto'>", "data-project='b'><th role='rowheader' scope='row'><span class='id' dir='rtl'>",
+     '<span> with a direction of its own'),
+    ("data-label='Missing'>", "data-label='Missing 9'>", 'a cell with the label “Missing 9”, which no column has'),
+    ("viewBox='0 0 10000 1'", "viewBox='0 0 3000 1'", 'a bar with another scale'),
     ("<span style='--from:0;--wide:3000'", "<span style='--from:0;--wide:3000;display:none'", '<span> with a style of its own'),
 ]
 # A text of the page, what stands in its place, and what is named, with what the page has and what the files give.
@@ -125,7 +129,7 @@ TEXTS = [
 
 
 # How many pages these make.
-COUNT = len(HIDING) + len(STARTS) + len(FIGURES) + len(TEXTS) + 8
+COUNT = len(HIDING) + len(STARTS) + len(FIGURES) + len(TEXTS) + 10
 
 
 def between(text, opening, closing):
@@ -144,6 +148,9 @@ def changed_pages(page, other):
         old, new = (text.replace(' zł', '\u00a0zł') for text in (old, new))
         assert old in page, old
         yield page.replace(old, new, 1), told
+    marked = table.replace('Library', 'Palace').replace("data-project='a'", "data-project='x'").replace("class='round' value='1'>1", "class='round' value='4'>4")
+    yield page.replace(table, f'<details>{table}</details>{marked}'), 'a row of a project with the id x|x|'
+    yield page.replace(table, f'{marked}<noscript>{table}</noscript>'), 'a second row of Well (id c)|c|'
     last = between(page, "<tr role='row' data-project='f'>", ROW_END)
     next_row = between(page, "<tr role='row' data-project='c'>", ROW_END)
     digest = between(page, '<dd><code>', '</code></dd>')
