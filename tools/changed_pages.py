@@ -1,0 +1,174 @@
+"""Pages of a result that were changed on purpose, each with what recount.html has to name. `try_recount` compares them.
+
+The election is worked by hand. Four voters share 100.00, at first 25.00 each. a costs 30.00, and v1 and v2 pay 15.00. c costs
+20.00, which v1 has left from a share of 35.00 on. e costs 20.00, which v4 pays. b costs 60.00: at a share of 37.00 v2 has 22.00
+left and v3 37.00, 1.00 too little. At 38.00 they have 61.00, but then a, b, c and e cost 130.00. So the share is 37.00, after 12
+raises, and 30.00 are left: b does not fit, and d, which costs 25.00, is added. v3 has no winner. By most votes first a and b win."""
+
+FILE = '''META
+key;value
+budget;100
+vote_type;approval
+currency;zł
+PROJECTS
+project_id;cost;name;category
+a;30;Library;parks
+b;60;Park;parks
+c;20;Well;
+d;25;Tree;sport
+e;20;Clock;sport
+f;5;Bench;health
+VOTES
+voter_id;vote
+v1;a,c
+v2;a,b,d
+v3;b
+v4;e
+'''
+OPTIONS = ['--completion', 'add1u']
+# The first row of the winners, and where the table of the winners begins and ends.
+ROW, ROW_END = "<tr role='row' data-project='a'>", '</tr>\n'
+TABLE, TABLE_END = "<table class='wide' role='table'>\n<caption role='caption'>In order of election", '</table>'
+# A row that shows another winner, and marks nothing.
+FALSE_ROW = "<tr role='row'><th role='rowheader' scope='row'><bdi dir='auto'>Palace</bdi></th><td role='cell' class='n'>30 zł</td></tr>\n"
+FALSE_TABLE = f"<table class='wide' role='table'><tbody role='rowgroup'>{FALSE_ROW}</tbody></table>"
+
+# What stands around the true table, beside which a false one stands, and the foreign part.
+HIDING = [
+    ('<details>', '</details>', '<details> within <section> under “The winners”'),
+    ('<noscript>', '</noscript>', '<noscript> within <section>'),
+    ('<template>', '</template>', '<template> within <section>'),
+    ('<dialog>', '</dialog>', '<dialog> within <section>'),
+    ('<div hidden>', '</div>', '<div> within <section>'),
+    ('<div style="display: none">', '</div>', '<div> within <section>'),
+    ("<svg class='bar'><foreignObject>", '</foreignObject></svg>', '<svg> within <section>'),
+    ("<div class='budget'>", '</div>', '<div> within <section>'),
+]
+# What stands in place of the beginning of a tag, and the foreign part.
+STARTS = [
+    ("<section class='won' aria-labelledby='winners'>", "<section class='won' aria-labelledby='winners' hidden>", '<section> with the attribute hidden'),
+    (ROW, ROW.replace('>', ' style="display: none">'), '<tr> with the attribute style'),
+    (ROW, ROW.replace('>', ' inert>'), '<tr> with the attribute inert'),
+    (ROW, FALSE_ROW + ROW, 'a row without marked figures under “The winners”: “Palace30 zł”'),
+    ('</head>', '<style>[data-project] { display: none }</style></head>', 'a second <style>'),
+    ('</main>', '<script>document.body.textContent = "Palace"</script></main>', '<script> within <main>'),
+    ('</main>', '<p style="position: fixed">Palace</p></main>', '<p> within <main>'),
+    ('</main>', '<img name="querySelectorAll"><img name="documentElement"></main>', '<img> within <main>'),
+    ('<main>', '<form><input name="closest"><input name="getAttribute"><input name="parentElement"></form><main>', '<form> within <body>'),
+    ('</head>', '<meta http-equiv="refresh" content="0;url=other.html"></head>', '<meta> that acts on the page'),
+    ("<link rel='icon' href='data:,'>", "<link rel='stylesheet' href='other.css'>", '<link> to another file'),
+    ("data-project='b'><th role='rowheader' scope='row'><span class='id' dir='auto'>", "data-project='b'><th role='rowheader' scope='row'><span class='id' dir='rtl'>",
+     '<span> with a direction of its own'),
+    ("data-label='Missing'>", "data-label='Missing 9'>", 'a cell with the label “Missing 9”, which no column has'),
+    ("viewBox='0 0 10000 1'", "viewBox='0 0 3000 1'", 'a bar with another scale'),
+    ("<span style='--from:0;--wide:3000'", "<span style='--from:0;--wide:3000;display:none'", '<span> with a style of its own'),
+]
+# A text of the page, what stands in its place, and what is named, with what the page has and what the files give.
+FIGURES = [
+    ("value='95.00'>95", "value='96.00'>96", 'what is spent|96.00|95.00'),
+    ("class='won' value='4'>4", "class='won' value='15'>15", 'the number of winners|15|4'),
+    ("class='projects' value='6'>6", "class='projects' value='7'>7", 'the number of projects|7|6'),
+    ("class='voters' value='4'>4", "class='voters' value='5'>5", 'the number of voters|5|4'),
+    ("class='left' value='5.00'>5", "class='left' value='6.00'>6", 'what is left|6.00|5.00'),
+    ("class='surplus' value='0.00'>0.00", "class='surplus' value='0.01'>0.01", 'the surplus|0.01|0.00'),
+    ("class='share' value='37.00'>37", "class='share' value='38.00'>38", 'the share of each voter|38.00|37.00'),
+    ("class='raises' value='12'>12", "class='raises' value='13'>13", 'the raises of the share|13|12'),
+    ("class='step' value='1.00'>1", "class='step' value='2.00'>2", 'each raise|2.00|1.00'),
+    ("<data value='1.00'>1", "<data value='2.00'>2", 'each raise|2.00|1.00'),
+    ("class='limit' value='1000000'>1000000", "class='limit' value='20'>20", 'the limit of raises|20|1000000'),
+    ("class='next_share' value='38.00'>38", "class='next_share' value='39.00'>39", 'the share after one raise more|39.00|38.00'),
+    ("class='next_cost' value='130.00'>130", "class='next_cost' value='131.00'>131", 'what one raise more would cost|131.00|130.00'),
+    ("<data value='60.00'>60", "<data value='61.00'>61", 'the cost of Park (id b), which one raise more would elect|61.00|60.00'),
+    ("class='round' value='1'>1", "class='round' value='2'>2", 'the round of Library (id a)|2|1'),
+    ("class='price' value='15.00'>15", "class='price' value='14.00'>14", 'the price of Library (id a)|14.00|15.00'),
+    ("class='in_full' value='2'>2", "class='in_full' value='1'>1", 'how many paid in full of Library (id a)|1|2'),
+    ("class='added' value='1'>1", "class='added' value='2'>2", 'the number of Tree (id d)|2|1'),
+    ("class='cost' value='25.00'>25", "class='cost' value='24.00'>24", 'the cost of Tree (id d)|24.00|25.00'),
+    ("class='cost' value='60.00'>60", "class='cost' value='65.00'>65", 'the cost of Park (id b)|65.00|60.00'),
+    ("class='votes' value='0'>0", "class='votes' value='3'>3", 'the votes of Bench (id f)|3|0'),
+    ("class='left' value='59.00'>59", "class='left' value='58.00'>58", 'what is left of Park (id b)|58.00|59.00'),
+    ("class='missing' value='1.00'>1", "class='missing' value='9.00'>9", 'what is missing of Park (id b)|9.00|1.00'),
+    ("class='category_won' value='2'>2", "class='category_won' value='1'>1", 'the winners of the category sport|1|2'),
+    ("class='category_cost' value='45.00'>45", "class='category_cost' value='25.00'>25", 'the cost of the winners of the category sport|25.00|45.00'),
+    ("<data value='0'>0</data><svg class='bar' viewBox='0 0 10000 1' preserveAspectRatio='none' aria-hidden='true'><rect width='2500' height='1'/></svg></th><td role='cell' class='n'><data value='1'>1",
+     "<data value='0'>0</data><svg class='bar' viewBox='0 0 10000 1' preserveAspectRatio='none' aria-hidden='true'><rect width='2500' height='1'/></svg></th><td role='cell' class='n'><data value='0'>0",
+     'the voters with 0 winners|0|1'),
+    ("class='rule_projects' value='2'>2", "class='rule_projects' value='1'>1", 'the winners by most votes|1|2'),
+    ("class='without' value='1'>1", "class='without' value='2'>2", 'the voters without a winner by this count|2|1'),
+    ("class='more_choices' value='2'>2", "class='more_choices' value='0'>0", 'the voters with more winners by this count|0|2'),
+    ("class='share' value='37.00'>", "value='37.00'>", 'the share of each voter||37.00'),
+    ('--completion add1u', '--measure cost', 'the options of the count|measure cost, completion add1,|completion add1u'),
+    ("<data class='votes' value='2'>2", "<data class='constructor' value='2'>2", 'the number constructor of Library (id a)|2|'),
+    ("<data class='votes' value='2'>2", "<data class='__proto__' value='2'>2", 'the votes of Library (id a)||2'),
+    ("data-project='a'", "data-project='constructor'", 'a row of a project with the id constructor|constructor|'),
+    ("data-project='a'", "data-project='toString'", 'the row of Library (id a)||a'),
+]
+# The same of what is shown, where no value differs.
+TEXTS = [
+    (">100 zł</data>", '>９100 zł</data>', 'the budget, as it is shown|９100 zł|100.00'),
+    (">60 zł</data>", '>９60 zł</data>', 'the cost of Park (id b), as it is shown|９60 zł|60.00'),
+    (">1.00 zł short</data>", '>٩1.00 zł short</data>', 'what is missing of Park (id b), as it is shown|٩1.00 zł short|1.00'),
+    (">4</data>", '></data>', 'as it is shown||4'),
+    (">20 zł</data>", '>20 €</data>', 'the cost of Well (id c), as it is shown|20 €|20.00'),
+    (">20 zł</data>", '><s>20 zł</s></data>', 'the cost of Well (id c), as it is shown|20 zł|20.00'),
+    (">2</data>", '>2 or more</data>', 'as it is shown|2 or more|2'),
+    (">0 zł</data>", '></data>', 'the cost of the winners of the category health, as it is shown||0.00'),
+    ("<td role='cell' class='n' data-label='Cost'><data class='cost' value='60", "<td role='cell' class='n' data-label='Cost'>9<data class='cost' value='60",
+     'the cost of Park (id b), with what stands beside it|960 zł|60.00'),
+    (" on <data class='projects' value='6'>", " on 9<data class='projects' value='6'>", 'the number of projects, with what stands beside it|96 projects|6'),
+    ("95 zł</data> in all", "95 zł</data>,000 in all", 'what is spent, with what stands beside it|95 zł,000|95.00'),
+    (">60 zł</data>", '>\u202e60 zł</data>', 'the cost of Park (id b), with what stands beside it|60|60.00'),
+    ("value='45.00'>45 zł</data></td>", "value='45.00'>45 zł</data></td><td role='cell' class='n'>9</td>", 'a cell without a figure|9|'),
+    ("<rect width='9833'", "<rect width='10000'", 'the bar of Park (id b)|10000|9833'),
+    ("<rect width='4500'", "<rect width='9500'", 'the bar of the category sport|9500|4500'),
+    ('--wide:3000', '--wide:9000', 'the picture of the budget|--wide:9000|--wide:3000'),
+    ('>Library</bdi><svg', '>Palace</bdi><svg', 'the name of the project with the id a|Palace|Library'),
+    ("dir='auto'>parks</bdi></td>", "dir='auto'>sport</bdi></td>", 'the category of Library (id a)|sport|parks'),
+    ("dir='auto'>sport</bdi><svg", "dir='auto'>parks</bdi><svg", 'the name of a category|parks|sport'),
+]
+
+
+# How many pages these make.
+COUNT = len(HIDING) + len(STARTS) + len(FIGURES) + len(TEXTS) + 10
+
+
+def between(text, opening, closing):
+    """A part of a text from the first opening to the next closing, with both."""
+    start = text.index(opening)
+    return text[start:text.index(closing, start) + len(closing)]
+
+
+def changed_pages(page, other):
+    """Each change of the true page with what has to be named of it; `other` is the page of another election."""
+    table, row = between(page, TABLE, TABLE_END), between(page, ROW, ROW_END)
+    for opening, closing, told in HIDING:
+        yield page.replace(table, f'{opening}{table}{closing}{FALSE_TABLE}'), told
+    for old, new, told in [*STARTS, *FIGURES, *TEXTS]:
+        # The page keeps an amount and its currency in one line.
+        old, new = (text.replace(' zł', '\u00a0zł') for text in (old, new))
+        assert old in page, old
+        yield page.replace(old, new, 1), told
+    marked = table.replace('Library', 'Palace').replace("data-project='a'", "data-project='x'").replace("class='round' value='1'>1", "class='round' value='4'>4")
+    yield page.replace(table, f'<details>{table}</details>{marked}'), 'a row of a project with the id x|x|'
+    yield page.replace(table, f'{marked}<noscript>{table}</noscript>'), 'a second row of Well (id c)|c|'
+    last = between(page, "<tr role='row' data-project='f'>", ROW_END)
+    next_row = between(page, "<tr role='row' data-project='c'>", ROW_END)
+    digest = between(page, '<dd><code>', '</code></dd>')
+    yield page.replace(row, ''), 'the row of Library (id a)||a'
+    yield page.replace(last, ''), 'the row of Bench (id f)||f'
+    yield page.replace(row, row + row), 'a second row of Library (id a)|a|'
+    yield page.replace(row, '').replace(next_row, next_row + row), 'the order of the winners|Well (id c), Library (id a)|Library (id a), Well (id c)'
+    yield page.replace(digest, f'<dd><code>{"0" * 64}</code></dd>'), f'the digest of the file|{"0" * 64}|{digest[10:74]}'
+    yield page.replace(digest, digest + digest), f'the digest of the journal|{digest[10:74]}|'
+    yield page.replace(digest, f'<dd><code>{digest[10:18]}</code></dd>'), f'the digest of the file|{digest[10:18]}|{digest[10:74]}'
+    yield other, 'the budget|120.00|100.00'
+
+
+def is_told(told, found):
+    """Whether what has to be named is among what was found: as a foreign part, or as a difference with both sides."""
+    if '|' not in told:
+        return any(told in part for part in found['foreign'])
+    place, *sides = told.split('|')
+    def shows(side, fields):
+        return side in fields[0] if side and fields else not side and not (fields and fields[0])
+    return any(it['place'].endswith(place) and all(map(shows, sides, (it['its'], it['mine']))) for it in found['differences'])
