@@ -430,6 +430,19 @@ def try_overnight(program, work):
     told, status = at_terminal(window, passphrase_of('Head'))
     see(status == 1 and 'city.journal is gone' in told and str(copy) in told and 'log' not in told and not journal.exists(),
         'a journal that is gone is told with the newest copy', told)
+    see('Entries that were answered: 2. Get it back, or restore the newest copy, which has 2 entries, in a new folder: '
+        in told, 'and with how many entries were answered, and the copy has', told)
+    shorter = text[:text.index(b'\n2;') + 1]
+    for names, best in (({'.kept': text}, '.kept'), ({'.kept1': text}, '.kept1'),
+                        ({'.kept': shorter, '.kept1': text, '.kept2': shorter}, '.kept1')):
+        for name, data in names.items():
+            (folder / f'city.journal{name}').write_bytes(data)
+        told, status = at_terminal(window, passphrase_of('Head'))
+        see(status == 1 and 'city.journal is gone' in told and f'city.journal{best} is here, with 2 entries' in told
+            and str(copy) not in told and 'passphrase' not in told and not journal.exists(),
+            f'where {best} lies beside, it is named', told)
+        for name in names:
+            (folder / f'city.journal{name}').unlink()
     journal.write_bytes(text)
     with window.start():
         ann = Clerk(window)

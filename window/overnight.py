@@ -114,10 +114,18 @@ class Keeper:
                     'Give the right journal this name.']
         newest = self.copies.newest() if self.copies else None
         if told and not os.path.exists(given.journal):
-            more = f', or restore the newest copy in a new folder: {newest}' if newest else ''
-            raise Fault(f'{told[0]} Get it back{more}')
+            if kept := copies.kept_beside(given.journal):
+                raise Fault(f'{told[0]} But {kept}')
+            answered = f' Entries that were answered: {self.log.entries}.' if self.log.entries else ''
+            more = f', or restore the newest copy{self.size_of(newest)} in a new folder: {newest}' if newest else ''
+            raise Fault(f'{told[0]}{answered} Get it back{more}')
         if told:
             confirm(told, newest, head, self.log)
+
+    def size_of(self, copy):
+        """How many entries a copy has, in words; nothing where that cannot be read."""
+        count = copies.count_in(os.path.join(copy, os.path.basename(self.given.journal)))
+        return '' if count is None else f', which has {count} entries,'
 
     def files(self):
         """The files of the office as they are now, by their names, and what JOURNAL.window has of them."""
