@@ -378,7 +378,8 @@ def try_overnight(program, work):
     window, folder, copies = made_office(program, work, 'night')
     copy, journal = copies_of(copies)[0], window.journal
     kept = {it: it.read_bytes() for it in folder.iterdir() if it.is_file()}
-    words = ['city.pb', 'city.journal', '--clerks', 'clerks.json', '--backup', copies, '--listen', f'127.0.0.1:{window.port}']
+    given = ['city.pb', 'city.journal', '--clerks', 'clerks.json', '--backup', copies,
+             '--listen', f'127.0.0.1:{window.port}']
     text, city = journal.read_bytes(), (folder / 'city.pb').read_bytes()
     since = r'has changed since \d+ \w+ 20\d\d, \d\d:\d\d: '
     for what, path, data, said in (
@@ -389,10 +390,17 @@ def try_overnight(program, work):
              + hashlib.sha256(city).hexdigest())):
         see(path.read_bytes() != data, what)
         path.write_bytes(data)
-        done = run(program, folder, *words)
+        done = run(program, folder, *given)
         see(done.returncode == 1 and re.search(said, done.stderr) and f'The newest copy is {copy}.' in done.stderr
             and 'open at' not in done.stdout and 'Traceback' not in done.stderr, f'{what} is told', done)
         see(path.read_bytes() == data and copies_of(copies) == [copy], 'and nothing was opened')
+        now, lost = {'a journal that was cut': (1, ' Entry 2 was answered, and will be lost if you go on.'),
+                     'an empty journal': (0, ' Entries 1 to 2 were answered, and will be lost if you go on.'),
+                     'another ballot': (2, '')}.get(what, (None, ''))
+        words = (f'run.py: Its entries now: {now}.{lost} To get back what the newest copy has (its entries: 2): '
+                 f'make a new folder, and type there: run.py --restore {copy}\n')
+        see(words in done.stderr if now is not None else 'will be lost' not in done.stderr,
+            'and what would be lost, and how to get it back', done)
         told, status = at_terminal(window, 'wrong it is and long')
         see(status == 1 and re.search(said, told) and "not the head clerk's passphrase" in told and 'open at' not in told, 'not by another passphrase', told)
         told, status = at_terminal(window, passphrase_of('Head'))
@@ -416,9 +424,11 @@ def try_overnight(program, work):
     # A journal that was cut behind what JOURNAL.window has: the log knows more.
     (folder / 'city.journal.window').unlink()
     journal.write_bytes(text[:text.index(b'\n2;') + 1])
-    done = run(program, folder, *words)
+    done = run(program, folder, *given)
     see(done.returncode == 1 and 'lacks entry 2, which was answered (its entries: 1)' in done.stderr and str(copy) in done.stderr
         and 'Give the right journal this name' in done.stderr, 'a journal with less than the log says is told', done)
+    see('Its entries now: 1. Entry 2 was answered, and will be lost if you go on.' in done.stderr,
+        'and what would be lost', done)
     told, status = at_terminal(window, passphrase_of('Head'))
     see(status is None and 'Entries in the journal: 1.' in told, 'and opened when the head clerk confirms', told)
     ended(window)
@@ -430,7 +440,7 @@ def try_overnight(program, work):
     told, status = at_terminal(window, passphrase_of('Head'))
     see(status == 1 and 'city.journal is gone' in told and str(copy) in told and 'log' not in told and not journal.exists(),
         'a journal that is gone is told with the newest copy', told)
-    see('Entries that were answered: 2. Get it back, or restore the newest copy, which has 2 entries, in a new folder: '
+    see('Entries that were answered: 2. Get it back, or restore the newest copy (its entries: 2) in a new folder: '
         in told, 'and with how many entries were answered, and the copy has', told)
     shorter = text[:text.index(b'\n2;') + 1]
     for names, best in (({'.kept': text}, '.kept'), ({'.kept1': text}, '.kept1'),
@@ -438,7 +448,7 @@ def try_overnight(program, work):
         for name, data in names.items():
             (folder / f'city.journal{name}').write_bytes(data)
         told, status = at_terminal(window, passphrase_of('Head'))
-        see(status == 1 and 'city.journal is gone' in told and f'city.journal{best} is here, with 2 entries' in told
+        see(status == 1 and 'city.journal is gone' in told and f'city.journal{best} is here (its entries: 2)' in told
             and str(copy) not in told and 'passphrase' not in told and not journal.exists(),
             f'where {best} lies beside, it is named', told)
         for name in names:

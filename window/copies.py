@@ -70,7 +70,7 @@ def kept_beside(journal):
     counts = [(count_in(os.path.join(folder, it)) or 0, it) for it in os.listdir(folder) if re.fullmatch(form, it)]
     if counts:
         count, kept = max(counts)
-        return (f'{kept} is here, with {count} entries: {name} was moved, replaced or changed while the desk ran. Copy '
+        return (f'{kept} is here (its entries: {count}): {name} was moved, replaced or changed while the desk ran. Copy '
                 f'{name}, if it is there, and every .kept file to another folder. Give the one with the most entries '
                 f'the name {name}, and leave no .kept file here. Then start the window again')
 

@@ -104,11 +104,8 @@ class Keeper:
     def compare(self, head):
         """Tells what changed overnight, and lets the head clerk confirm it."""
         state, given = load(self.given.journal), self.given
-        told, found = changes(state, given, self.now) if state else [], b''
-        with contextlib.suppress(FileNotFoundError):
-            with open(given.journal, 'rb') as file:
-                found = copies.text_of(file.read())
-        count = copies.entries_of(found)
+        told, count = changes(state, given, self.now) if state else [], copies.count_in(given.journal) or 0
+        is_less = bool(told and journal_changed(state, given.journal))
         if not told and count < self.log.entries:
             told = [f'{given.journal} lacks entry {self.log.entries}, which was answered (its entries: {count}). '
                     'Give the right journal this name.']
@@ -119,13 +116,26 @@ class Keeper:
             answered = f' Entries that were answered: {self.log.entries}.' if self.log.entries else ''
             more = f', or restore the newest copy{self.size_of(newest)} in a new folder: {newest}' if newest else ''
             raise Fault(f'{told[0]}{answered} Get it back{more}')
+        if is_less or count < self.log.entries:
+            told.append(self.losses(count, self.log.entries or state['entries'], newest))
         if told:
             confirm(told, newest, head, self.log)
+
+    def losses(self, count, known, newest):
+        """What will be lost if the head clerk goes on with a journal that is not as it was, in words."""
+        words = f'Its entries now: {count}.'
+        if count < known:
+            lost = f'Entry {known} was' if count + 1 == known else f'Entries {count + 1} to {known} were'
+            words += f' {lost} answered, and will be lost if you go on.'
+        if newest:
+            words += (f' To get back what the newest copy has{self.size_of(newest)}: make a new folder, '
+                      f'and type there: run.py --restore {newest}')
+        return words
 
     def size_of(self, copy):
         """How many entries a copy has, in words; nothing where that cannot be read."""
         count = copies.count_in(os.path.join(copy, os.path.basename(self.given.journal)))
-        return '' if count is None else f', which has {count} entries,'
+        return '' if count is None else f' (its entries: {count})'
 
     def files(self):
         """The files of the office as they are now, by their names, and what JOURNAL.window has of them."""
