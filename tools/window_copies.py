@@ -142,11 +142,46 @@ def try_copies(program, work):
     before = copies_of(copies)
     window.journal.write_bytes(window.journal.read_bytes().replace(b';cast;', b';cost;'))
     done = run(program, folder, 'city.pb', 'city.journal', '--backup', copies, '--copy')
+    see(done.returncode == 1 and 'No copy was made' in done.stderr and 'has changed since' in done.stderr
+        and copies_of(copies) == before, 'a journal that was edited is no copy', done)
+    (folder / 'city.journal.window').unlink()
+    done = run(program, folder, 'city.pb', 'city.journal', '--backup', copies, '--copy')
     see(done.returncode == 1 and 'fault;audit;' in done.stderr and 'Traceback' not in done.stderr and copies_of(copies) == before
         and len(list(copies.iterdir())) == len(before), 'a journal that no audit takes is no copy', done)
     done = run(program, folder, 'city.pb', 'city.journal', '--clerks', 'clerks.json', '--backup', folder / 'nowhere')
     see(done.returncode == 2 and f'{folder}/nowhere is not a folder' in done.stderr, 'a folder that is not there is told at the start', done)
     try_hours(program, work)
+    try_beside(program, work)
+
+
+def try_beside(program, work):
+    """A copy by hand beside a window that runs: a journal that is not the desk's any more is not copied."""
+    window, folder, copies = made_office(program, work, 'beside')
+    copy = lambda: run(program, folder, 'city.pb', 'city.journal', '--clerks', 'clerks.json', '--backup', copies, '--copy')
+    with window.start():
+        ann = Clerk(window)
+        ann.sign_in('Ann'), ann.ask('cast', 'v3', ['12']), ann.ask('cast', 'v4', ['7'])
+        running = window.journal.read_bytes()
+        text = running.rstrip(b'\n') + b'\n'      # Behind it `serve` writes ahead.
+        done, before = copy(), copies_of(copies)
+        see(done.returncode == 0 and (before[-1] / 'city.journal').read_bytes() == text, 'a copy beside a window', done)
+        for what, data, said in (
+                ('an older journal', text[:text.index(b'\n4;') + 1], 'lacks entry 4, which was answered .its entries: 3.'),
+                ('a journal from before today', text[:text.index(b'\n2;') + 1], 'has changed since .*: it is shorter'),
+                ('an edited journal', text.replace(b';v1;0;', b';v1;1;'), 'has changed since .*: what it had then')):
+            see(data != text, what)
+            window.journal.write_bytes(data)
+            done = copy()
+            see(done.returncode == 1 and re.search(f'run.py: No copy was made: .*{said}', done.stderr)
+                and 'Copied' not in done.stdout and copies_of(copies) == before, f'{what} is no copy', done)
+        window.journal.write_bytes(running)
+        (folder / 'city.journal.kept').write_bytes(text)
+        done = copy()
+        see(done.returncode == 1 and 'city.journal.kept is here (its entries: 4)' in done.stderr
+            and copies_of(copies) == before, 'nor is a journal beside what serve kept', done)
+        (folder / 'city.journal.kept').unlink()
+        see(copy().returncode == 0 and len(copies_of(copies)) == len(before) + 1, 'the right journal is')
+        window.end()
 
 
 def try_many(program, folder, copies, copy):

@@ -1,7 +1,7 @@
 """What changed overnight: JOURNAL.window has what a day left behind; the next morning is compared with it."""
 import contextlib, datetime, getpass, hashlib, json, os, sys, threading
 
-import clerks, copies
+import clerks, copies, log
 from election import Fault
 
 # A minute, and after how many seconds the watch looks whether the folder of the copies is there.
@@ -147,6 +147,19 @@ class Keeper:
                  'entries': copies.entries_of(text), **self.now, 'has_key': bool(self.given.cert),
                  'parts': {part: it for part, it in parts.items() if it in files}}
         return {**files, f'{name}.window': (json.dumps(state, indent=1) + '\n').encode()}
+
+    def copy_beside(self):
+        """A copy that is made beside a window that may run. A journal that is not the desk's is not copied."""
+        journal, state = self.given.journal, load(self.given.journal)
+        told, kept = journal_changed(state, journal) if state else [], copies.kept_beside(journal)
+        if told or kept:
+            raise Fault(f'No copy was made: {told[0] if told else kept}')
+        files = self.files()
+        name = os.path.basename(journal)
+        count, known = copies.entries_of(files[name]), log.entries_in(files.get(f'{name}.log', b'').splitlines())
+        if count < known:
+            raise Fault(f'No copy was made: {journal} lacks entry {known}, which was answered (its entries: {count})')
+        return self.copies.make(files)
 
     def keep(self, is_copied=True, is_evening=False):
         """Writes JOURNAL.window, and makes a copy. Gives the path of the copy."""

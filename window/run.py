@@ -163,7 +163,7 @@ def opened(given):
         return print('Leave the other machine switched off. Then start the window as each morning.')
     if given.copy:
         keeper = overnight.Keeper(given, None)
-        keeper.warn(whole := keeper.copies.make(keeper.files()))
+        keeper.warn(whole := keeper.copy_beside())
         return print(f'Copied to {whole}')
     tls = tls_of(given)
     return Day(given), tls
