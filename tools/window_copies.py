@@ -496,6 +496,30 @@ def try_overnight(program, work):
         window.start()
         see('Entries in the journal: 3.' in window.first, 'a day that a crash ended has nothing to tell', window.first)
         window.end()
+    try_overwritten(program, work)
+
+
+def try_overwritten(program, work):
+    """A journal that was overwritten during the day: in the evening nothing is to be written down."""
+    for is_asked in (True, False):
+        window, folder, copies = made_office(program, work, f'overwritten {is_asked}')
+        with window.start():
+            ann, text = Clerk(window), window.journal.read_bytes().rstrip(b'\n') + b'\n'
+            ann.sign_in('Ann'), ann.ask('cast', 'v3', ['12'])
+            whole, before = window.journal.read_bytes().rstrip(b'\n') + b'\n', copies_of(copies)
+            window.journal.write_bytes(text + b'3;1;cast;v8;1;done\n4;1;cast;v9;1;done\n')
+            if is_asked:
+                see('not known' in ann.ask('cast', 'v4', ['7']).seen, 'the desk stops')
+            said, status = window.end()
+            digest = hashlib.sha256(window.journal.read_bytes()).hexdigest()
+        kept = folder / 'city.journal.kept'
+        see(kept.exists() and kept.read_bytes() == whole, 'serve has kept the text', *folder.iterdir())
+        see(status == 1 and 'write both down' not in said and digest not in said and 'Entries: ' not in said
+            and f"Write nothing down: {window.journal} is not the desk's. "
+            'city.journal.kept is here (its entries: 3)' in said, 'the impostor is not to be written down', said, status)
+        see(window.log()[-1]['what'] == 'not-copied' and [it for it in window.log() if it['what'] == 'ended'
+            and 'digest' in it][-1]['digest'] is None, 'nor is its digest in the log', *window.log()[-3:])
+        see('Copied' not in said and copies_of(copies) == before, 'nor is it copied', said, *copies_of(copies))
 
 
 GOOD = '''file = "city.pb"

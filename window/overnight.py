@@ -167,6 +167,8 @@ class Keeper:
             state, path, failure, whole = load(self.given.journal), f'{self.given.journal}.window', None, None
             if told := journal_changed(state, self.given.journal) if state and is_copied else []:
                 raise Fault(told[0])
+            if is_copied and copies.kept_beside(self.given.journal):
+                raise Fault(f"{self.given.journal} is not the desk's: a .kept file is here")
             files = self.files()
             try:
                 with contextlib.suppress(FileNotFoundError):

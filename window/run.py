@@ -108,9 +108,13 @@ class Day:
                 self.keeper.is_over.set()
             self.log.tell_omitted(is_last=True)
             try:
-                digest, entries = overnight.file_digest(self.given.journal), self.desk.newest.number
+                kept = copies.kept_beside(self.given.journal)
+                digest = None if kept else overnight.file_digest(self.given.journal)
+                entries = self.desk.newest.number
                 self.log.write('ended', entries=entries, digest=digest)
-                if digest:
+                if kept:
+                    print(f"\nWrite nothing down: {self.given.journal} is not the desk's. {kept}", flush=True)
+                elif digest:
                     print(f'\nEntries: {entries}, sha256 {digest}: write both down', flush=True)
                 whole = self.keeper.keep(is_evening=True)
                 if whole:
