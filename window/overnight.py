@@ -1,5 +1,5 @@
 """What changed overnight: JOURNAL.window has what a day left behind; the next morning is compared with it."""
-import contextlib, datetime, getpass, hashlib, json, os, sys, threading
+import contextlib, datetime, getpass, hashlib, json, os, shutil, subprocess, sys, tempfile, threading
 
 import clerks, copies, log
 from election import Fault
@@ -110,16 +110,32 @@ class Keeper:
             told = [f'{given.journal} lacks entry {self.log.entries}, which was answered (its entries: {count}). '
                     'Give the right journal this name.']
         newest = self.copies.newest() if self.copies else None
+        if kept := copies.kept_beside(given.journal):
+            raise Fault(kept if os.path.exists(given.journal) or not told else f'{told[0]} But {kept}')
         if told and not os.path.exists(given.journal):
-            if kept := copies.kept_beside(given.journal):
-                raise Fault(f'{told[0]} But {kept}')
             answered = f' Entries that were answered: {self.log.entries}.' if self.log.entries else ''
             more = f', or restore the newest copy{self.size_of(newest)} in a new folder: {newest}' if newest else ''
             raise Fault(f'{told[0]}{answered} Get it back{more}')
         if is_less or count < self.log.entries:
             told.append(self.losses(count, self.log.entries or state['entries'], newest))
         if told:
+            self.try_out()
             confirm(told, newest, head, self.log)
+
+    def try_out(self):
+        """Has `serve` open a copy of the journal. What no passphrase can open is so refused before one is asked for:
+        a journal that is not legal, and another FILE."""
+        given, name = self.given, os.path.basename(self.given.journal)
+        with tempfile.TemporaryDirectory() as folder:
+            copy = os.path.join(folder, name)
+            for end in ('', '.file'):
+                with contextlib.suppress(FileNotFoundError):
+                    shutil.copy(given.journal + end, copy + end)
+            command = [given.program, 'serve', '--by-id', *['--other-file'] * given.other_file, given.file, copy]
+            done = subprocess.run(command, stdin=subprocess.DEVNULL, capture_output=True)
+        if done.stdout.startswith((b'fault;audit', b'fault;other-file')):
+            words = (done.stdout + done.stderr).decode(errors='replace').strip()
+            raise Fault(words.replace(copy, given.journal))
 
     def losses(self, count, known, newest):
         """What will be lost if the head clerk goes on with a journal that is not as it was, in words."""
