@@ -1,7 +1,7 @@
 """What changed overnight: JOURNAL.window has what a day left behind; the next morning is compared with it."""
-import contextlib, datetime, getpass, hashlib, json, os, shutil, subprocess, sys, tempfile, threading
+import contextlib, datetime, getpass, hashlib, json, os, shutil, subprocess, sys, threading
 
-import clerks, copies, log
+import clerks, copies, log, roll
 from election import Fault
 
 # A minute, and after how many seconds the watch looks whether the folder of the copies is there.
@@ -126,7 +126,7 @@ class Keeper:
         """Has `serve` open a copy of the journal. What no passphrase can open is so refused before one is asked for:
         a journal that is not legal, and another FILE."""
         given, name = self.given, os.path.basename(self.given.journal)
-        with tempfile.TemporaryDirectory() as folder:
+        with roll.own_folder() as folder:
             copy = os.path.join(folder, name)
             for end in ('', '.file'):
                 with contextlib.suppress(FileNotFoundError):

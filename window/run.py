@@ -87,6 +87,7 @@ class Day:
         self.door, self.sessions, self.ending = sign_in.Door(given.clerks), sessions.Sessions(), threading.Lock()
         self.election = election.Election(given.program, given.file, given.min)
         self.log = log.Log(f'{given.journal}.log')
+        roll.clear_folders()
         self.keeper = overnight.Keeper(given, self.log)
         self.keeper.compare(self.door.known[0])
         self.roll = roll.Roll(given.program, given.roll) if given.roll else None
