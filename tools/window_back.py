@@ -126,6 +126,8 @@ def try_entries(window, ann, head):
         window.entries())
     page = look_back(head, 'v9', 3)
     see('Before entry 3 this voter had no ballot.' in page.seen, 'where none stood', page.seen)
+    see('Put back: no ballot' in page.seen.split('had no ballot')[1] and 'Withdraw' not in page.seen,
+        'the button has the same name as what was pressed', page.seen)
     head.record(page)
     see(window.entries()[-1] == ['8', '0', 'withdraw', 'v9', '', 'done'], 'the ballot is withdrawn',
         window.entries()[-1])

@@ -142,11 +142,46 @@ def try_copies(program, work):
     before = copies_of(copies)
     window.journal.write_bytes(window.journal.read_bytes().replace(b';cast;', b';cost;'))
     done = run(program, folder, 'city.pb', 'city.journal', '--backup', copies, '--copy')
+    see(done.returncode == 1 and 'No copy was made' in done.stderr and 'has changed since' in done.stderr
+        and copies_of(copies) == before, 'a journal that was edited is no copy', done)
+    (folder / 'city.journal.window').unlink()
+    done = run(program, folder, 'city.pb', 'city.journal', '--backup', copies, '--copy')
     see(done.returncode == 1 and 'fault;audit;' in done.stderr and 'Traceback' not in done.stderr and copies_of(copies) == before
         and len(list(copies.iterdir())) == len(before), 'a journal that no audit takes is no copy', done)
     done = run(program, folder, 'city.pb', 'city.journal', '--clerks', 'clerks.json', '--backup', folder / 'nowhere')
     see(done.returncode == 2 and f'{folder}/nowhere is not a folder' in done.stderr, 'a folder that is not there is told at the start', done)
     try_hours(program, work)
+    try_beside(program, work)
+
+
+def try_beside(program, work):
+    """A copy by hand beside a window that runs: a journal that is not the desk's any more is not copied."""
+    window, folder, copies = made_office(program, work, 'beside')
+    copy = lambda: run(program, folder, 'city.pb', 'city.journal', '--clerks', 'clerks.json', '--backup', copies, '--copy')
+    with window.start():
+        ann = Clerk(window)
+        ann.sign_in('Ann'), ann.ask('cast', 'v3', ['12']), ann.ask('cast', 'v4', ['7'])
+        running = window.journal.read_bytes()
+        text = running.rstrip(b'\n') + b'\n'      # Behind it `serve` writes ahead.
+        done, before = copy(), copies_of(copies)
+        see(done.returncode == 0 and (before[-1] / 'city.journal').read_bytes() == text, 'a copy beside a window', done)
+        for what, data, said in (
+                ('an older journal', text[:text.index(b'\n4;') + 1], 'lacks entry 4, which was answered .its entries: 3.'),
+                ('a journal from before today', text[:text.index(b'\n2;') + 1], 'has changed since .*: it is shorter'),
+                ('an edited journal', text.replace(b';v1;0;', b';v1;1;'), 'has changed since .*: what it had then')):
+            see(data != text, what)
+            window.journal.write_bytes(data)
+            done = copy()
+            see(done.returncode == 1 and re.search(f'run.py: No copy was made: .*{said}', done.stderr)
+                and 'Copied' not in done.stdout and copies_of(copies) == before, f'{what} is no copy', done)
+        window.journal.write_bytes(running)
+        (folder / 'city.journal.kept').write_bytes(text)
+        done = copy()
+        see(done.returncode == 1 and 'city.journal.kept is here (its entries: 4)' in done.stderr
+            and copies_of(copies) == before, 'nor is a journal beside what serve kept', done)
+        (folder / 'city.journal.kept').unlink()
+        see(copy().returncode == 0 and len(copies_of(copies)) == len(before) + 1, 'the right journal is')
+        window.end()
 
 
 def try_many(program, folder, copies, copy):
@@ -378,24 +413,34 @@ def try_overnight(program, work):
     window, folder, copies = made_office(program, work, 'night')
     copy, journal = copies_of(copies)[0], window.journal
     kept = {it: it.read_bytes() for it in folder.iterdir() if it.is_file()}
-    words = ['city.pb', 'city.journal', '--clerks', 'clerks.json', '--backup', copies, '--listen', f'127.0.0.1:{window.port}']
+    words = ['city.pb', 'city.journal', '--clerks', 'clerks.json', '--backup', copies,
+             '--listen', f'127.0.0.1:{window.port}']
+    given = words
     text, city = journal.read_bytes(), (folder / 'city.pb').read_bytes()
     since = r'has changed since \d+ \w+ 20\d\d, \d\d:\d\d: '
     for what, path, data, said in (
             ('another ballot', journal, text.replace(b';v1;0;', b';v1;1;'), since + 'what it had then is not the same. Its entries then: 2.'),
             ('a journal that was cut', journal, text[:text.index(b'\n2;') + 1], since + 'it is shorter. Its entries then: 2.'),
             ('an empty journal', journal, b'', since + 'it is shorter'),
-            ('another FILE', folder / 'city.pb', city.replace(b'Library', b'Theatre'), 'city.pb has changed since .*: its SHA-256 was '
-             + hashlib.sha256(city).hexdigest())):
+            ('another FILE, as was told', folder / 'city.pb', city.replace(b'Library', b'Theatre'),
+             'city.pb has changed since .*: its SHA-256 was ' + hashlib.sha256(city).hexdigest())):
+        given = [*words, *['--other-file'] * (path != journal)]
         see(path.read_bytes() != data, what)
         path.write_bytes(data)
-        done = run(program, folder, *words)
+        done = run(program, folder, *given)
         see(done.returncode == 1 and re.search(said, done.stderr) and f'The newest copy is {copy}.' in done.stderr
             and 'open at' not in done.stdout and 'Traceback' not in done.stderr, f'{what} is told', done)
         see(path.read_bytes() == data and copies_of(copies) == [copy], 'and nothing was opened')
-        told, status = at_terminal(window, 'wrong it is and long')
+        now, lost = {'a journal that was cut': (1, ' Entry 2 was answered, and will be lost if you go on.'),
+                     'an empty journal': (0, ' Entries 1 to 2 were answered, and will be lost if you go on.'),
+                     'another ballot': (2, '')}.get(what, (None, ''))
+        loss = (f'run.py: Its entries now: {now}.{lost} To get back what the newest copy has (its entries: 2): '
+                f'make a new folder, and type there: run.py --restore {copy}\n')
+        see(loss in done.stderr if now is not None else 'will be lost' not in done.stderr,
+            'and what would be lost, and how to get it back', done)
+        told, status = at_terminal(window, 'wrong it is and long', given)
         see(status == 1 and re.search(said, told) and "not the head clerk's passphrase" in told and 'open at' not in told, 'not by another passphrase', told)
-        told, status = at_terminal(window, passphrase_of('Head'))
+        told, status = at_terminal(window, passphrase_of('Head'), given)
         if what in ('another ballot', 'a journal that was cut'):
             see(status is None and told.index('The newest copy') < told.index('open at'), f'{what} is opened when the head clerk confirms', told)
             said, status = ended(window)
@@ -404,21 +449,23 @@ def try_overnight(program, work):
                 see('changed' not in window.first, 'and is asked once')
                 window.end()
         else:
-            see('Traceback' not in told and (status == 1) == (what == 'another FILE'), 'a fault of serve is told as before', told, status)
-            if status is None:
-                ended(window)
+            see('Traceback' not in told and status is None, 'so is this', told, status)
+            ended(window)
         for it in [it for it in folder.iterdir() if it.is_file() and it not in kept]:
             it.unlink()
         for it, data in kept.items():
             it.write_bytes(data)
         for it in set(copies_of(copies)) - {copy}:
             shutil.rmtree(it)
+    try_unopenable(window, folder, kept)
     # A journal that was cut behind what JOURNAL.window has: the log knows more.
     (folder / 'city.journal.window').unlink()
     journal.write_bytes(text[:text.index(b'\n2;') + 1])
-    done = run(program, folder, *words)
+    done = run(program, folder, *given)
     see(done.returncode == 1 and 'lacks entry 2, which was answered (its entries: 1)' in done.stderr and str(copy) in done.stderr
         and 'Give the right journal this name' in done.stderr, 'a journal with less than the log says is told', done)
+    see('Its entries now: 1. Entry 2 was answered, and will be lost if you go on.' in done.stderr,
+        'and what would be lost', done)
     told, status = at_terminal(window, passphrase_of('Head'))
     see(status is None and 'Entries in the journal: 1.' in told, 'and opened when the head clerk confirms', told)
     ended(window)
@@ -430,6 +477,19 @@ def try_overnight(program, work):
     told, status = at_terminal(window, passphrase_of('Head'))
     see(status == 1 and 'city.journal is gone' in told and str(copy) in told and 'log' not in told and not journal.exists(),
         'a journal that is gone is told with the newest copy', told)
+    see('Entries that were answered: 2. Get it back, or restore the newest copy (its entries: 2) in a new folder: '
+        in told, 'and with how many entries were answered, and the copy has', told)
+    shorter = text[:text.index(b'\n2;') + 1]
+    for names, best in (({'.kept': text}, '.kept'), ({'.kept1': text}, '.kept1'),
+                        ({'.kept': shorter, '.kept1': text, '.kept2': shorter}, '.kept1')):
+        for name, data in names.items():
+            (folder / f'city.journal{name}').write_bytes(data)
+        told, status = at_terminal(window, passphrase_of('Head'))
+        see(status == 1 and 'city.journal is gone' in told and f'city.journal{best} is here (its entries: 2)' in told
+            and str(copy) not in told and 'passphrase' not in told and not journal.exists(),
+            f'where {best} lies beside, it is named', told)
+        for name in names:
+            (folder / f'city.journal{name}').unlink()
     journal.write_bytes(text)
     with window.start():
         ann = Clerk(window)
@@ -438,6 +498,59 @@ def try_overnight(program, work):
         window.start()
         see('Entries in the journal: 3.' in window.first, 'a day that a crash ended has nothing to tell', window.first)
         window.end()
+    try_overwritten(program, work)
+
+
+def try_unopenable(window, folder, kept):
+    """What no passphrase can open is refused before one is asked for, with the words of `serve`."""
+    text, city = window.journal.read_bytes(), (folder / 'city.pb').read_bytes()
+    cut = text[:text.index(b'\n2;') + 1]
+    for what, name, data, said in (
+            ('an illegal journal', 'city.journal', text.replace(b';cast;', b';cost;'),
+             rf'fault;audit;.*\n{window.journal}: line 2'),
+            ('another FILE', 'city.pb', city.replace(b'Library', b'Theatre'),
+             rf'fault;other-file\s+{window.journal} was made with another .pb file'),
+            ('a kept journal', 'city.journal.kept', text, r'city\.journal\.kept is here .its entries: 2.'),
+            ('another kept one', 'city.journal.kept1', text, r'city\.journal\.kept1 is here .its entries: 2.')):
+        if 'kept' in name:
+            window.journal.write_bytes(cut)
+        (folder / name).write_bytes(data)
+        told, status = at_terminal(window, passphrase_of('Head'))
+        see(status == 1 and re.search(said, told.replace('\r', '')) and 'the passphrase' not in told,
+            f'{what} is refused before a passphrase is asked for', told, status)
+        for it in [it for it in folder.iterdir() if it.is_file() and it not in kept]:
+            it.unlink()
+        for it, before in kept.items():
+            it.write_bytes(before)
+    # Half a row behind an empty line, as a power cut leaves it, is repaired by `serve`: so the head clerk is asked.
+    window.journal.write_bytes(cut + b'\n2;1;ca')
+    told, status = at_terminal(window, 'wrong it is and long')
+    see(status == 1 and 'the passphrase' in told and 'fault' not in told, 'what serve repairs is no such fault', told)
+    for it, before in kept.items():
+        it.write_bytes(before)
+
+
+def try_overwritten(program, work):
+    """A journal that was overwritten during the day: in the evening nothing is to be written down."""
+    for is_asked in (True, False):
+        window, folder, copies = made_office(program, work, f'overwritten {is_asked}')
+        with window.start():
+            ann, text = Clerk(window), window.journal.read_bytes().rstrip(b'\n') + b'\n'
+            ann.sign_in('Ann'), ann.ask('cast', 'v3', ['12'])
+            whole, before = window.journal.read_bytes().rstrip(b'\n') + b'\n', copies_of(copies)
+            window.journal.write_bytes(text + b'3;1;cast;v8;1;done\n4;1;cast;v9;1;done\n')
+            if is_asked:
+                see('not known' in ann.ask('cast', 'v4', ['7']).seen, 'the desk stops')
+            said, status = window.end()
+            digest = hashlib.sha256(window.journal.read_bytes()).hexdigest()
+        kept = folder / 'city.journal.kept'
+        see(kept.exists() and kept.read_bytes() == whole, 'serve has kept the text', *folder.iterdir())
+        see(status == 1 and 'write both down' not in said and digest not in said and 'Entries: ' not in said
+            and f"Write nothing down: {window.journal} is not the desk's. "
+            'city.journal.kept is here (its entries: 3)' in said, 'the impostor is not to be written down', said, status)
+        see(window.log()[-1]['what'] == 'not-copied' and [it for it in window.log() if it['what'] == 'ended'
+            and 'digest' in it][-1]['digest'] is None, 'nor is its digest in the log', *window.log()[-3:])
+        see('Copied' not in said and copies_of(copies) == before, 'nor is it copied', said, *copies_of(copies))
 
 
 GOOD = '''file = "city.pb"

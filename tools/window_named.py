@@ -81,6 +81,7 @@ def try_named(program, work):
             see(file == roll or not found, f'no name stands in {file.name}', found)
         see(not any(it in said + window.told for it in ('Müller', 'Neil')), 'and none at the terminal', said)
     try_bad_rolls(program, new_folder(work, 'bad'))
+    try_killed(program, work)
     try_many_names(program, work)
 
 
@@ -133,6 +134,39 @@ def try_bad_rolls(program, folder):
             see(done.returncode == 1 and words in said and 'Traceback' not in said and 'Secret' not in said,
                 f'{what} is refused', said)
             see(not os.listdir(temporary), f'{what}: nothing is left', os.listdir(temporary))
+
+
+def try_killed(program, work):
+    """What a killed window has left of the roll is deleted at the next start; what another one uses is not."""
+    before = os.environ.get('TMPDIR')
+    with tempfile.TemporaryDirectory() as temporary:
+        os.environ['TMPDIR'] = temporary
+        try:
+            windows = []
+            for name in ('killed', 'other'):
+                folder = new_folder(work, name)
+                (folder / 'voters.csv').write_text('voter_id;name\nv1;Ann Secret\n')
+                windows.append(Window(program, folder, options=['--roll', folder / 'voters.csv']))
+            killed, other = windows
+            with other.start():
+                kept = set(os.listdir(temporary))
+                with killed.start():
+                    left = set(os.listdir(temporary)) - kept
+                    killed.child.kill()
+                    killed.child.communicate()
+                see(len(kept) == len(left) == 1 and left <= set(os.listdir(temporary)), 'a killed window leaves its roll',
+                    *os.listdir(temporary))
+                killed.options = []
+                with killed.start():
+                    see(set(os.listdir(temporary)) == kept, 'its next start deletes it, also without a roll',
+                        *os.listdir(temporary))
+                    see((pathlib.Path(temporary) / min(kept) / 'roll.csv').exists(), 'and not what another window uses')
+                    killed.end()
+                other.end()
+            see(not os.listdir(temporary), 'in the evening nothing is left', *os.listdir(temporary))
+        finally:
+            os.environ.pop('TMPDIR')
+            os.environ |= {'TMPDIR': before} if before else {}
 
 
 def try_many_names(program, work):

@@ -55,6 +55,26 @@ def entries_of(text):
     return int(number) if number.isdigit() else 0
 
 
+def count_in(path):
+    """How many entries the journal in this file has; None where it cannot be read."""
+    with contextlib.suppress(OSError):
+        with open(path, 'rb') as file:
+            return entries_of(text_of(file.read()))
+
+
+def kept_beside(journal):
+    """What `serve` has kept of a journal that was moved or changed: where to find the text with the most entries,
+    and what to do, in words; None where nothing is kept."""
+    folder, name = os.path.split(os.path.abspath(journal))
+    form = re.escape(name) + r'\.kept\d*'
+    counts = [(count_in(os.path.join(folder, it)) or 0, it) for it in os.listdir(folder) if re.fullmatch(form, it)]
+    if counts:
+        count, kept = max(counts)
+        return (f'{kept} is here (its entries: {count}): {name} was moved, replaced or changed while the desk ran. Copy '
+                f'{name}, if it is there, and every .kept file to another folder. Give the one with the most entries '
+                f'the name {name}, and leave no .kept file here. Then start the window again')
+
+
 def parts_of(given):
     """The files of an office, by what they are. The certificate's key stays out of every copy."""
     journal = given.journal

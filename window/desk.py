@@ -1,7 +1,7 @@
 """The desk: `pb_app serve --by-id`, the window's child, which alone writes the journal. Here its answers are read."""
 import collections, contextlib, csv, io, os, secrets, subprocess, sys, threading, time
 
-import log
+import copies, log
 from election import Fault, is_fit, records
 
 # How many seconds the start waits for a journal that another run has, and a clerk for an answer; after how
@@ -67,9 +67,8 @@ class Desk:
         if self.mark not in (None, mark):
             raise Fault(f'{self.files[0]} is not the file that this window began with')
         journal, until = self.files[1], time.monotonic() + LOCKED
-        if os.path.exists(f'{journal}.kept'):
-            raise Fault(f'{journal}.kept is here: {journal} was moved or replaced. Copy both elsewhere, give the one with '
-                        f'more entries the name {journal}, and leave no .kept file here')
+        if kept := copies.kept_beside(journal):
+            raise Fault(kept)
         if self.log.entries and not os.path.exists(journal):
             raise Fault(self.lacking(self.log.entries, 0))
         first = []

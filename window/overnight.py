@@ -1,7 +1,7 @@
 """What changed overnight: JOURNAL.window has what a day left behind; the next morning is compared with it."""
-import contextlib, datetime, getpass, hashlib, json, os, sys, threading
+import contextlib, datetime, getpass, hashlib, json, os, shutil, subprocess, sys, threading
 
-import clerks, copies
+import clerks, copies, log, roll
 from election import Fault
 
 # A minute, and after how many seconds the watch looks whether the folder of the copies is there.
@@ -104,20 +104,54 @@ class Keeper:
     def compare(self, head):
         """Tells what changed overnight, and lets the head clerk confirm it."""
         state, given = load(self.given.journal), self.given
-        told, found = changes(state, given, self.now) if state else [], b''
-        with contextlib.suppress(FileNotFoundError):
-            with open(given.journal, 'rb') as file:
-                found = copies.text_of(file.read())
-        count = copies.entries_of(found)
+        told, count = changes(state, given, self.now) if state else [], copies.count_in(given.journal) or 0
+        is_less = bool(told and journal_changed(state, given.journal))
         if not told and count < self.log.entries:
             told = [f'{given.journal} lacks entry {self.log.entries}, which was answered (its entries: {count}). '
                     'Give the right journal this name.']
         newest = self.copies.newest() if self.copies else None
+        if kept := copies.kept_beside(given.journal):
+            raise Fault(kept if os.path.exists(given.journal) or not told else f'{told[0]} But {kept}')
         if told and not os.path.exists(given.journal):
-            more = f', or restore the newest copy in a new folder: {newest}' if newest else ''
-            raise Fault(f'{told[0]} Get it back{more}')
+            answered = f' Entries that were answered: {self.log.entries}.' if self.log.entries else ''
+            more = f', or restore the newest copy{self.size_of(newest)} in a new folder: {newest}' if newest else ''
+            raise Fault(f'{told[0]}{answered} Get it back{more}')
+        if is_less or count < self.log.entries:
+            told.append(self.losses(count, self.log.entries or state['entries'], newest))
         if told:
+            self.try_out()
             confirm(told, newest, head, self.log)
+
+    def try_out(self):
+        """Has `serve` open a copy of the journal. What no passphrase can open is so refused before one is asked for:
+        a journal that is not legal, and another FILE."""
+        given, name = self.given, os.path.basename(self.given.journal)
+        with roll.own_folder() as folder:
+            copy = os.path.join(folder, name)
+            for end in ('', '.file'):
+                with contextlib.suppress(FileNotFoundError):
+                    shutil.copy(given.journal + end, copy + end)
+            command = [given.program, 'serve', '--by-id', *['--other-file'] * given.other_file, given.file, copy]
+            done = subprocess.run(command, stdin=subprocess.DEVNULL, capture_output=True)
+        if done.stdout.startswith((b'fault;audit', b'fault;other-file')):
+            words = (done.stdout + done.stderr).decode(errors='replace').strip()
+            raise Fault(words.replace(copy, given.journal))
+
+    def losses(self, count, known, newest):
+        """What will be lost if the head clerk goes on with a journal that is not as it was, in words."""
+        words = f'Its entries now: {count}.'
+        if count < known:
+            lost = f'Entry {known} was' if count + 1 == known else f'Entries {count + 1} to {known} were'
+            words += f' {lost} answered, and will be lost if you go on.'
+        if newest:
+            words += (f' To get back what the newest copy has{self.size_of(newest)}: make a new folder, '
+                      f'and type there: run.py --restore {newest}')
+        return words
+
+    def size_of(self, copy):
+        """How many entries a copy has, in words; nothing where that cannot be read."""
+        count = copies.count_in(os.path.join(copy, os.path.basename(self.given.journal)))
+        return '' if count is None else f' (its entries: {count})'
 
     def files(self):
         """The files of the office as they are now, by their names, and what JOURNAL.window has of them."""
@@ -130,12 +164,27 @@ class Keeper:
                  'parts': {part: it for part, it in parts.items() if it in files}}
         return {**files, f'{name}.window': (json.dumps(state, indent=1) + '\n').encode()}
 
+    def copy_beside(self):
+        """A copy that is made beside a window that may run. A journal that is not the desk's is not copied."""
+        journal, state = self.given.journal, load(self.given.journal)
+        told, kept = journal_changed(state, journal) if state else [], copies.kept_beside(journal)
+        if told or kept:
+            raise Fault(f'No copy was made: {told[0] if told else kept}')
+        files = self.files()
+        name = os.path.basename(journal)
+        count, known = copies.entries_of(files[name]), log.entries_in(files.get(f'{name}.log', b'').splitlines())
+        if count < known:
+            raise Fault(f'No copy was made: {journal} lacks entry {known}, which was answered (its entries: {count})')
+        return self.copies.make(files)
+
     def keep(self, is_copied=True, is_evening=False):
         """Writes JOURNAL.window, and makes a copy. Gives the path of the copy."""
         with self.turn:
             state, path, failure, whole = load(self.given.journal), f'{self.given.journal}.window', None, None
             if told := journal_changed(state, self.given.journal) if state and is_copied else []:
                 raise Fault(told[0])
+            if is_copied and copies.kept_beside(self.given.journal):
+                raise Fault(f"{self.given.journal} is not the desk's: a .kept file is here")
             files = self.files()
             try:
                 with contextlib.suppress(FileNotFoundError):

@@ -1,12 +1,36 @@
 """Whether a voter is on the roll, before a ballot is ticked. `serve` alone knows the rule, so a second one is
 asked. A roll with columns may have names: no `serve` gets those, but a roll of ids alone that is made of it."""
-import atexit, contextlib, csv, os, queue, subprocess, tempfile, threading
+import atexit, contextlib, csv, fcntl, os, queue, shutil, subprocess, tempfile, threading
 
 import desk
 from election import SPACE, Fault
 
 # How many seconds a page waits to be told, who then shows nothing of the roll; how long a name is shown.
 PATIENCE, LONGEST = 1, 200
+# How the names of the window's temporary folders begin.
+TEMPORARY = 'clerks-window-'
+
+
+def own_folder():
+    """A temporary folder, which this process has locked as long as it runs, however it ends."""
+    folder = tempfile.TemporaryDirectory(prefix=TEMPORARY)
+    fcntl.flock(os.open(folder.name, os.O_RDONLY | os.O_DIRECTORY), fcntl.LOCK_EX)
+    return folder
+
+
+def clear_folders():
+    """Deletes the temporary folders that a window of this account has left when it was killed."""
+    for name in os.listdir(tempfile.gettempdir()):
+        if name.startswith(TEMPORARY):
+            with contextlib.suppress(OSError):
+                path = os.path.join(tempfile.gettempdir(), name)
+                number = os.open(path, os.O_RDONLY | os.O_DIRECTORY | os.O_NOFOLLOW)
+                try:
+                    fcntl.flock(number, fcntl.LOCK_EX | fcntl.LOCK_NB)      # Fails where a window uses it.
+                    if os.fstat(number).st_uid == os.getuid():
+                        shutil.rmtree(path, ignore_errors=True)
+                finally:
+                    os.close(number)
 
 
 def names_of(path):
@@ -48,7 +72,7 @@ class Roll:
 
     def __init__(self, program, path):
         names, self.path = names_of(path), path
-        self.turn, self.folder, self.answers = threading.Lock(), tempfile.TemporaryDirectory(), queue.Queue()
+        self.turn, self.folder, self.answers = threading.Lock(), own_folder(), queue.Queue()
         self.names = names or {}
         if names is not None:
             self.path = os.path.join(self.folder.name, 'roll.csv')

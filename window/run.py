@@ -87,6 +87,7 @@ class Day:
         self.door, self.sessions, self.ending = sign_in.Door(given.clerks), sessions.Sessions(), threading.Lock()
         self.election = election.Election(given.program, given.file, given.min)
         self.log = log.Log(f'{given.journal}.log')
+        roll.clear_folders()
         self.keeper = overnight.Keeper(given, self.log)
         self.keeper.compare(self.door.known[0])
         self.roll = roll.Roll(given.program, given.roll) if given.roll else None
@@ -108,9 +109,13 @@ class Day:
                 self.keeper.is_over.set()
             self.log.tell_omitted(is_last=True)
             try:
-                digest, entries = overnight.file_digest(self.given.journal), self.desk.newest.number
+                kept = copies.kept_beside(self.given.journal)
+                digest = None if kept else overnight.file_digest(self.given.journal)
+                entries = self.desk.newest.number
                 self.log.write('ended', entries=entries, digest=digest)
-                if digest:
+                if kept:
+                    print(f"\nWrite nothing down: {self.given.journal} is not the desk's. {kept}", flush=True)
+                elif digest:
                     print(f'\nEntries: {entries}, sha256 {digest}: write both down', flush=True)
                 whole = self.keeper.keep(is_evening=True)
                 if whole:
@@ -163,7 +168,7 @@ def opened(given):
         return print('Leave the other machine switched off. Then start the window as each morning.')
     if given.copy:
         keeper = overnight.Keeper(given, None)
-        keeper.warn(whole := keeper.copies.make(keeper.files()))
+        keeper.warn(whole := keeper.copy_beside())
         return print(f'Copied to {whole}')
     tls = tls_of(given)
     return Day(given), tls
