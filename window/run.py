@@ -187,16 +187,17 @@ def main():
     day, failure = pages.office, None
     if day.election.unfit:
         print(day.election.warning(), flush=True)
-    web, stop = server.Server(given.address, pages.app, day.log), threading.Event()
+    web, (ended, end) = server.Server(given.address, pages.app, day.log), os.pipe()
     web.ssl_adapter = tls
     for number in (signal.SIGINT, signal.SIGTERM, signal.SIGHUP):
-        signal.signal(number, lambda *_: stop.set())
+        # A pipe has no lock that a signal could find held.
+        signal.signal(number, lambda *_: os.write(end, b'.'))
     try:
         web.prepare()
         where, count = f'{given.scheme}://{given.hosts[0]}/', day.desk.newest.number
         print(f'The window is open at {where} and Ctrl-C ends the day. Entries in the journal: {count}.', flush=True)
         threading.Thread(target=web.serve, daemon=True).start()
-        stop.wait()
+        os.read(ended, 1)
         web.stop()
     except OSError as why:
         failure = f'run.py: {copies.words_of(why)}'
