@@ -57,7 +57,8 @@ class Tab:
         while not self.take_events():
             self.led.events.append(self.led._message())
         until = time.monotonic() + 5
-        waits = 'document.body.inert || document.activeElement === document.body && !!document.querySelector("[autofocus]")'
+        waits = ('document.querySelector("main[inert]") !== null || document.activeElement === document.body '
+                 '&& !!document.querySelector("[autofocus]")')
         while self.ask(waits) and time.monotonic() < until:
             time.sleep(0.02)
 

@@ -3,7 +3,7 @@
 A step lets its clerk know what its impl says, so a word of a public contract such as `found` is worth what all
 impls together say of it. They have to be of the forms below, in which every step says the rule of the steps first:
 then a proof refuses a step that tells more. A step of another form is a fault. So is one that the table of steps in
-docs/clerks.md doesn't list with its operation and its word, and one that it lists and the code lacks.
+docs/desk.md doesn't list with its operation and its word, and one that it lists and the code lacks.
 """
 import re
 from pathlib import Path
@@ -12,7 +12,7 @@ TOP = Path(__file__).resolve().parent.parent
 SOURCE = TOP / "crates" / "pb_shared" / "src"
 # The one file in which the steps of the shared desk stand, and the page that lists them.
 STEPS = SOURCE / "desk_rule.rt"
-PAGE = TOP / "docs" / "clerks.md"
+PAGE = TOP / "docs" / "desk.md"
 # By trait and ghost item: what stands there, in one line.
 FORMS = {
     ("TableRule", "holds"): r"DeskRule",

@@ -1,7 +1,7 @@
 """Tries what a clerk sees of a voter's history, and how the head clerk puts back what stood."""
 import datetime, subprocess
 
-from window_clerk import PYTHON, TOP, Clerk, Window
+from window_clerk import PYTHON, TOP, Clerk, Window, at_terminal, ended, passphrase_of, roll_given
 from window_seen import CITY, NAMES, new_folder, see
 
 # A log whose journal was replaced by an older one.
@@ -178,7 +178,11 @@ def try_refusals(program, work):
                           capture_output=True, text=True)
     see(done.stdout.count('done') == 9 and done.stdout.count('\n') == 514, '513 entries', done)
     warned = 'A ballot has 1 at least, 1 at most: the desk will not take this one.'
-    with Window(program, folder, options=['--roll', folder / 'roll.csv', '--min', 1]).start() as window:
+    with Window(program, folder, options=['--roll', folder / 'roll.csv', '--min', 1]) as window:
+        told, status = at_terminal(window, passphrase_of('Head'))
+        see(status is None and 'city.journal.window and ' in told, 'a journal without a log is confirmed',
+            told)
+        see(roll_given(window.serve_id()) == folder / 'roll.csv', 'serve itself reads a roll of ids alone')
         head = Clerk(window)
         head.sign_in('Head')
         page = head.post('/voter', {'voter': 'v1'})
@@ -199,6 +203,8 @@ def try_refusals(program, work):
                 ('v1', 2, 'No row can name all projects of this ballot', 'no project has an id')):
             page = look_back(head, voter, before)
             see(words in page.seen and HOLDS not in page.text, f'{answer}: said before', page.seen)
+            see(('start it with “--min 0”' in page.seen, 'The city’s file has this limit' in page.seen)
+                == ('too few' in answer, 'too many' in answer), f'{answer}: and what to do', page.seen)
             page = head.record(page)
             see('Not recorded' in page.seen and answer in page.seen, f'{answer}: and refused', page.seen)
             page = head.post('/voter', {'voter': voter,
@@ -207,5 +213,17 @@ def try_refusals(program, work):
                 page.text)
         see([row[5] for row in window.entries()[513:]] == ['too-long'],
             'a row that names other projects is never sent', window.entries())
-        window.end()
+        ended(window)
+        # What the words say: with --min 0 it is put back, and then the window is started as before.
+        for least in (0, 1):
+            window.options[-1] = str(least)
+            told, status = at_terminal(window, passphrase_of('Head'))
+            see(status is None and f'--min was {1 - least}, and is {least}.' in told,
+                'another minimum is confirmed', told)
+            head.sign_in('Head')
+            if not least:
+                head.record(look_back(head, 'v2', 4))
+                see(window.entries()[-1][1:] == ['0', 'replace', 'v2', '', 'done'],
+                    'what was below the minimum is put back', window.entries()[-1])
+            ended(window)
     see(window.audit().returncode == 0, 'the journal is audited', window.audit())

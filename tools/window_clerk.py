@@ -1,5 +1,6 @@
 """The clerks' window as tools/try_window runs it, and clerks who use it without a browser."""
-import csv, html, http.client, io, json, os, pathlib, pty, re, secrets, select, signal, socket, ssl, subprocess, sys, time, urllib.parse
+import csv, html, http.client, json, os, pathlib, pty, re, secrets, select, signal, socket, subprocess, sys, time
+import urllib.parse
 
 TOP = pathlib.Path(__file__).resolve().parent.parent
 PYTHON = '/usr/bin/python3'
@@ -8,6 +9,16 @@ PACKAGES = ['python3-flask', 'python3-cheroot']
 RUN, CLERKS = TOP / 'window/run.py', TOP / 'window/clerks.py'
 sys.path.append(str(TOP / 'window'))
 import clerks
+
+# Runs run.py where this has been done before.
+SCRIPT = f'''import os, signal, sys
+sys.dont_write_bytecode = True
+sys.path.insert(0, {str(TOP / 'window')!r})
+%s
+import run
+%s
+run.main()
+'''
 # How many seconds anything here may take.
 LIMIT = 120
 
@@ -197,3 +208,50 @@ class Clerk:
 
     def ask(self, request, voter, ids=()):
         return self.record(self.look(request, voter, ids))
+
+
+def at_terminal(window, passphrase, words=None, seconds=LIMIT):
+    """Starts a window at a terminal of its own, and types this passphrase when it asks: gives what it has written when it is open
+    or has ended, and its status, None where it is open."""
+    ours, theirs = pty.openpty()
+    words = words or [window.file, window.journal, '--clerks', window.folder / 'clerks.json', '--listen', f'127.0.0.1:{window.port}',
+                      *window.options]
+    child = subprocess.Popen([str(it) for it in (PYTHON, '-B', RUN, *words, '--program', window.program)], cwd=window.folder, stdin=theirs,
+                             stdout=theirs, stderr=theirs, start_new_session=True)
+    os.close(theirs)
+    text, end, is_typed = '', time.monotonic() + seconds, False
+    while 'is open at' not in text and time.monotonic() < end:
+        try:
+            text += os.read(ours, 4096).decode() if select.select([ours], [], [], 1)[0] else ''
+        except OSError:
+            break
+        if text.endswith('the passphrase: ') and not is_typed:
+            os.write(ours, passphrase.encode() + b'\n')
+            is_typed = True
+    window.child, window.terminal = child, ours
+    return text, None if 'is open at' in text else child.wait(LIMIT)
+
+
+def ended(window):
+    """Ends a window at a terminal: gives what it wrote, and its status."""
+    window.child.send_signal(signal.SIGINT)
+    text = ''
+    try:
+        while more := os.read(window.terminal, 4096):
+            text += more.decode()
+    except OSError:
+        pass
+    os.close(window.terminal)
+    return text, window.child.wait(LIMIT)
+
+
+def run(program, folder, *words, script=RUN):
+    """Runs run.py to its end in a folder, without a terminal."""
+    return subprocess.run([str(it) for it in (PYTHON, '-B', script, *words, '--program', program)], cwd=folder, capture_output=True,
+                          text=True, stdin=subprocess.DEVNULL, timeout=LIMIT)
+
+
+def roll_given(number):
+    """The path of the roll that a `serve` was given."""
+    words = pathlib.Path(f'/proc/{number}/cmdline').read_text().split('\0')
+    return pathlib.Path(words[words.index('--roll') + 1])

@@ -4,6 +4,7 @@ import os, signal, threading, time
 import browser
 from browser_tab import Tab
 from window_clerk import TOP, Window, passphrase_of
+from window_office import until
 from window_seen import MARKUP, NAMES, new_folder, see
 
 LOOK = (TOP / 'tools/look_at_window.js').read_text()
@@ -78,8 +79,9 @@ def try_pages(program, work, pictures):
         try_keys(window, ben)
         for tab, name in ((ann, 'Ann'), (head, 'Head')):
             sign_in(tab, window, name)
+            see('clerk' in tab.text() and 'no answer came' not in tab.text(), f'{name} goes on after the window was killed', tab.text())
         ben.said.clear()        # The browser complains where the window has ended.
-        try_deaths_in_browser(window, ann, ben, head, pictures)
+        try_deaths_in_browser(window, ann, pictures)
         ann.open(f'http://127.0.0.1:{window.port}/nowhere')
         look_at(ann, 'nowhere', pictures)
         ben.press('Escape', loads=True)
@@ -91,10 +93,6 @@ def try_pages(program, work, pictures):
         head.open(f'http://127.0.0.1:{window.port}/head')
         look_at(head, 'head', pictures)
         entries = len(window.entries())
-        head.tab_to('word')
-        head.type('no')
-        head.enter()
-        see('Type the word “shut”' in head.text() and len(window.entries()) == entries, 'shutting needs its word', head.text())
         head.tab_to('word')
         head.type('shut')
         head.enter()
@@ -364,8 +362,8 @@ def try_escape(window, tab):
         tab.run("sessionStorage.removeItem('escape')")
 
 
-def try_deaths_in_browser(window, ann, ben, head, pictures):
-    """serve is killed with a request under way, and the window is killed; the clerks go on."""
+def try_deaths_in_browser(window, ann, pictures):
+    """serve is killed with a request under way, and the clerk goes on."""
     ann.open(f'http://127.0.0.1:{window.port}/')
     ann.type('ann 3')
     ann.enter()
@@ -374,8 +372,15 @@ def try_deaths_in_browser(window, ann, ben, head, pictures):
     ann.enter()
     number = window.serve_id()
     os.kill(number, signal.SIGSTOP)
-    threading.Thread(target=lambda: (window.await_asked('ann 3'), os.kill(number, signal.SIGKILL))).start()
-    ann.enter()
+    see(not ann.text('.waits'), 'nothing is said of waiting before it waits')
+    ann.enter(loads=False)
+    words = 'Waiting for the answer, a minute at most. Leave this page open; nothing has to be sent again.'
+    see(until(lambda: ann.text('.waits[role=status]') == words, 10) and ann.ask('!document.querySelector("[inert] .waits")'),
+        'a page that waits says so, where it can be read aloud', ann.text())
+    look_at(ann, 'waiting', pictures)
+    threading.Timer(1, os.kill, (number, signal.SIGKILL)).start()
+    ann.loaded(lambda: None)
+    see(not ann.text('.waits'), 'and no more once the answer is there', ann.text())
     see('It is not known whether this was recorded.' in ann.text(), 'not known', ann.text())
     look_at(ann, 'unknown', pictures)
     see(ann.focus() == 'voter', 'here neither', ann.focus())
@@ -388,9 +393,3 @@ def try_deaths_in_browser(window, ann, ben, head, pictures):
     ann.enter()
     ann.enter()
     see(window.entries()[-1][2:4] == ['cast', 'ann 3'] and 'no answer came' not in ann.text(), 'and asked once more, which settles it', ann.text())
-    window.child.kill()
-    window.child.communicate()
-    window.start()
-    for tab, name in ((ann, 'Ann'), (ben, NAMES[2]), (head, 'Head')):
-        sign_in(tab, window, name)
-        see('clerk' in tab.text() and 'no answer came' not in tab.text(), f'{name} goes on after the window was killed', tab.text())

@@ -1,7 +1,7 @@
 """Tries the desk of the clerks' window, without a browser: deaths of `serve` and of the window, faults, ballots of others, the shut desk."""
 import concurrent.futures, hashlib, os, re, shutil, signal, subprocess
 
-from window_clerk import Clerk, Window
+from window_clerk import Clerk, Window, at_terminal, ended, passphrase_of
 from window_seen import NAMES, new_folder, see
 
 
@@ -199,7 +199,7 @@ def try_shut(program, work):
                 ('/head', 'The head clerk - A &lt;b&gt;vote'))), "the pages have the office's title, as text")
         see(page.body == wanted and 'attachment' in page.headers['Content-Disposition'], 'the page of the result')
         copies = sorted((folder / 'copies').iterdir())
-        see(len(copies) == 1 and (copies[0] / 'city.journal').read_bytes() == window.journal.read_bytes()
+        see(len(copies) == 1 and copies[0].name.endswith('-evening') and (copies[0] / 'city.journal').read_bytes() == window.journal.read_bytes()
             and subprocess.run(['sha256sum', '-c', 'SHA256SUMS'], cwd=copies[0], capture_output=True).returncode == 0, 'the copy', copies)
         said, status = window.end()
         window.start()
@@ -211,8 +211,10 @@ def try_shut(program, work):
         see(status == 1 and 'No copy was made' in said and 'write both down' in said, 'a copy that fails is told', said, status)
         (folder / 'copies').mkdir()
         window.options[-1] = '--measure nothing'
-        window.start()
+        told, status = at_terminal(window, passphrase_of('Head'))
+        see(status is None and '--count was "--measure cost", and is "--measure nothing".' in told,
+            'other options of the count are confirmed', told)
         head.sign_in('Head')
         page = head.get('/result')
         see(page.status == 500 and 'The program refused' in page.seen and 'nothing' in page.seen, 'options of the count that are none', page.seen)
-        window.end()
+        ended(window)

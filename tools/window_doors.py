@@ -1,6 +1,7 @@
 """Tries the doors of the clerks' window, without a browser: who gets in, what is refused, TLS."""
-import concurrent.futures, hashlib, re, shutil, socket, ssl, stat, subprocess, time
+import concurrent.futures, hashlib, re, shutil, socket, stat, time
 
+from window_attacks import certified
 from window_clerk import CLERKS, PYTHON, Clerk, Window, passphrase_of, typed_at_terminal
 from window_seen import MARKUP, NAMES, new_folder, see
 
@@ -202,7 +203,7 @@ def delay(clerk, name):
 
 
 def try_wrong_passphrases(window, head, other):
-    """Delays, and who is never locked out."""
+    """Delays, and who is never locked out. How long, and what a made-up mark does, try_owner sees by a clock."""
     bad = Clerk(window, '127.0.0.5')
     see('wrong' in bad.sign_in('Cy', 'wrong').seen, 'a wrong passphrase is told')
     waits = []
@@ -215,11 +216,6 @@ def try_wrong_passphrases(window, head, other):
             page = bad.sign_in('Cy', 'wrong')
             found = re.search(r'Wait (\d+) seconds', page.seen)
     see(len(waits) >= 3 and waits == sorted(waits) and waits[-1] >= 2 * waits[0], 'each wrong passphrase delays more', waits)
-    page = Clerk(window, '127.0.0.6').sign_in('Cy')
-    see('clerk 3' in page.seen, 'and nobody at another address, with the right passphrase', page.seen)
-    found = re.search(r'Wait (\d+) seconds', bad.sign_in('Cy').seen)
-    time.sleep(int(found[1]) if found else 0)
-    see(not found or int(found[1]) <= 10 and 'clerk 3' in bad.sign_in('Cy').seen, 'and at the same address for 10 seconds at most', found)
     for number in range(4):
         other.sign_in(f'nobody {number}', 'wrong')
     see('Recorded' not in other.get('/').seen and 'Wait' in other.sign_in('nobody 9', 'wrong').seen + other.sign_in('nobody 8', 'wrong').seen
@@ -231,9 +227,6 @@ def try_wrong_passphrases(window, head, other):
     delay(Clerk(window), 'Head')
     see('Wait' in Clerk(window).sign_in('Head').seen, 'the address is delayed now')
     see('clerk 0' in head.sign_in('Head').seen, 'and not the browser in which the head clerk had signed in')
-    forged = Clerk(window)
-    forged.cookies[f'window-{window.port}-mark-0'] = 'a' * 32 + '.' + 'b' * 64
-    see('Wait' in forged.sign_in('Head').seen, 'a made-up mark of that browser does not help')
     times = {True: [], False: []}
     for number, name in enumerate(['Ann', 'no a', NAMES[2], 'no b', 'Head', 'no c']):
         clerk = Clerk(window, f'127.0.0.{20 + number}')
@@ -269,12 +262,9 @@ def try_tls(program, work):
         print('try_window: there is no openssl, so TLS was not tried')
         return
     folder = new_folder(work, 'tls')
-    made = subprocess.run('openssl req -x509 -newkey rsa:2048 -nodes -keyout key.pem -out cert.pem -days 2 -subj /CN=desk.example '
-                          '-addext subjectAltName=IP:127.0.0.1,DNS:desk.example'.split(), cwd=folder, capture_output=True)
-    see(made.returncode == 0, 'a certificate is made', made)
-    with Window(program, folder, options=['--cert', folder / 'cert.pem', '--key', folder / 'key.pem', '--name', 'desk.example']).start() as window:
+    options, tls = certified(folder)
+    with Window(program, folder, options=[*options, '--name', 'desk.example']).start() as window:
         stuck = socket.create_connection(('127.0.0.1', window.port))
-        tls = ssl.create_default_context(cafile=folder / 'cert.pem')
         ann = Clerk(window, tls=tls)
         begun = time.monotonic()
         cookie = ann.get('/').headers['Set-Cookie']

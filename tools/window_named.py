@@ -3,7 +3,7 @@ import os, pathlib, stat, subprocess, tempfile, time
 
 import browser
 from browser_tab import Tab
-from window_clerk import LIMIT, PYTHON, RUN, Clerk, Window
+from window_clerk import LIMIT, PYTHON, RUN, Clerk, Window, at_terminal, ended, passphrase_of, roll_given
 from window_day import look_at, sign_in
 from window_office import until
 from window_seen import new_folder, see
@@ -17,12 +17,6 @@ WARNING = 'This voter is not on the roll'
 def row_of(*fields):
     """A row with each field in quotation marks."""
     return ';'.join('"' + it.replace('"', '""') + '"' for it in fields) + '\n'
-
-
-def roll_given(number):
-    """The path of the roll that a `serve` was given."""
-    words = pathlib.Path(f'/proc/{number}/cmdline').read_text().split('\0')
-    return pathlib.Path(words[words.index('--roll') + 1])
 
 
 def memory_of(window):
@@ -157,11 +151,11 @@ def try_killed(program, work):
                 see(len(kept) == len(left) == 1 and left <= set(os.listdir(temporary)), 'a killed window leaves its roll',
                     *os.listdir(temporary))
                 killed.options = []
-                with killed.start():
-                    see(set(os.listdir(temporary)) == kept, 'its next start deletes it, also without a roll',
-                        *os.listdir(temporary))
-                    see((pathlib.Path(temporary) / min(kept) / 'roll.csv').exists(), 'and not what another window uses')
-                    killed.end()
+                at_terminal(killed, passphrase_of('Head'))
+                see(set(os.listdir(temporary)) == kept, 'its next start deletes it, also without a roll',
+                    *os.listdir(temporary))
+                see((pathlib.Path(temporary) / min(kept) / 'roll.csv').exists(), 'and not what another window uses')
+                ended(killed)
                 other.end()
             see(not os.listdir(temporary), 'in the evening nothing is left', *os.listdir(temporary))
         finally:
@@ -179,6 +173,7 @@ def try_many_names(program, work):
     bare = Window(program, folder).start()
     before = memory_of(bare)
     bare.end()
+    (folder / 'city.journal.window').unlink()
     begun = time.monotonic()
     with Window(program, folder, options=['--roll', roll]).start() as window:
         lasted, ann = time.monotonic() - begun, Clerk(window)

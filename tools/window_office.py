@@ -1,19 +1,13 @@
 """Tries what the clerks' window meets on some days: a roll and a least number of projects, an answer that stays out, a `serve`
 with many words."""
-import concurrent.futures, os, pathlib, signal, stat, subprocess, time
+import concurrent.futures, json, os, re, signal, stat, subprocess, time
 
-from window_clerk import LIMIT, PYTHON, RUN, TOP, Clerk, Window
+from window_clerk import (CLERKS, LIMIT, PYTHON, RUN, SCRIPT, TOP, Clerk, Window, passphrase_of, roll_given,
+                          typed_at_terminal)
 from window_seen import NAMES, new_folder, see
 
 # Runs the window with another number of seconds for an answer.
-HURRIED = f'''import sys
-sys.dont_write_bytecode = True
-sys.path.insert(0, {str(TOP / 'window')!r})
-import desk
-desk.ANSWERS = 1
-import run
-run.main()
-'''
+HURRIED = SCRIPT % ('import desk; desk.ANSWERS = 1', '')
 
 # A program that writes a million bytes on standard error before it serves.
 WORDY = '''#!/bin/sh
@@ -62,34 +56,41 @@ def try_roll(program, work):
         window.kill_serve()
         page = ann.ask('cast', 'annb', ['12', '7'])
         see('this voter is not on the roll' in page.seen and len(window.entries()) == 1, 'the roll holds after serve was killed', page.seen)
-        # The serve that knows the roll: nothing is recorded there; where it has died nothing is told, and serve still decides.
-        asked = [number for number in window.serves() if number != window.serve_id()]
-        words = pathlib.Path(f'/proc/{asked[0]}/cmdline').read_text().split('\0')
-        journal = pathlib.Path(words[words.index('--min') + 3])
-        see(len(asked) == 1 and journal.read_text().strip() == 'journal;2', 'no voter stands in the journal beside', journal)
-        # Held, it tells nothing, and holds up no page; later it tells again, and of nobody what was asked of
-        # another.
-        os.kill(asked[0], signal.SIGSTOP)
-        begun = time.monotonic()
-        ann.patience = 15
-        see(all(warning not in ann.post('/voter', {'voter': voter}).seen for voter in ('annb', 'annc')) and time.monotonic() - begun < 4,
-            'a serve for the roll that is held holds up no page', time.monotonic() - begun)
-        os.kill(asked[0], signal.SIGCONT)
-        see(warning not in ann.post('/voter', {'voter': 'anna'}).seen and warning in ann.post('/voter', {'voter': 'annb'}).seen, 'and then it tells again')
-        os.kill(asked[0], signal.SIGKILL)
-        see(until(lambda: warning not in ann.post('/voter', {'voter': 'annb'}).seen), 'without it nothing is told')
-        see('this voter is not on the roll' in ann.ask('cast', 'annb', ['12', '7']).seen, 'and serve decides')
+        # The roll of a day is the one that it began with.
+        made = roll_given(window.serve_id())
+        roll.write_text('annb\n')
+        see(warning in ann.post('/voter', {'voter': 'annb'}).seen
+            and 'not on the roll' in ann.ask('cast', 'annb', ['12', '7']).seen, 'a roll that is changed')
         said, status = window.end()
-        see(status == 0 and not journal.parent.exists(), 'its folder is gone in the evening', said, journal)
-        window.start()
-        asked = [number for number in window.serves() if number != window.serve_id()]
-        said, status = window.end()
-        see(status == 0 and until(lambda: not os.path.exists(f'/proc/{asked[0]}')), 'and so is it', said)
+        see(status == 0 and not made.parent.exists(), 'its folder is gone in the evening', said, made)
     see(window.audit().stdout == 'entries;1;open\n', 'the journal is audited', window.audit())
-    for words, said in ((['--roll', folder / 'nowhere'], 'fault;open;3'), (['--min', 'two'], '--min'), (['--min', '-1'], '--min')):
+    try_odd_rolls(program, folder)
+    for words, said in ((['--min', 'two'], '--min'), (['--min', '-1'], '--min')):
         done = subprocess.run([str(it) for it in (PYTHON, RUN, window.file, window.journal, '--clerks', folder / 'clerks.json',
                                                   '--program', program, *words)], capture_output=True, text=True, timeout=LIMIT)
         see(done.returncode in (1, 2) and said in done.stderr + (folder / 'city.journal.words').read_text(), f'{words} is refused', done)
+
+
+ODD = ('anna\n"q""uote"\n \u2003spaced \n\nvoter_id\nx;street\n"semi;colon"\n;nobody\nco,mma\n"line\r\nend"\n'
+       'lone\rreturn\r\nin"side\nanna\nlast')
+NAMES_OF = 'import json, roll, sys; print(json.dumps(list(roll.names_of(sys.argv[1])[0])))'
+
+
+def try_odd_rolls(program, folder):
+    """Of a roll of ids alone the window says what `serve` decides, row by row."""
+    voters = ['anna', 'Anna', 'q"uote', 'spaced', 'voter_id', 'x', 'street', 'semi;colon', 'nobody', 'co,mma', 'co',
+              'line\r\nend', 'line', 'lone', 'return', 'in"side', 'last', 'x;street']
+    for text in (ODD, '\ufeff' + ODD, 'voter_id\n' + ODD, ' voter_id \n' + ODD, '\n\n' + ODD.replace('anna', 'ben'), ''):
+        (folder / 'odd.csv').write_text(text, newline='')
+        rows = ''.join('1;cast;"' + it.replace('"', '""') + '";\n' for it in voters)
+        serve = [program, 'serve', '--roll', folder / 'odd.csv', '--min', '1', folder / 'city.pb', folder / 'odd.journal']
+        done = subprocess.run(serve, input=rows.encode(), capture_output=True)
+        faults = [it.split(b';') for it in done.stdout.splitlines() if it.startswith(b'fault;script')]
+        decided = [it[3] == b'TooFew' for it in faults]
+        told = subprocess.run([PYTHON, '-B', '-c', NAMES_OF, folder / 'odd.csv'], cwd=TOP / 'window',
+                              capture_output=True, text=True)
+        see(decided == [it in json.loads(told.stdout or '[]') for it in voters], 'the window says of a roll what serve decides',
+            text[:20], list(zip(voters, decided)), told)
 
 
 def form_of(page):
@@ -129,6 +130,11 @@ def try_late(program, work):
         window.end()
 
 
+# Runs the window where another thread than the main one gets each signal, which waits meanwhile.
+ELSEWHERE = SCRIPT % ('''real = os.read
+os.read = lambda *words: (words[1] == 1 and signal.pthread_sigmask(signal.SIG_BLOCK, [signal.SIGINT]), real(*words))[1]''', '')
+
+
 def try_words(program, work):
     """A `serve` that writes more on standard error than a pipe holds is not held up, and its words are kept."""
     folder = new_folder(work, 'words')
@@ -148,3 +154,80 @@ def try_words(program, work):
         see(status == 0 and text.count(b'x') >= 2_000_000 and b'row 2' in text,
             'the words are in their file', said, len(text))
         see(stat.S_IMODE(words.stat().st_mode) == 0o600, 'for this account alone')
+        starts = re.findall(rb'(20\d\d-\d\d-\d\dT\S+Z): pb_app serve is started', text)
+        see(len(starts) == 2 and starts == sorted(starts), 'with the time of each start', starts)
+    (folder / 'elsewhere.py').write_text(ELSEWHERE)
+    with Window(program, folder, options=['--min', 1], run=folder / 'elsewhere.py').start() as window:
+        time.sleep(1)       # The main thread waits by then.
+        try:
+            said, status = window.end()
+        except subprocess.TimeoutExpired:
+            said, status = 'it goes on', None
+        see(status == 0 and 'Entries: 2,' in said, 'a signal ends the window, whichever thread gets it', said,
+            status)
+
+
+def try_names(program, work):
+    """Names are the same in capital and small letters; the clerks are listed; turnout by day and clerk."""
+    folder = new_folder(work, 'names')
+    path = folder / 'clerks.json'
+    clerks = lambda *words: subprocess.run([str(it) for it in (PYTHON, '-B', CLERKS, '--clerks', path, *words)], capture_output=True, text=True,
+                                           stdin=subprocess.DEVNULL)
+    see(clerks('close', 'cY').stdout == 'Cy is clerk 3, and can no longer sign in\n', 'a name in other letters')
+    done = clerks('list')
+    see(done.stdout == '0 Head, the head clerk\n1 Ann\n2 Ben & "Co" <b>\n3 Cy, closed\n' and done.returncode == 0, 'the clerks are listed', done)
+    see(clerks('list', 'Ann').returncode == 2 and clerks('add').returncode == 2, 'list takes no name, and add takes one')
+    said, status = typed_at_terminal([PYTHON, CLERKS, '--clerks', path, 'add', 'ANN'], ['long enough it is'] * 2)
+    see(status == 1 and 'there is a clerk Ann already' in said, 'no second name in other letters', said)
+    with Window(program, folder).start() as window:
+        ann, head = Clerk(window), Clerk(window)
+        see('clerk 1' in ann.sign_in('aNN', passphrase_of('Ann')).seen, 'a clerk signs in by other letters')
+        head.sign_in('HEAD', passphrase_of('Head'))
+        ann.ask('cast', 'v1', ['12']), ann.ask('cast', 'v2', ['12']), ann.ask('replace', 'v2', ['7']), ann.ask('withdraw', 'old1')
+        head.ask('cast', 'v3', ['12']), ann.ask('cast', 'v4', ['nowhere'])
+        turnout = r'Withdrawn ?(20\d\d-\d\d-\d\d) ?Head \(clerk 0, you\) ?1 ?0 ?0 ?\1 ?Ann \(clerk 1\) ?2 ?1 ?1 '
+        see(re.search(turnout, head.get('/head').seen), 'what was recorded by day and clerk', head.get('/head').seen)
+        window.end()
+        yesterday = (folder / 'city.journal.log').read_text().replace('{"time": "20', '{"time": "19')
+        (folder / 'city.journal.log').write_text(yesterday)
+        window.start()
+        ann.cookies, head.cookies = {}, {}
+        ann.sign_in('ann', passphrase_of('Ann')), head.sign_in('Head')
+        ann.ask('cast', 'v5', ['12'])
+        see(re.search(turnout.replace('20', '19') + r'?20\d\d-\d\d-\d\d ?Ann \(clerk 1\) ?1 ?0 ?0 ', head.get('/head').seen),
+            'each day by itself, also after a start', head.get('/head').seen)
+        # A voter's id is another one in other letters, which is told.
+        words = 'This id is new here. One that differs in capital letters alone is known'
+        see([words in ann.post('/voter', {'voter': it}).seen for it in ('OLD2', 'V1', 'old2', 'v1', 'V9', '12')]
+            == [True, True, False, False, False, False], 'an id that differs in capital letters alone')
+        # Wrong tries count for a name in any letters.
+        for name in ('Ben', 'BEN', 'bEN'):
+            page = Clerk(window, '127.0.0.9').sign_in(name + ' & "Co" <b>', 'wrong')
+        see(page.status == 429, 'and so do wrong tries', page.seen)
+        window.end()
+
+
+def try_after_shut(program, work):
+    """After a shut no page invites to ask again."""
+    folder = new_folder(work, 'after')
+    with Window(program, folder).start() as window:
+        ann, head = Clerk(window), Clerk(window)
+        ann.sign_in('Ann'), head.sign_in('Head')
+        form, number = ann.look('cast', 'v1', ['12']), window.serve_id()
+        os.kill(number, signal.SIGSTOP)
+        with concurrent.futures.ThreadPoolExecutor(1) as pool:
+            waiting = pool.submit(ann.record, form)
+            window.await_asked('v1')
+            os.kill(number, signal.SIGKILL)
+            see('not known' in waiting.result().seen, 'a request without an answer')
+        see('ask again' in ann.get('/').seen, 'which a page speaks of')
+        head.get('/head')
+        page = head.post('/shut', {'word': 'shut'})
+        see('Entry 1 ' in page.seen, 'the desk is shut', page.seen)
+        for clerk, path in ((ann, '/'), (head, '/head'), (head, '/')):
+            page = clerk.get(path)
+            see('ask again' not in page.seen and ('It was not recorded.' in page.seen) == (path == '/head' or clerk is ann),
+                f'{path} says what came of it, and not to ask again', page.seen)
+        page = ann.post('/voter', {'voter': 'v1'})
+        see('ask again' not in page.seen and '/look' not in page.text, 'nor does the page of the voter', page.seen)
+        window.end()

@@ -9,7 +9,10 @@ usage: clerks.py add NAME           a new clerk, with the next number; the first
 The file is clerks.json here, or the one that --clerks CLERKS names. A passphrase is typed at the terminal, twice, and has
 at least 12 characters.
 """
-import argparse, contextlib, fcntl, getpass, hashlib, hmac, json, os, secrets, sys, unicodedata
+import argparse, getpass, hashlib, hmac, json, os, secrets, sys, unicodedata
+
+sys.dont_write_bytecode = True
+import disk
 
 # How many characters a passphrase has at least and at most.
 LEAST, MOST = 12, 1000
@@ -58,12 +61,7 @@ def named(clerks, name):
 
 def save(path, clerks):
     """Puts a whole file in the place of the old one, for this account alone."""
-    with os.fdopen(os.open(f'{path}.new', os.O_WRONLY | os.O_CREAT | os.O_TRUNC, 0o600), 'w', encoding='utf-8') as file:
-        os.fchmod(file.fileno(), 0o600)
-        json.dump(clerks, file, indent=1, ensure_ascii=False)
-        file.flush()
-        os.fsync(file.fileno())
-    os.replace(f'{path}.new', path)
+    disk.put_over(path, json.dumps(clerks, indent=1, ensure_ascii=False).encode())
 
 
 def typed(name):
@@ -77,18 +75,6 @@ def typed(name):
         sys.exit('clerks.py: the two differ; nothing was changed')
     salt = secrets.token_hex(16)
     return {'salt': salt, 'hash': hashed(passphrase, salt)}
-
-
-@contextlib.contextmanager
-def alone(path):
-    """Lets one run of this program at a time change the file: whoever has the lock of its folder."""
-    folder = os.open(os.path.dirname(os.path.abspath(path)), os.O_RDONLY)
-    try:
-        fcntl.flock(folder, fcntl.LOCK_EX)
-        yield
-        os.fsync(folder)
-    finally:
-        os.close(folder)
 
 
 def found(path, what, name):
@@ -125,8 +111,8 @@ def main():
     before = found(given.clerks, given.what, name)[1]
     change = {'salt': '', 'hash': ''} if given.what == 'close' else typed(name)
     # A passphrase may take minutes to type, and another terminal may change the file meanwhile: so it is read
-    # again.
-    with alone(given.clerks):
+    # again, by one run of this program at a time.
+    with disk.alone(os.path.dirname(given.clerks)):
         clerks, clerk = found(given.clerks, given.what, name)
         if given.what != 'add' and clerk != before:
             sys.exit(f'clerks.py: {name} was changed at another terminal meanwhile; nothing was changed here')

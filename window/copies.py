@@ -1,41 +1,12 @@
 """Whole copies of an office, and the way back. A copy is a folder with the files and their digests."""
-import contextlib, datetime, fcntl, hashlib, json, os, re, shutil
+import contextlib, datetime, json, os, re, shutil
 
-import clerks, election, log
+import clerks, disk, election, log
 from election import Fault
 
 # How many copies are kept besides each evening's; the file of the digests; where a copy is checked.
 KEPT, SUMS, CHECKED = 20, 'SHA256SUMS', '.restoring'
 NOTHING = 'Nothing was put back; take another copy'
-
-
-def digest_of(data):
-    return hashlib.sha256(data).hexdigest()
-
-
-def words_of(why):
-    """What failed, in words."""
-    return f'{why.filename}: {why.strerror}' if isinstance(why, OSError) and why.filename else str(why)
-
-
-def put(path, data):
-    """Writes a new file for this account alone, and waits until it is on the disk."""
-    with os.fdopen(os.open(path, os.O_WRONLY | os.O_CREAT | os.O_EXCL, 0o600), 'wb') as file:
-        file.write(data)
-        file.flush()
-        os.fsync(file.fileno())
-
-
-@contextlib.contextmanager
-def synced(folder):
-    """Has a folder alone, and at the end waits until its names are on the disk."""
-    number = os.open(folder, os.O_RDONLY | os.O_DIRECTORY)
-    try:
-        fcntl.flock(number, fcntl.LOCK_EX)
-        yield
-        os.fsync(number)
-    finally:
-        os.close(number)
 
 
 def text_of(data):
@@ -57,9 +28,8 @@ def entries_of(text):
 
 def count_in(path):
     """How many entries the journal in this file has; None where it cannot be read."""
-    with contextlib.suppress(OSError):
-        with open(path, 'rb') as file:
-            return entries_of(text_of(file.read()))
+    with contextlib.suppress(OSError), open(path, 'rb') as file:
+        return entries_of(text_of(file.read()))
 
 
 def kept_beside(journal):
@@ -79,8 +49,8 @@ def parts_of(given):
     """The files of an office, by what they are. The certificate's key stays out of every copy."""
     journal = given.journal
     parts = {'log': f'{journal}.log', 'journal': journal, 'belongs': f'{journal}.file', 'words': f'{journal}.words',
-             'file': given.file, 'clerks': given.clerks, 'roll': given.roll, 'settings': given.settings,
-             'language': given.language, 'certificate': given.cert}
+             'file': given.file, 'sum': f'{given.file}.sha256', 'clerks': given.clerks, 'roll': given.roll,
+             'settings': given.settings, 'language': given.language, 'certificate': given.cert}
     return {part: path for part, path in parts.items() if path}
 
 
@@ -95,7 +65,7 @@ def files_of(parts):
             with open(path, 'rb') as file:
                 data = file.read()
         except FileNotFoundError:
-            if part not in ('log', 'belongs', 'words'):
+            if part not in ('log', 'belongs', 'words', 'sum'):
                 raise
             continue
         if b'PRIVATE KEY' in data and part == 'certificate':    # Some have both in one file.
@@ -114,7 +84,8 @@ class Copies:
     """The copies of an office in the folder that --backup names."""
 
     def __init__(self, folder, program, parts):
-        self.folder, self.program, self.parts, self.device = folder, program, parts, os.stat(folder).st_dev
+        self.folder, self.device = os.path.abspath(folder), os.stat(folder).st_dev
+        self.program, self.parts = program, parts
         self.stem = os.path.basename(parts['journal'])
         self.form = re.escape(self.stem) + r'\.\d{4}-\d\d-\d\d_\d\d\.\d\d\.\d\d\.\d{3}Z(-evening)?'
 
@@ -136,6 +107,15 @@ class Copies:
         with contextlib.suppress(OSError, IndexError):
             return os.path.join(self.folder, self.names()[-1])
 
+    def with_digest(self, digest):
+        """A file in a copy that has this digest, or None."""
+        for name in reversed(self.names()):
+            folder = os.path.join(self.folder, name)
+            with contextlib.suppress(OSError), open(os.path.join(folder, SUMS), encoding='utf-8') as sums:
+                for found in re.finditer(rf'^{re.escape(digest)}  ([^/\n]+)$', sums.read(), re.M):
+                    if disk.digest_in(path := os.path.join(folder, found[1])) == digest:
+                        return path
+
     def make(self, files, is_evening=False):
         """Makes a copy of these files: gives its path. It is written beside and renamed: whole or absent."""
         now = datetime.datetime.now(datetime.timezone.utc)
@@ -144,16 +124,16 @@ class Copies:
         beside, whole = os.path.join(self.folder, f'.{name}'), os.path.join(self.folder, name)
         if lacks := self.lacks():
             raise OSError(lacks)
-        with synced(self.folder):
+        with disk.alone(self.folder):
             self.clear()
             os.mkdir(beside, 0o700)
             try:
-                with synced(beside):
+                with disk.alone(beside):
                     for it, data in files.items():
-                        put(os.path.join(beside, it), data)
+                        disk.put(os.path.join(beside, it), data)
                     audited(self.program, beside, self.parts)
-                    sums = ''.join(f'{digest_of(data)}  {it}\n' for it, data in files.items())
-                    put(os.path.join(beside, SUMS), sums.encode())
+                    sums = ''.join(f'{disk.digest_of(data)}  {it}\n' for it, data in files.items())
+                    disk.put(os.path.join(beside, SUMS), sums.encode())
                 os.rename(beside, whole)
             except BaseException:
                 shutil.rmtree(beside, ignore_errors=True)
@@ -168,7 +148,7 @@ class Copies:
 
     def thin(self):
         """Keeps the newest copies and each evening's. One that is being deleted is no copy any more."""
-        with contextlib.suppress(OSError), synced(self.folder):
+        with contextlib.suppress(OSError), disk.alone(self.folder):
             for name in self.names()[:-KEPT]:
                 if not name.endswith('-evening'):
                     os.rename(os.path.join(self.folder, name), os.path.join(self.folder, f'.{name}'))
@@ -183,21 +163,26 @@ def restore(copy, program):
         raise Fault(f'{here} is not empty. Make a new folder, go there, and type this again')
     shutil.rmtree(CHECKED, ignore_errors=True)
     files = as_copied(copy)
+    count = len(files)
     try:
         os.mkdir(CHECKED, 0o700)
         for name, data in files.items():
-            put(os.path.join(CHECKED, name), data)
+            disk.put(os.path.join(CHECKED, name), data)
         try:
             parts, found = together(files, program)
         except (Fault, OSError, ValueError, KeyError, TypeError) as why:
-            raise Fault(f'{copy}: its files do not belong together: {words_of(why)}. {NOTHING}') from None
+            words = f'its files do not belong together: {disk.words_of(why)}'
+            raise Fault(f'{copy}: {words}. {NOTHING}') from None
+        if (name := f"{parts['file']}.sha256") not in files:    # Each morning FILE is compared with it.
+            files[name] = f"{disk.digest_of(files[parts['file']])}  {parts['file']}\n".encode()
+            disk.put(os.path.join(CHECKED, name), files[name])
         # Without FILE nothing starts: it comes last.
-        with synced(here):
+        with disk.alone(here):
             for name in sorted(files, key=lambda it: (it == parts['file'], it != parts['journal'])):
                 os.rename(os.path.join(CHECKED, name), name)
     finally:
         shutil.rmtree(CHECKED, ignore_errors=True)
-    return [f'{copy} is whole: {len(files)} files, each with its digest.', *found,
+    return [f'{copy} is whole: {count} files, each with its digest.', *found,
             f"Put back into {here}: {', '.join(sorted(files))}."]
 
 
@@ -212,14 +197,14 @@ def as_copied(copy):
         for digest, name in (line.groups() for line in lines):
             with open(os.path.join(copy, name), 'rb') as file:
                 files[name] = file.read()
-            if digest_of(files[name]) != digest:
+            if disk.digest_of(files[name]) != digest:
                 wrong.append(f'{name} is not what was copied: its digest differs')
         wrong += [f'{name} is not in {SUMS}' for name in sorted(there - set(files))]
         if wrong:
             raise ValueError('; '.join(wrong))
         return files
     except (OSError, ValueError) as why:
-        raise Fault(f'{copy} is not a whole copy: {words_of(why)}. {NOTHING}') from None
+        raise Fault(f'{copy} is not a whole copy: {disk.words_of(why)}. {NOTHING}') from None
 
 
 def together(files, program):
@@ -231,7 +216,7 @@ def together(files, program):
     audited(program, CHECKED, parts)
     text = files[parts['journal']]
     count = entries_of(text)
-    is_same = digest_of(text) == kept['sha256'] and digest_of(files[parts['file']]) == state['file']
+    is_same = disk.digest_of(text) == kept['sha256'] and disk.digest_of(files[parts['file']]) == state['file']
     if not is_same or len(text) != kept['length']:
         raise ValueError('they are not of one moment')
     found = [f"{parts['file']}: sha256 {state['file']}",

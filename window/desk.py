@@ -1,7 +1,7 @@
 """The desk: `pb_app serve --by-id`, the window's child, which alone writes the journal. Here its answers are read."""
 import collections, contextlib, csv, io, os, secrets, subprocess, sys, threading, time
 
-import copies, log
+import copies, disk, log
 from election import Fault, is_fit, records
 
 # How many seconds the start waits for a journal that another run has, and a clerk for an answer; after how
@@ -49,15 +49,16 @@ class Desk:
 
     def __init__(self, serve, file, journal, its_log, election):
         self.command, self.files = [*serve, file, journal], (file, journal)
-        self.words = log.opened(f'{journal}.words')
+        self.words = disk.opened(f'{journal}.words')
         self.log, self.election, self.votes = its_log, election, election.votes
         # Whoever sends, or starts the child, does it alone, and no page that sends nothing waits for that.
         self.sending, self.seats = threading.RLock(), threading.BoundedSemaphore(SEATS)
         # How many rows this child was sent; who starts it, and since when.
         self.sent, self.starting, self.begun, self.guard = 0, threading.Thread(), 0, threading.Lock()
         self.waiting, self.busy, self.newest, self.shut, self.mark = collections.deque(), set(), NOTHING, None, None
-        # The child that runs, the line with which one has stopped, and why none was started after that.
-        self.child, self.fault, self.failure = None, None, None
+        # The child that runs, the line with which one has stopped, on which disk that was, and why none was
+        # started after that.
+        self.child, self.fault, self.place, self.failure = None, None, '', None
         self.unknown = {form: Request(it['clerk'], it['request'], it['voter'], seen=it.get('seen', -1), form=form)
                         for form, it in its_log.asked.items()}
 
@@ -66,20 +67,27 @@ class Desk:
         mark = [getattr(os.stat(self.files[0]), it) for it in ('st_dev', 'st_ino', 'st_size', 'st_mtime_ns')]
         if self.mark not in (None, mark):
             raise Fault(f'{self.files[0]} is not the file that this window began with')
-        journal, until = self.files[1], time.monotonic() + LOCKED
+        journal, until = self.files[1], None
         if kept := copies.kept_beside(journal):
             raise Fault(kept)
         if self.log.entries and not os.path.exists(journal):
             raise Fault(self.lacking(self.log.entries, 0))
         first = []
+        with contextlib.suppress(OSError):
+            os.write(self.words, f'{log.now()}: pb_app serve is started.\n'.encode())
         while first[:1] != ['entries']:
             begin = os.fstat(self.words).st_size
             child, rows = started(self.command, self.words)
             first = next((row for row in rows if row[0] != 'torn'), [])
             if first[:1] != ['entries']:
                 child.communicate()
+                if first[:2] == ['fault', 'locked'] and not until:
+                    until = time.monotonic() + LOCKED
+                    print(f'Another window or serve has {journal}. Trying for {LOCKED} seconds..', flush=True)
                 if first[:2] != ['fault', 'locked'] or time.monotonic() > until:
-                    raise Fault(f"{';'.join(first) or 'pb_app serve did not start'}\n{self.words_from(begin)}".strip())
+                    line, more = ';'.join(first) or 'pb_app serve did not start', self.words_from(begin)
+                    more += f'Make room on {disk.named(journal)}' * (first[:2] == ['fault', 'write'])
+                    raise Fault(f'{line}\n{more}'.strip())
                 time.sleep(0.2)
         lacking = self.read_journal(int(first[1]))
         if lacking:
@@ -137,7 +145,9 @@ class Desk:
             self.child = None
             self.log.write('ended', status=child.returncode, fault=self.fault)
             if self.fault:
-                print(f'run.py: the desk has stopped: {self.fault}. The head clerk’s page says why.', flush=True)
+                words = f'run.py: the desk has stopped: {self.fault}. '
+                words += f'Make room on {self.place}. ' * self.fault.startswith('fault;write')
+                print(words + 'The head clerk’s page says why.', flush=True)
             while self.waiting:
                 self.unknown[self.waiting[0].form] = self.waiting[0]
                 self.end_first()
@@ -151,7 +161,7 @@ class Desk:
     def take(self, row):
         """Takes an answer, or the line with which the child ends by itself."""
         if row[0] == 'fault' and row[1] != 'script':
-            self.fault = ';'.join(row)
+            self.fault, self.place = ';'.join(row), disk.named(self.files[1])
             return
         asked = self.waiting[0]
         if row[0] == 'fault' and row[4:] == [str(asked.number)]:

@@ -34,6 +34,11 @@ def ids_of(text):
     return list(dict.fromkeys(filter(None, (piece.strip(SPACE) for piece in text.split(',')))))
 
 
+def plain(text, longest):
+    """The beginning of a text, as one line that can be seen."""
+    return ''.join(it if it.isprintable() else ' ' for it in text[:longest]).strip()
+
+
 def is_fit(voter):
     """Whether the window takes this as a voter's id."""
     return (voter == voter.strip(SPACE) != '' and len(voter.encode(errors='replace')) <= LONGEST_ID

@@ -1,18 +1,13 @@
 """What changed overnight: JOURNAL.window has what a day left behind; the next morning is compared with it."""
-import contextlib, datetime, getpass, hashlib, json, os, shutil, subprocess, sys, threading
+import contextlib, datetime, getpass, itertools, json, os, shlex, shutil, subprocess, sys, threading
 
-import clerks, copies, log, roll
-from election import Fault
+import clerks, copies, disk, log, roll
+from election import Election, Fault, plain
 
-# A minute, and after how many seconds the watch looks whether the folder of the copies is there.
-MINUTE, LOOKS = 60, 10
-
-
-def file_digest(path):
-    """The SHA-256 of a file; None where there is none to be read."""
-    with contextlib.suppress(OSError, TypeError):
-        with open(path, 'rb') as file:
-            return hashlib.file_digest(file, 'sha256').hexdigest()
+# A minute, and after how many seconds the watch looks whether the folder of the copies is there; how many
+# positions are named that are not as they were.
+MINUTE, LOOKS, NAMED = 60, 10, 20
+RUN = os.path.join(os.path.dirname(os.path.abspath(__file__)), 'run.py')
 
 
 def day_of(time):
@@ -46,30 +41,46 @@ def journal_changed(state, journal):
         front = file.read(kept['length'])
     if len(front) < kept['length']:
         return [f'{journal} has changed since {since}: it is shorter. {had}']
-    if copies.digest_of(front) != kept['sha256']:
+    if disk.digest_of(front) != kept['sha256']:
         return [f'{journal} has changed since {since}: what it had then is not the same. {had}']
     return []
 
 
 def changes(state, given, now):
-    """What is not as it was when the last day ended, in words."""
-    since, told = day_of(state['time']), journal_changed(state, given.journal)
+    """What besides the journal is not as it was when the last day ended, in words."""
+    since, told = day_of(state['time']), []
     if now['file'] != state['file']:
         told.append(f'{given.file} has changed since {since}: its SHA-256 was {state["file"]}.')
     if now['roll'] and state['roll'] and now['roll'] != state['roll']:
         told.append(f'{given.roll}, the roll, has changed since {since}.')
-    return told + settings_changed(state['settings'], now['settings'], given.settings)
+    return told + settings_changed(state['settings'], given.known, given.settings)
 
 
 def settings_changed(before, now, path):
-    """Which settings differ from those of the last day, in words. Arguments alone are not compared."""
-    if before is None:
+    """Which settings, or options, differ from those of the last day, in words."""
+    if before is None:      # An older window kept no options.
         return []
-    if now is None:
-        return ['The last day began with a file of settings, and today began without one.']
+    begun = ['with' if 'file' in it else 'without' for it in (before, now)]
+    if len(set(begun)) > 1:
+        return [f'The last day began {begun[0]} a file of settings, and today began {begun[1]} one.']
     show = lambda it: 'nothing' if it in (None, [], '') else json.dumps(it, ensure_ascii=False)
-    return [f'{path}: {key} was {show(before.get(key))}, and is {show(now.get(key))}.'
+    return [f'{path or "the command"}: {key} was {show(before.get(key))}, and is {show(now.get(key))}.'
             for key in sorted({*before, *now}) if before.get(key) != now.get(key)]
+
+
+def projects_changed(before, now):
+    """What a corrected file has at each position that is not as before, in words; ballots name positions."""
+    show = lambda it: f'{plain(it.id, 40)} ({plain(it.name, 80)}, {it.cost})' if it else 'nothing'
+    others, told = [], []
+    for place, (old, new) in enumerate(itertools.zip_longest(before.projects, now.projects)):
+        words = f'position {place} was {show(old)}, and is {show(new)}.'
+        if old and (not new or new.id != old.id):
+            others.append(f'{words} Ballots for the former one would count for the one there now!')
+        elif old != new:
+            told.append(words)
+    told = others + told
+    more = [f'and {len(told) - NAMED} positions more.'] if len(told) > NAMED else []
+    return told[:NAMED] + more or ['each position has the same project, name and cost as before.']
 
 
 def confirm(told, newest, head, log):
@@ -80,10 +91,9 @@ def confirm(told, newest, head, log):
     log.write('changed-overnight', changes=told)
     if not sys.stdin.isatty():
         raise Fault('The head clerk has to confirm this at a terminal. Nothing was opened')
-    try:
+    passphrase = ''
+    with contextlib.suppress(EOFError):
         passphrase = getpass.getpass(f"To go on as it is, {head['name']} types the passphrase: ")
-    except EOFError:
-        passphrase = ''
     if not clerks.is_right(head, passphrase):
         log.write('not-confirmed')
         raise Fault("this is not the head clerk's passphrase. Nothing was opened")
@@ -98,29 +108,57 @@ class Keeper:
     def __init__(self, given, log):
         self.given, self.log, self.turn, self.parts = given, log, threading.RLock(), copies.parts_of(given)
         self.copies = copies.Copies(given.backup, given.program, self.parts) if given.backup else None
-        self.now = {'file': file_digest(given.file), 'roll': file_digest(given.roll), 'settings': given.known}
-        self.trouble, self.last, self.is_warned, self.is_over = None, None, False, threading.Event()
+        self.now = {it: disk.digest_in(vars(given)[it]) for it in ('file', 'roll')}
+        self.trouble, self.is_warned, self.is_over = None, False, threading.Event()
 
-    def compare(self, head):
+    def compare(self, head, election):
         """Tells what changed overnight, and lets the head clerk confirm it."""
-        state, given = load(self.given.journal), self.given
-        told, count = changes(state, given, self.now) if state else [], copies.count_in(given.journal) or 0
-        is_less = bool(told and journal_changed(state, given.journal))
-        if not told and count < self.log.entries:
-            told = [f'{given.journal} lacks entry {self.log.entries}, which was answered (its entries: {count}). '
+        journal, state, known = self.given.journal, load(self.given.journal), self.log.entries
+        count, newest = copies.count_in(journal) or 0, self.copies and self.copies.newest()
+        lost = journal_changed(state, journal) if state else []
+        if not lost and count < known:
+            lost = [f'{journal} lacks entry {known}, which was answered (its entries: {count}). '
                     'Give the right journal this name.']
-        newest = self.copies.newest() if self.copies else None
-        if kept := copies.kept_beside(given.journal):
-            raise Fault(kept if os.path.exists(given.journal) or not told else f'{told[0]} But {kept}')
-        if told and not os.path.exists(given.journal):
-            answered = f' Entries that were answered: {self.log.entries}.' if self.log.entries else ''
-            more = f', or restore the newest copy{self.size_of(newest)} in a new folder: {newest}' if newest else ''
-            raise Fault(f'{told[0]}{answered} Get it back{more}')
-        if is_less or count < self.log.entries:
-            told.append(self.losses(count, self.log.entries or state['entries'], newest))
+        if kept := copies.kept_beside(journal):
+            raise Fault(kept if os.path.exists(journal) or not lost else f'{lost[0]} But {kept}')
+        if lost and not os.path.exists(journal):
+            answered = f' Entries that were answered: {known}.' if known else ''
+            raise Fault(f'{lost[0]}{answered} Look for it, and put it back.{self.way_back(newest)}')
+        if not lost and newest and not self.has_all_of(newest):
+            lost = [f'{journal} lacks what the newest copy has{self.size_of(newest)}. Is this an older state '
+                    'of the folder? If it is another desk, its copies need another folder.']
+        told, is_here = list(lost), {'window': state, 'log': self.log.is_known}
+        told += changes(state, self.given, self.now) if state else []
+        if gone := ' and '.join(f'{journal}.{it}' for it in is_here if count and not is_here[it]):
+            told.append(f'{gone}: not here, or empty, though {journal} has entries ({count}). If the window '
+                        'took these, nobody knows what has changed since: compare with the newest copy.')
+        if lost:
+            told.append(self.losses(count, known or (state or {}).get('entries', 0), newest))
         if told:
             self.try_out()
-            confirm(told, newest, head, self.log)
+            confirm(told + self.corrected(election), newest, head, self.log)
+
+    def has_all_of(self, copy):
+        """Whether the journal begins with what a copy has."""
+        copied = self.journal_in(copy)
+        with contextlib.suppress(OSError), open(copied, 'rb') as one, open(self.given.journal, 'rb') as other:
+            return other.read(len(text := one.read())) == text
+        return not copies.count_in(copied)
+
+    def journal_in(self, copy):
+        return os.path.join(copy, os.path.basename(self.given.journal))
+
+    def corrected(self, election):
+        """With --other-file: what is at another position than in the former file, in words."""
+        given = self.given
+        with contextlib.suppress(OSError), open(f'{given.journal}.file', errors='replace') as file:
+            if given.other_file and (former := file.readline()[:64]) != self.now['file']:
+                if path := self.copies and self.copies.with_digest(former):
+                    told = projects_changed(Election(given.program, path, 0), election)
+                    return [f'{given.file} beside the former file, {path}:', *told]
+                return [f'No copy has the former file (SHA-256 {former}), so nobody can tell here which '
+                        'positions have changed. Each project has to be at the position that it had there.']
+        return []
 
     def try_out(self):
         """Has `serve` open a copy of the journal. What no passphrase can open is so refused before one is asked for:
@@ -143,14 +181,17 @@ class Keeper:
         if count < known:
             lost = f'Entry {known} was' if count + 1 == known else f'Entries {count + 1} to {known} were'
             words += f' {lost} answered, and will be lost if you go on.'
-        if newest:
-            words += (f' To get back what the newest copy has{self.size_of(newest)}: make a new folder, '
-                      f'and type there: run.py --restore {newest}')
-        return words
+        return words + self.way_back(newest)
+
+    def way_back(self, copy):
+        """How to get back what the newest copy has, in words that can be typed as they are."""
+        command = copy and shlex.join([sys.executable, RUN, '--restore', copy])
+        return copy and (f' To get back what the newest copy has{self.size_of(copy)}: make a new folder, and '
+                         f'type there: {command}') or ''
 
     def size_of(self, copy):
         """How many entries a copy has, in words; nothing where that cannot be read."""
-        count = copies.count_in(os.path.join(copy, os.path.basename(self.given.journal)))
+        count = copies.count_in(self.journal_in(copy))
         return '' if count is None else f' (its entries: {count})'
 
     def files(self):
@@ -159,8 +200,9 @@ class Keeper:
         files = copies.files_of(self.parts)
         name = os.path.basename(self.given.journal)
         text, parts = files[name], {part: os.path.basename(path) for part, path in self.parts.items()}
-        state = {'time': time, 'journal': {'length': len(text), 'sha256': copies.digest_of(text)},
-                 'entries': copies.entries_of(text), **self.now, 'has_key': bool(self.given.cert),
+        state = {'time': time, 'journal': {'length': len(text), 'sha256': disk.digest_of(text)},
+                 'entries': copies.entries_of(text), 'has_key': bool(self.given.cert),
+                 **self.now, 'settings': self.given.known,
                  'parts': {part: it for part, it in parts.items() if it in files}}
         return {**files, f'{name}.window': (json.dumps(state, indent=1) + '\n').encode()}
 
@@ -172,7 +214,8 @@ class Keeper:
             raise Fault(f'No copy was made: {told[0] if told else kept}')
         files = self.files()
         name = os.path.basename(journal)
-        count, known = copies.entries_of(files[name]), log.entries_in(files.get(f'{name}.log', b'').splitlines())
+        lines = files.get(f'{name}.log', b'').decode(errors='replace').splitlines()
+        count, known = copies.entries_of(files[name]), log.told_in(lines).entries or 0
         if count < known:
             raise Fault(f'No copy was made: {journal} lacks entry {known}, which was answered (its entries: {count})')
         return self.copies.make(files)
@@ -187,14 +230,11 @@ class Keeper:
                 raise Fault(f"{self.given.journal} is not the desk's: a .kept file is here")
             files = self.files()
             try:
-                with contextlib.suppress(FileNotFoundError):
-                    os.remove(f'{path}.new')
-                copies.put(f'{path}.new', files[os.path.basename(path)])
-                os.replace(f'{path}.new', path)
+                disk.put_over(path, files[os.path.basename(path)])
             except OSError as why:      # A full disk here is one more reason for a copy elsewhere.
                 failure = why
             if self.copies and is_copied:
-                whole = self.last = self.copies.make(files, is_evening)
+                whole = self.copies.make(files, is_evening)
                 self.trouble = None
                 self.log.write('copied', name=os.path.basename(whole))
                 self.warn(whole)
@@ -240,4 +280,4 @@ class Keeper:
         try:
             self.keep(is_copied)
         except (Fault, OSError, ValueError) as why:
-            self.tell(f'No copy was made: {copies.words_of(why)}')
+            self.tell(f'No copy was made: {disk.words_of(why)}')

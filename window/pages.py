@@ -89,13 +89,15 @@ def words():
     """What each page knows."""
     held = cookie('session') if g.session else g.get('fresh', cookie('sign-in'))
     why = STOPS.get((office.desk.fault or '').partition(';')[2].split(';')[0], '')
+    why += f' Make room on {office.desk.place}.' * (why == STOPS['write'] and g.clerk == 0)
     return {'clerk': g.clerk, 'office_title': office.given.title or 'Clerks’ window', 'desk': office.desk,
             'keeper': office.keeper, 'turnout': office.log.turnout,
-            'log_failure': office.log.why_not(), 'why_stopped': why,
+            'log_failure': office.log.why_not(), 'log_place': office.log.place, 'why_stopped': why,
             'election': office.election, 'unknown': list(office.desk.unknown.values()),
             'said': lambda name: ANSWERS.get(name.split()[0], f'Not recorded: {name}.'),
             'name_of': office.door.name_of, 'who': lambda it: f"{office.door.name_of(it)} (clerk {it}{', you' * (it == g.clerk)})",
             'when': when, 'named': office.roll.names if office.roll else {},
+            'is_off_roll': lambda it: office.roll is not None and it not in office.roll.names,
             'token': Markup('<input type="hidden" name="token" value="%s">') % token_of(held)}
 
 
@@ -177,15 +179,18 @@ def ballot_of(voter, is_asked_for=False):
         return office.election.held(voter, entry)
 
 
-def is_off_roll(voter):
-    return office.roll is not None and office.roll.lacks(voter)
+def is_cased(voter):
+    """Whether nobody is known by this id, and somebody by one with other capital letters."""
+    places = [office.desk.history, office.election.votes, office.roll.names if office.roll else ()]
+    is_known = lambda it: any(it in place for place in places)
+    return not is_known(voter) and (is_known(voter.lower()) or is_known(voter.upper()))
 
 
 def show(voter, ids=None, is_asked_for=False):
     """The page of a voter. It begins without ticks, or with those that the clerk has just made."""
     office.desk.keep_up()
     return page('voter', 'Voter', voter=voter, ids=ids, held=ballot_of(voter, is_asked_for),
-                is_off_roll=is_off_roll(voter))
+                is_cased=is_cased(voter))
 
 
 @app.post('/voter')
@@ -242,7 +247,6 @@ def look_at(asked, is_asked_for=False):
     return page('look', 'Check before you record', asked=asked, is_shown=is_shown,
                 chosen=office.election.chosen(asked.ids),
                 held=ballot_of(asked.voter) if asked.before is None else None,
-                is_off_roll=is_off_roll(asked.voter),
                 is_named=office.election.places_of(asked.ids) is not None)
 
 

@@ -3,7 +3,7 @@
 import argparse, errno, ipaddress, os, shlex, shutil, signal, socket, sys, threading
 
 sys.dont_write_bytecode = True
-import copies, desk, election, log, overnight, roll, sessions, settings, sign_in
+import copies, desk, disk, election, log, overnight, roll, sessions, settings, sign_in
 try:
     # A copy is made and put back without these.
     if not {'--copy', '--restore'} & {it.split('=')[0] for it in sys.argv}:
@@ -46,12 +46,16 @@ def arguments():
         path, more = given.file, [it for it in sys.argv[1:] if it != given.file]
         try:
             known = settings.load(path)
+            options, names = settings.arguments_of(path, dict(known))
             known['the command line'] = [it for it in more if it not in ('--copy', '--other-file')]
-            options, names = settings.arguments_of(path)
         except ValueError as why:
             parser.exit(2, f'run.py: {why}\n')
         given = parser.parse_args([*options, *more, '--', *names])
-    given.settings, given.known = path, known
+    # What is kept of options alone: of a path its name, so that it matters not where it begins.
+    kept = {it: vars(given)[it] for it in ('min', 'title', 'currency', 'count')}
+    for it in ('clerks', 'roll', 'backup', 'language'):
+        kept[it] = vars(given)[it] and os.path.basename(os.path.abspath(vars(given)[it]))
+    given.settings, given.known = path, known or {f'--{it}': value for it, value in kept.items()}
     if not given.restore and not given.file:
         parser.error('name FILE and JOURNAL, or a file of settings, or --restore COPY')
     if not given.restore and not given.clerks and not given.copy:
@@ -88,12 +92,11 @@ class Day:
         self.election = election.Election(given.program, given.file, given.min)
         self.log = log.Log(f'{given.journal}.log')
         roll.clear_folders()
+        self.roll = roll.Roll(given.roll) if given.roll else None
         self.keeper = overnight.Keeper(given, self.log)
-        self.keeper.compare(self.door.known[0])
-        self.roll = roll.Roll(given.program, given.roll) if given.roll else None
+        self.keeper.compare(self.door.known[0], self.election)
         serve = [given.program, 'serve', '--by-id', *(['--roll', self.roll.path] if self.roll else []),
-                 f'--min={given.min}',
-                 *['--other-file'] * given.other_file]
+                 f'--min={given.min}', *['--other-file'] * given.other_file]
         self.desk = desk.Desk(serve, given.file, given.journal, self.log, self.election)
         self.desk.start()
         self.keeper.try_to_keep(is_copied=False)
@@ -110,7 +113,7 @@ class Day:
             self.log.tell_omitted(is_last=True)
             try:
                 kept = copies.kept_beside(self.given.journal)
-                digest = None if kept else overnight.file_digest(self.given.journal)
+                digest = None if kept else disk.digest_in(self.given.journal)
                 entries = self.desk.newest.number
                 self.log.write('ended', entries=entries, digest=digest)
                 if kept:
@@ -121,7 +124,7 @@ class Day:
                 if whole:
                     print(f'Copied to {whole}', flush=True)
             except (OSError, ValueError, election.Fault) as why:
-                why = copies.words_of(why)
+                why = disk.words_of(why)
                 self.keeper.tell(f'No copy was made: {why}')
                 return (f'No copy was made: {why}. Copy the folder by hand. If {self.given.journal} was moved, look for '
                         f'{self.given.journal}.kept.')
@@ -140,9 +143,7 @@ def tls_of(given):
     """The TLS of the window, if it has a certificate. A Fault where this, its key or the address cannot be used."""
     host, port = given.address
     try:
-        with socket.socket(socket.AF_INET6 if ':' in host else socket.AF_INET) as it:
-            it.setsockopt(socket.SOL_SOCKET, socket.SO_REUSEADDR, 1)
-            it.bind(given.address)
+        socket.create_server(given.address, family=socket.AF_INET6 if ':' in host else socket.AF_INET).close()
     except OSError as why:
         more = {errno.EADDRINUSE: f'another program has port {port}: end it, or choose another port',
                 errno.EADDRNOTAVAIL: f'this machine does not have the address {host}',
@@ -151,7 +152,7 @@ def tls_of(given):
     try:
         return server.Tls(given.cert, given.key) if given.cert else None
     except (OSError, ValueError) as why:
-        words = f'the certificate {given.cert} with the key {given.key} cannot be used: {copies.words_of(why)}'
+        words = f'the certificate {given.cert} with the key {given.key} cannot be used: {disk.words_of(why)}'
         raise election.Fault(words) from None
 
 
@@ -165,7 +166,8 @@ def opened(given):
         raise election.Fault(f'--program: {given.program} is not a program that can be run')
     if given.restore:
         print(*copies.restore(given.restore, given.program), sep='\n')
-        return print('Leave the other machine switched off. Then start the window as each morning.')
+        return print('Never open the desk of the other machine, or of the former folder, again. Start the '
+                     'window here, as each morning.')
     if given.copy:
         keeper = overnight.Keeper(given, None)
         keeper.warn(whole := keeper.copy_beside())
@@ -180,7 +182,7 @@ def main():
     try:
         made = opened(given)
     except (election.Fault, OSError, ValueError) as why:
-        sys.exit(f'run.py: {copies.words_of(why)}')
+        sys.exit(f'run.py: {disk.words_of(why)}')
     if not made:
         return
     pages.office, tls = made
@@ -189,9 +191,11 @@ def main():
         print(day.election.warning(), flush=True)
     web, (ended, end) = server.Server(given.address, pages.app, day.log), os.pipe()
     web.ssl_adapter = tls
+    # Python itself writes to this pipe, whichever thread gets the signal, and whatever the main thread does.
+    os.set_blocking(end, False)
+    signal.set_wakeup_fd(end)
     for number in (signal.SIGINT, signal.SIGTERM, signal.SIGHUP):
-        # A pipe has no lock that a signal could find held.
-        signal.signal(number, lambda *_: os.write(end, b'.'))
+        signal.signal(number, lambda *_: None)
     try:
         web.prepare()
         where, count = f'{given.scheme}://{given.hosts[0]}/', day.desk.newest.number
@@ -200,7 +204,7 @@ def main():
         os.read(ended, 1)
         web.stop()
     except OSError as why:
-        failure = f'run.py: {copies.words_of(why)}'
+        failure = f'run.py: {disk.words_of(why)}'
         print(failure, file=sys.stderr)
     sys.exit(day.end(is_over=True) or (1 if failure else None))
 

@@ -1,5 +1,5 @@
 """Sessions: who is signed in, and the forms that a clerk was shown."""
-import secrets, threading, time
+import secrets, time
 
 # After how many seconds without a request, and at the latest, a session ends; how many forms it remembers.
 IDLE, LONGEST, FORMS = 30 * 60, 12 * 3600, 100

@@ -21,12 +21,10 @@ def load(path):
         found = tomllib.loads(text.decode())
     except (OSError, ValueError, RecursionError) as why:
         raise ValueError(f'{path} cannot be read as settings: {why}') from None
-    for key, value in found.items():
-        if fault := fault_of(key, value):
-            raise ValueError(f'{path}: {fault}')
-    for key in NEEDED:
-        if key not in found:
-            raise ValueError(f'{path}: the key {key} is missing')
+    faults = [fault_of(key, value) for key, value in found.items()]
+    faults += [f'the key {key} is missing' for key in NEEDED if key not in found]
+    for fault in filter(None, faults):
+        raise ValueError(f'{path}: {fault}')
     return found
 
 
@@ -46,9 +44,8 @@ def fault_of(key, value):
         return f'the setting {key} has < or >, which belong to markup'
 
 
-def arguments_of(path):
-    """The arguments that say the same as a file of settings. Its paths begin at its own folder."""
-    found = load(path)
+def arguments_of(path, found):
+    """The arguments that say the same as the settings of a file. Its paths begin at its own folder."""
     for key in PATHS:
         if key in found:
             found[key] = os.path.join(os.path.dirname(path), found[key])

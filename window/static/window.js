@@ -48,14 +48,26 @@ const begin = () => {
   tell('');
 };
 begin();
+const note = (kind, words) => {
+  const it = document.createElement('p');
+  it.className = kind;
+  it.setAttribute('role', kind === 'bad' ? 'alert' : 'status');
+  it.textContent = words;
+  return it;
+};
 // The check and the answer take the place of what is shown. No answer is no page: then this one stays, and says so.
 addEventListener('submit', async event => {
   const path = new URL(event.submitter?.hasAttribute('formaction') ? event.submitter.formAction : event.target.action).pathname;
   if (path !== '/look' && path !== '/record') return;
   event.preventDefault();
-  if (document.body.inert) return;
+  const main = document.querySelector('main'), parts = document.querySelectorAll('header, main');
+  if (main.inert) return;
   const body = new URLSearchParams(new FormData(event.target, event.submitter));
-  document.body.inert = true;
+  for (const it of parts) it.inert = true;
+  // What is inert is not read aloud: so the words that it waits stand behind it.
+  const waits = note('waits', '');
+  main.after(waits);
+  const soon = setTimeout(() => waits.textContent = 'Waiting for the answer, a minute at most. Leave this page open; nothing has to be sent again.', 1000);
   try {
     const answer = new DOMParser().parseFromString(await (await fetch(path, {method: 'POST', body})).text(), 'text/html');
     document.title = answer.title;
@@ -63,13 +75,11 @@ addEventListener('submit', async event => {
     scrollTo(0, 0);
     begin();
   } catch {
-    const words = document.createElement('p');
-    words.className = 'bad';
-    words.setAttribute('role', 'alert');
-    words.textContent = 'The window did not answer. It is not known whether anything was recorded: look up this voter again.';
-    document.querySelector('main').prepend(words);
+    main.prepend(note('bad', 'The window did not answer. It is not known whether anything was recorded: look up this voter again.'));
   }
-  document.body.inert = false;
+  clearTimeout(soon);
+  waits.remove();
+  for (const it of parts) it.inert = false;
   document.querySelector('[autofocus]')?.focus();
 });
 addEventListener('keydown', event => {
