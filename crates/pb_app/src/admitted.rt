@@ -1,74 +1,49 @@
 //! Which requests the desk admits, and what is said of those that it does not.
 
-use crate::typing::Typing;
-use crate::words;
-use pb_command_line::{Admits, Source};
+use crate::run::Run;
+use crate::system::System;
+use pb_command_line::{Admits, Task};
 use pb_commands::AppFault;
 use pb_commands::run_desk::Rules;
 use pb_core::answer::Answer;
-use pb_ids::IdTable;
+use pb_faults::RunText;
 use pb_script::{Admission, Notice, RowRefusal, read_roll};
-use pb_streams::open_file;
+use pb_streams::{Typing, open_file};
 use pb_witness::entry_counts::EntryCounts;
 use pb_witness::rule_counts::RuleCounts;
-use pb_words::refused_words::RefusedRow;
+use pb_words::refused_words::{RefusedRow, refused_words};
+use pb_words::say_words;
 use std::cell::Cell;
-use std::rt::Files;
-
-/// The number on the command line of the voters' roll.
-const ROLL: u32 = 3;
 
 /// Says on standard error why a row is refused, and counts the rows that the rules refuse, and the answers to
 /// the others.
 #[derive(Drop)]
-pub(crate) struct RefusalNotice<'a, 'p, R> {
+pub(crate) struct RowNotice<'a, R> {
     rt: &'a R,
-    /// The path of the text with the rows; none is standard input.
-    path: Option<&'p str>,
-    /// The path of the voters' roll.
-    roll: Option<&'p str>,
-    /// How many projects a ballot has at least.
-    least: u32,
+    /// The path of the script with the rows; none is standard input.
+    path: Option<&'a str>,
+    admits: Admits<'a>,
     /// Whether a row that is refused refuses the script.
     refuses_script: bool,
-    /// Who is told of rows that are not of the form, if anybody is.
-    typing: Option<&'a Typing>,
+    /// Who is told of rows that are not of the form.
+    typing: &'a Typing,
     by_rule: Cell<RuleCounts>,
     answers: Cell<EntryCounts>,
 }
 
-impl<'a, 'p, R> RefusalNotice<'a, 'p, R> {
-    /// Says it of rows that are answered one by one, and that somebody may type.
-    pub(crate) fn rows(
-        rt: &'a R,
-        admits: &Admits<'p>,
-        typing: &'a Typing,
-    ) -> RefusalNotice<'a, 'p, R> {
-        RefusalNotice {
-            rt,
-            path: None,
-            roll: admits.roll,
-            least: admits.least,
-            refuses_script: false,
-            typing: Some(typing),
-            by_rule: Cell::new(RuleCounts::new()),
-            answers: Cell::new(EntryCounts::new()),
-        }
-    }
-
-    /// Says it of a row that refuses its script.
-    pub(crate) fn script(
-        rt: &'a R,
-        script: &Source<'p>,
-        admits: &Admits<'p>,
-    ) -> RefusalNotice<'a, 'p, R> {
-        RefusalNotice {
-            rt,
-            path: script.path(),
-            roll: admits.roll,
-            least: admits.least,
-            refuses_script: true,
-            typing: None,
+impl<'a, R: System> RowNotice<'a, R> {
+    /// Of the rows that this run takes.
+    pub(crate) fn new(run: &Run<'a, R>) -> RowNotice<'a, R> {
+        let (path, refuses_script) = match &run.asked.task {
+            Task::Desk(asked) => (asked.script.path(), true),
+            _ => (None, false),
+        };
+        RowNotice {
+            rt: run.counting.rt,
+            path,
+            admits: run.asked.task.admits(),
+            refuses_script,
+            typing: run.typing,
             by_rule: Cell::new(RuleCounts::new()),
             answers: Cell::new(EntryCounts::new()),
         }
@@ -85,13 +60,10 @@ impl<'a, 'p, R> RefusalNotice<'a, 'p, R> {
     }
 }
 
-impl<R: Files + Eprint + AllocGlobal> Notice for RefusalNotice<'_, '_, R> {
+impl<R: System> Notice for RowNotice<'_, R> {
     fn refused(&self, row: u64, why: RowRefusal, unknown: &str) {
         if why == RowRefusal::Bad {
-            if let Some(typing) = self.typing {
-                typing.hear_bad_row(row);
-            }
-            return;
+            return self.typing.hear_bad_row(row);
         }
         self.by_rule.set(with_one_more(self.by_rule.get(), why));
         let refused = RefusedRow {
@@ -99,11 +71,11 @@ impl<R: Files + Eprint + AllocGlobal> Notice for RefusalNotice<'_, '_, R> {
             why,
             unknown,
             path: self.path,
-            roll: self.roll,
-            least: self.least,
+            roll: self.admits.roll,
+            least: self.admits.least,
             refuses_script: self.refuses_script,
         };
-        words::say_refused_row(self.rt, &refused);
+        say_words(self.rt, refused_words(self.rt, self.rt.alloc(), &refused));
     }
 
     fn answered(&self, answer: Answer) {
@@ -126,11 +98,11 @@ fn with_one_more(mut counts: RuleCounts, why: RowRefusal) -> RuleCounts {
 }
 
 /// The rules that the command line gives; a voters' roll is read.
-pub(crate) fn rules_of<R: Files + AllocGlobal>(
-    rt: &R,
-    admits: &Admits<'_>,
-) -> Result<Rules, AppFault> {
-    let roll = roll_of(rt, admits.roll)?;
+pub(crate) fn rules_of<R: System>(rt: &R, admits: &Admits<'_>) -> Result<Rules, AppFault> {
+    let roll = match admits.roll {
+        Some(path) => Some(read_roll(rt.alloc(), open_file(rt, path, RunText::Roll)?)?),
+        None => None,
+    };
     Ok(Rules {
         by_id: admits.by_id,
         admission: Admission {
@@ -139,16 +111,4 @@ pub(crate) fn rules_of<R: Files + AllocGlobal>(
             least: admits.least,
         },
     })
-}
-
-/// The voters' roll with this path.
-fn roll_of<R: Files + AllocGlobal>(
-    rt: &R,
-    path: Option<&str>,
-) -> Result<Option<IdTable>, AppFault> {
-    let Some(path) = path else {
-        return Ok(None);
-    };
-    let file = open_file(rt, path, ROLL)?;
-    Ok(Some(read_roll(rt.alloc(), file)?))
 }

@@ -1,66 +1,36 @@
 //! The command `export`: the .pb file of a count, with what the file that was read has further.
 
-use crate::journal::{alone, open_with_journal};
-use crate::kinship::Kinship;
-use crate::perform::Notes;
+use crate::notes::Notes;
+use crate::run::Run;
+use crate::system::System;
 use csv::ByteRecord;
 use pb_command_line::Ballots;
+use pb_commands::AppFault;
 use pb_commands::run_export::run_export;
-use pb_commands::{AppFault, Counting, Inputs};
+use pb_core::election::Election;
 use pb_export::{Carried, Carry};
 use pb_read::{Heed, Part, ReadFault, Stage, Warning, Watch};
-use pb_streams::{Progress, open_shown};
-use pb_witness::warnings::ResultWarnings;
 use pb_words::export_words::ASKED_FOR;
-use std::fs::File;
 use std::io::Write;
-use std::rt::{Clock, Files};
-use std::thread::Threads;
 
 /// Counts these ballots, and writes their .pb file with what the count came to.
-pub(crate) fn export<'a, R, W: Write>(
-    counting: &Counting<'a, R, Progress<'a, R>>,
+pub(crate) fn export<'a, R: System, W: Write>(
+    run: &Run<'a, R>,
     ballots: &Ballots<'a>,
-    keeps_voters: bool,
     writer: &mut W,
-    kinship: &'a Kinship,
     notes: &mut Notes,
-) -> Result<(), AppFault>
-where
-    R: Files<File = File> + Input + Eprint + Clock + Threads + Sync,
-{
+) -> Result<(), AppFault> {
+    let inputs = run.inputs(ballots)?;
     let mut watch = ExportWatch {
         warnings: &mut notes.seen,
-        carried: Carried::new(counting.alloc, keeps_voters),
+        carried: Carried::new(run.counting.alloc, run.asked.keeps_voters),
     };
-    let done = write_export(counting, ballots, &mut watch, writer, kinship);
+    let done = run_export(&run.counting, inputs, &mut watch, writer);
     let lacking = lacking_of(&watch.carried);
     drop(watch);
+    done?;
     notes.lacking = lacking;
-    done
-}
-
-/// Exports these ballots, while this one looks on at the file.
-fn write_export<'a, R, W: Write>(
-    counting: &Counting<'a, R, Progress<'a, R>>,
-    ballots: &Ballots<'a>,
-    watch: &mut ExportWatch<'_, ResultWarnings>,
-    writer: &mut W,
-    kinship: &'a Kinship,
-) -> Result<(), AppFault>
-where
-    R: Files<File = File> + Input + Eprint + Clock + Threads + Sync,
-{
-    let Some(journal) = &ballots.journal else {
-        let file = open_shown(counting.gate, &ballots.file)?;
-        return run_export(counting, alone(file), watch, writer);
-    };
-    let (file, journal) = open_with_journal(counting, &ballots.file, journal, kinship)?;
-    let inputs = Inputs {
-        file,
-        journal: Some(journal),
-    };
-    run_export(counting, inputs, watch, writer)
+    Ok(())
 }
 
 /// Which of the keys that Pabulib asks for are lacking.
@@ -80,17 +50,17 @@ struct ExportWatch<'w, H> {
 }
 
 impl<H: Heed> Watch for ExportWatch<'_, H> {
-    fn see(&mut self, record: &ByteRecord, at: u32, part: Part) {
-        self.warnings.see(record, at, part);
-        self.carried.see(record, at, part);
+    fn see(&mut self, record: &ByteRecord, at: u32, part: Part, election: &Election) {
+        self.warnings.see(record, at, part, election);
+        self.carried.see(record, at, part, election);
     }
 
     fn refuse(&mut self, record: &ByteRecord, fault: ReadFault, stage: &Stage) {
         self.warnings.refuse(record, fault, stage);
     }
 
-    fn end(&mut self) {
-        self.warnings.end();
+    fn end(&mut self, election: &Election) {
+        self.warnings.end(election);
     }
 }
 

@@ -1,21 +1,19 @@
 //! Who makes a page of a count.
 
-ghost use Rattle.std.specs.Prelude.{◌≡◌, IfOk};
-ghost use Rattle.pb_reasons.specs.Counted.{IsCountBy};
+ghost use Rattle.std.specs.Prelude.{IfOk};
 ghost use Rattle.pb_app.specs.Inner.Page.{IsPageBy};
 
-use crate::kinship::Kinship;
 use crate::page_watch::PageWatch;
 use crate::tongue::Tongue;
 use pb_command_line::currency::is_currency;
 use pb_command_line::{PROGRAM, PageRun, Source};
-use pb_commands::{CountedElection, Counting};
+use pb_commands::Counting;
 use pb_core::election::Election;
 use pb_core::gate::Gate;
 use pb_core::money::Money;
 use pb_core::no_memory::NoMemory;
 use pb_page::{Categories, Facts, Language, ReadText, page_of};
-use pb_rounds::rule::Rule;
+use pb_reasons::CountedElection;
 use pb_streams::Hex;
 use pb_witness::page_notes::PageNotes;
 use std::cell::Cell;
@@ -30,8 +28,8 @@ const INPUT: &str = "standard input";
 pub(crate) struct PageMaker<'a, S> {
     pub(crate) run: PageRun<'a>,
     pub(crate) speech: &'a S,
-    /// It has the digest of the .pb file, once that is read.
-    pub(crate) kinship: &'a Kinship,
+    /// The digest of the .pb file, once that is read.
+    pub(crate) file: &'a Cell<Option<Hex>>,
     /// The digest of the journal, once one is read.
     pub(crate) journal: &'a Cell<Option<Hex>>,
 }
@@ -57,8 +55,7 @@ impl<S: Tongue> PageMaker<'_, S> {
         watch: &PageWatch<'_, H>,
         count: &CountedElection,
     ) -> Result<Vec<u8>, NoMemory>
-        requires { IsCountBy counting.now.rule.now count.now.election count.now.counted }
-        ensures { IfOk result (λ text. IsPageBy counting.now.rule.now count.now.election text.items) }
+        ensures { IfOk result (λ text. IsPageBy count.now.rule count.now.election text.items) }
     {
         let notes = watch.notes();
         if !notes.is_whole() {
@@ -67,7 +64,7 @@ impl<S: Tongue> PageMaker<'_, S> {
         let categories = notes.categories()?;
         let seen = Seen {
             run: self.run,
-            file: self.kinship.file.get(),
+            file: self.file.get(),
             journal: self.journal.get(),
             notes,
             categories: categories.as_slice(),
@@ -85,15 +82,14 @@ fn page_with<'a, T: Threads + Sync, G: Gate, S: Tongue>(
     speech: &'a S,
     seen: &'a Seen<'a>,
 ) -> Result<Vec<u8>, NoMemory>
-    requires { IsCountBy counting.now.rule.now count.now.election count.now.counted }
-    ensures { IfOk result (λ text. IsPageBy counting.now.rule.now count.now.election text.items) }
+    ensures { IfOk result (λ text. IsPageBy count.now.rule count.now.election text.items) }
 {
     let (rt, alloc, gate) = (counting.rt, counting.alloc, counting.gate);
     let said = speech.said(alloc, currency_of(seen))?;
     let title = seen.run.title.unwrap_or(said.title);
-    let language = said.language(is_whole(&count.election));
-    let facts = facts_of(counting.rule, seen, title, language);
-    let page = page_of(rt, alloc, gate, &count.election, &count.counted, &facts);
+    let language = said.language(is_whole(count.election()));
+    let facts = facts_of(seen, title, language);
+    let page = page_of(rt, alloc, gate, count, &facts);
     drop(said);
     page
 }
@@ -110,14 +106,7 @@ fn currency_of<'a>(seen: &'a Seen<'a>) -> Option<&'a str> {
 }
 
 /// What the page says beside the outcome, with this title and in this language.
-fn facts_of<'a>(
-    rule: &Rule,
-    seen: &'a Seen<'a>,
-    title: &'a str,
-    language: Language<'a>,
-) -> Facts<'a>
-    ensures rule { result.rule ≡ rule.now }
-{
+fn facts_of<'a>(seen: &'a Seen<'a>, title: &'a str, language: Language<'a>) -> Facts<'a> {
     let run = &seen.run;
     let journal = match (&run.ballots.journal, &seen.journal) {
         (Some(given), Some(digest)) => Some(source_of(given, Some(digest))),
@@ -128,7 +117,6 @@ fn facts_of<'a>(
         file: source_of(&run.ballots.file, seen.file.as_ref()),
         journal,
         recount: run.recount,
-        rule: *rule,
         compares: run.compares,
         categories: categories_of(seen),
         program: PROGRAM,

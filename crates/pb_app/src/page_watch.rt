@@ -1,6 +1,7 @@
 //! Who looks on at the file of a page.
 
 use csv::ByteRecord;
+use pb_core::election::Election;
 use pb_read::{Heed, Part, ReadFault, Stage, Warning, Watch};
 use pb_witness::page_notes::PageNotes;
 use std::alloc::Global;
@@ -28,17 +29,17 @@ impl<'w, H> PageWatch<'w, H> {
 }
 
 impl<H: Heed> Watch for PageWatch<'_, H> {
-    fn see(&mut self, record: &ByteRecord, at: u32, part: Part) {
-        self.warnings.see(record, at, part);
-        self.notes.see(record, at, part);
+    fn see(&mut self, record: &ByteRecord, at: u32, part: Part, election: &Election) {
+        self.warnings.see(record, at, part, election);
+        self.notes.see(record, at, part, election);
     }
 
     fn refuse(&mut self, record: &ByteRecord, fault: ReadFault, stage: &Stage) {
         self.warnings.refuse(record, fault, stage);
     }
 
-    fn end(&mut self) {
-        self.warnings.end();
+    fn end(&mut self, election: &Election) {
+        self.warnings.end(election);
     }
 }
 

@@ -2,7 +2,7 @@
 
 ghost use Rattle.std.specs.Prelude.{OnOk};
 ghost use Rattle.pb_core.specs.Election.{ElectionView};
-ghost use Rattle.pb_commands.specs.Closed.{CountRefuses, WritesOf};
+ghost use Rattle.pb_commands.specs.Closed.{CountRefuses, Gives};
 ghost use Rattle.pb_commands.specs.Ends.{HasWritten, Runs, known};
 ghost use Rattle.pb_app.specs.Inner.Page.{IsPageBy};
 
@@ -35,7 +35,7 @@ pub(crate) fn run_page<
     writer: &mut W,
     maker: &PageMaker<'_, S>,
 ) -> Result<(), AppFault>
-    ensures runs { Runs (WritesOf (IsPageBy counting.now.rule.now))
+    ensures runs { Runs (Gives (IsPageBy counting.now.rule.now))
         (CountRefuses counting.now.rule.now.options) (P.remaining inputs.file)
         (known J.remaining inputs.journal)
         (H.refused_for watch.new.warnings.now) W.contents writer.old writer.new result }

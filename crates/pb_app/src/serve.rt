@@ -1,140 +1,133 @@
 //! The command `serve`: a desk that stands on a file.
 
-use crate::admitted::{RefusalNotice, rules_of};
-use crate::kept::Kept;
-use crate::kinship::{Kinship, standing_of};
-use crate::perform::{Notes, Refusal, RefusedRows};
-use crate::typing::{TypedReader, Typing};
-use crate::words;
+use crate::admitted::{RowNotice, rules_of};
+use crate::notes::Notes;
+use crate::run::Run;
+use crate::system::System;
+use crate::torn_file::{TORN, TornFile};
 use pb_command_line::{Admits, ServeRun};
 use pb_commands::run_desk::admission_of;
 use pb_commands::{AppFault, ServingFault};
 use pb_core::election::Election;
 use pb_core::project::Project;
 use pb_durable::file_beside::{name_file, read_file_beside};
-use pb_durable::file_device::{FileDevice, FileFailure, FileFault, fault_of, keep_beside};
-use pb_durable::moved::keep_text;
-use pb_durable::{
-    Belonging, Beside, Change, Device, DeviceFault, DurableDesk, JournalFile, Opened,
-};
+use pb_durable::file_device::{FileDevice, FileFailure, FileFault};
+use pb_durable::moved::{keep_text, kept_path};
+use pb_durable::{Belonging, Device, DurableDesk, FileChange, JournalFile, OpenedDesk};
+use pb_faults::RunText;
 use pb_read::read_pb_watched;
 use pb_rows::read_number;
 use pb_script::{Admission, ROOM, RequestRows};
 use pb_serving::run_serve::run_serve;
 use pb_serving::{AtHand, Paced, Session};
-use pb_streams::{Digested, open_file};
+use pb_streams::{Digested, End, Refusal, TypedReader, open_file, unread_beside};
 use pb_witness::witness::Witness;
+use pb_words::belonging_words::adopted_words;
+use pb_words::refused_words::like_a_place_words;
+use pb_words::serve_words::{
+    changed_words, lost_words, moved_words, overwritten_words, unkept_text_words, unkept_words,
+    unopened_words,
+};
+use pb_words::{Said, say_words};
+use std::alloc::Global;
 use std::cell::Cell;
-use std::fs::File;
 use std::io;
 use std::io::{Error, ErrorKind, Write};
-use std::rt::{Clock, Files};
 
-/// The file that is kept beside a journal: its path is the journal's and `.torn`.
+/// What a run of `serve` stands on: the journal's path, which requests are admitted, and who hears of those
+/// that are not.
 #[derive(Drop)]
-struct TornFile<'a, R> {
+struct Serving<'a, 'r, R> {
+    run: &'r Run<'a, R>,
     rt: &'a R,
+    alloc: Global,
     journal: &'a str,
-    failure: &'a Cell<Option<Error>>,
-}
-
-impl<R: Files<File = File> + Eprint + AllocGlobal> Beside for TornFile<'_, R> {
-    ghost use Rattle.std.specs.Prelude.{[]};
-
-    ghost tells = { ⊥ };
-
-    ghost kept = { λ _. [] };
-
-    fn keep(&mut self, bytes: &[u8]) -> Result<(), DeviceFault> {
-        let path = format!(in self.rt.alloc(); "{}.torn", self.journal)?;
-        let kept = keep_beside(self.rt, self.rt.alloc(), self.journal, path.as_str(), bytes);
-        if kept.is_ok() {
-            words::say_torn(self.rt, path.as_str(), bytes);
-        }
-        drop(path);
-        match kept {
-            Ok(()) => Ok(()),
-            Err(error) => {
-                self.failure.set(Some(error));
-                Err(fault_of(&error))
-            }
-        }
-    }
-}
-
-/// What a run of `serve` stands on: the journal's path, which .pb file it belongs to, which requests are
-/// admitted, who hears of those that are not, and whether rows are typed.
-#[derive(Drop)]
-struct Serving<'a, 'p, R> {
-    rt: &'a R,
-    journal: &'p str,
-    kinship: &'a Kinship,
-    admission: &'a Admission,
-    notice: RefusalNotice<'a, 'p, R>,
-    typing: &'a Typing,
+    admission: &'r Admission,
+    notice: RowNotice<'a, R>,
 }
 
 /// Serves the requests of standard input on the desk of a .pb file, which stands on a journal. FILE and the
 /// roll are read before the journal is opened or made.
-pub(crate) fn serve<R, W: Write>(
-    rt: &R,
-    asked: &ServeRun<'_>,
-    kinship: &Kinship,
+pub(crate) fn serve<'a, R: System, W: Write>(
+    run: &Run<'a, R>,
+    asked: &ServeRun<'a>,
     writer: &mut W,
     notes: &mut Notes,
-    typing: &Typing,
-) -> Result<(), Refusal>
-where
-    R: Files<File = File> + Input + Eprint + Clock + AllocGlobal,
-{
-    let (election, admission) = read_both(rt, asked, kinship, &mut notes.seen.witness)?;
+) -> Result<(), Refusal> {
+    let (election, admission) = read_both(run, asked, &mut notes.seen.witness)?;
     let serving = Serving {
-        rt,
+        run,
+        rt: run.counting.rt,
+        alloc: run.counting.alloc,
         journal: asked.journal,
-        kinship,
         admission: &admission,
-        notice: RefusalNotice::rows(rt, &asked.admits, typing),
-        typing,
+        notice: RowNotice::new(run),
     };
     let served = serve_journal(&serving, election, writer);
-    let (written, by_rule) = (serving.notice.answers(), serving.notice.by_rule());
+    notes.entries = serving.notice.answers();
+    notes.by_rule = serving.notice.by_rule();
     drop(serving);
     drop(admission);
-    notes.written = written;
-    notes.by_rule = by_rule;
-    served
+    notes.refused = served?;
+    Ok(())
 }
 
-/// Serves the desk of an election on its journal.
-fn serve_journal<R, W: Write>(
+/// The election of the .pb file, and which requests are admitted on its desk.
+fn read_both<'a, R: System>(
+    run: &Run<'a, R>,
+    asked: &ServeRun<'a>,
+    witness: &mut Witness,
+) -> Result<(Election, Admission), AppFault> {
+    let alloc = run.counting.alloc;
+    let rt = run.counting.rt;
+    let file = Digested::new(
+        open_file(rt, asked.file, RunText::File)?,
+        Some(&run.kinship.file),
+    );
+    let election = read_pb_watched(alloc, file, witness)?;
+    match admission_on(rt, &asked.admits, &election) {
+        Ok(admission) => Ok((election, admission)),
+        Err(fault) => {
+            drop(election);
+            Err(fault)
+        }
+    }
+}
+
+/// Which requests are admitted on the desk of this election.
+fn admission_on<R: System>(
+    rt: &R,
+    admits: &Admits<'_>,
+    election: &Election,
+) -> Result<Admission, AppFault> {
+    let rules = rules_of(rt, admits)?;
+    Ok(admission_of(rt.alloc(), rules, election)?)
+}
+
+/// Serves the desk of an election on its journal, and answers how many rows were refused.
+fn serve_journal<R: System, W: Write>(
     serving: &Serving<'_, '_, R>,
     election: Election,
     writer: &mut W,
-) -> Result<(), Refusal>
-where
-    R: Files<File = File> + Input + Eprint + Clock + AllocGlobal,
-{
+) -> Result<u64, Refusal> {
     let failure = Cell::new(None);
     match FileDevice::open(serving.rt, serving.journal, &failure) {
         Ok(device) => serve_device(serving, election, device, writer),
         Err(fault) => {
             drop(election);
-            Err(unopened(fault))
+            Err(unopened(serving, &fault))
         }
     }
 }
 
 /// Serves the desk of an election whose journal stands on a device, if it belongs to the .pb file that was
 /// read.
-fn serve_device<R, W: Write>(
+fn serve_device<R: System, W: Write>(
     serving: &Serving<'_, '_, R>,
     election: Election,
     mut device: FileDevice<'_, R>,
     writer: &mut W,
-) -> Result<(), Refusal>
-where
-    R: Files<File = File> + Input + Eprint + AllocGlobal,
-{
+) -> Result<u64, Refusal> {
     let standing = match seen_on(serving, &mut device) {
         Ok(standing) => standing,
         Err(refusal) => {
@@ -149,69 +142,53 @@ where
         journal: serving.journal,
         failure: &beside,
     };
-    let (desk, torn) = open_on(serving.rt, election, device, &mut torn)?;
+    let (desk, torn) = open_on(serving, election, device, &mut torn)?;
     if let Err(refusal) = keep_file(serving, standing) {
         drop(desk);
         return Err(refusal);
     }
-    match serve_desk(serving, desk, torn, failure, writer)? {
-        0 => Ok(()),
-        all => {
-            let bad = all.saturating_sub(serving.notice.by_rule().all());
-            Err(Refusal::BadRows(RefusedRows { all, bad }))
-        }
-    }
+    serve_desk(serving, desk, torn, failure, writer)
 }
 
 /// What the journal on a device says of the .pb file that was read. One without an entry gets to belong to
 /// it, before it has a byte more.
-fn seen_on<R>(
+fn seen_on<R: System>(
     serving: &Serving<'_, '_, R>,
     device: &mut FileDevice<'_, R>,
-) -> Result<Belonging, Refusal>
-where
-    R: Files<File = File> + AllocGlobal,
-{
-    let (rt, kinship) = (serving.rt, serving.kinship);
-    let bytes = match device.read(rt.alloc()) {
+) -> Result<Belonging, Refusal> {
+    let bytes = match device.read(serving.alloc) {
         Ok(bytes) => bytes,
         Err(fault) => {
             let why = device.failure().get();
-            return Err(refusal_of(AppFault::from(fault), why, None, Kept::Unopened));
+            return Err(ended(serving, AppFault::from(fault), why, None));
         }
     };
-    let digest = kinship.file.get();
-    let standing = standing_of(rt, rt.alloc(), serving.journal, bytes.as_slice(), digest);
+    let kinship = serving.run.kinship;
+    let standing = kinship.belonging(serving.rt, serving.journal, bytes.as_slice());
     drop(bytes);
-    match standing? {
-        Belonging::Other if !kinship.takes_other => Err(Refusal::Fault(AppFault::OtherFile)),
-        Belonging::New => {
-            put_digest(serving, &[])?;
-            Ok(Belonging::New)
-        }
-        standing => Ok(standing),
+    let standing = standing?;
+    if standing == Belonging::New {
+        put_digest(serving, &[])?;
     }
+    Ok(standing)
 }
 
 /// Has it stand beside a journal, which was opened, that it belongs to the .pb file that was read.
-fn keep_file<R>(serving: &Serving<'_, '_, R>, standing: Belonging) -> Result<(), Refusal>
-where
-    R: Files<File = File> + Eprint + AllocGlobal,
-{
-    let (rt, journal) = (serving.rt, serving.journal);
+fn keep_file<R: System>(serving: &Serving<'_, '_, R>, standing: Belonging) -> Result<(), Refusal> {
+    let (rt, alloc, journal) = (serving.rt, serving.alloc, serving.journal);
     match standing {
         Belonging::New | Belonging::Same => Ok(()),
         Belonging::Unnamed => {
             put_digest(serving, &[])?;
-            if let Some(digest) = serving.kinship.file.get() {
-                words::say_adopted(rt, journal, digest.text());
+            if let Some(digest) = serving.run.kinship.file.get() {
+                say_words(rt, adopted_words(alloc, journal, digest.text()));
             }
             Ok(())
         }
         Belonging::Other => {
-            let former = match read_file_beside(rt, rt.alloc(), journal) {
-                Ok(former) => former.unwrap_or(Vec::new(rt.alloc())),
-                Err(error) => return Err(Refusal::NoFileBeside(error)),
+            let former = match read_file_beside(rt, alloc, journal) {
+                Ok(former) => former.unwrap_or(Vec::new(alloc)),
+                Err(error) => return Err(unread_beside(rt, journal, &error)),
             };
             let put = put_digest(serving, former.as_slice());
             drop(former);
@@ -221,199 +198,190 @@ where
 }
 
 /// Puts the digest of the .pb file that was read beside a journal, above what stood there.
-fn put_digest<R>(serving: &Serving<'_, '_, R>, former: &[u8]) -> Result<(), Refusal>
-where
-    R: Files<File = File> + AllocGlobal,
-{
-    let (rt, journal) = (serving.rt, serving.journal);
-    let Some(digest) = serving.kinship.file.get() else {
+fn put_digest<R: System>(serving: &Serving<'_, '_, R>, former: &[u8]) -> Result<(), Refusal> {
+    let (rt, alloc, journal) = (serving.rt, serving.alloc, serving.journal);
+    let Some(digest) = serving.run.kinship.file.get() else {
         return Err(Refusal::Fault(AppFault::OtherFile));
     };
-    match name_file(rt, rt.alloc(), journal, digest.digits(), former) {
+    match name_file(rt, alloc, journal, digest.digits(), former) {
         Ok(()) => Ok(()),
-        Err(error) if error.kind() == ErrorKind::OutOfMemory => {
-            Err(Refusal::Fault(AppFault::Memory))
-        }
-        Err(error) => Err(Refusal::FileUnkept(error)),
-    }
-}
-
-/// The election of the .pb file, and which requests are admitted on its desk.
-fn read_both<R>(
-    rt: &R,
-    asked: &ServeRun<'_>,
-    kinship: &Kinship,
-    witness: &mut Witness,
-) -> Result<(Election, Admission), AppFault>
-where
-    R: Files<File = File> + Eprint + AllocGlobal,
-{
-    let file = Digested::new(open_file(rt, asked.file, 1)?, &kinship.file);
-    let election = read_pb_watched(rt.alloc(), file, witness)?;
-    match admission_on(rt, &asked.admits, &election) {
-        Ok(admission) => Ok((election, admission)),
-        Err(fault) => {
-            drop(election);
-            Err(fault)
+        Err(error) => {
+            let words = unkept_words(alloc, journal, ".file", &error);
+            Err(Refusal::of_call(&error, AppFault::Write, words))
         }
     }
-}
-
-/// Which requests are admitted on the desk of this election.
-fn admission_on<R>(rt: &R, admits: &Admits<'_>, election: &Election) -> Result<Admission, AppFault>
-where
-    R: Files<File = File> + Eprint + AllocGlobal,
-{
-    let rules = rules_of(rt, admits)?;
-    Ok(admission_of(rt.alloc(), rules, election)?)
 }
 
 /// Says the first id that is itself a number below the number of projects, where rows name projects by their
 /// places: a place and an id are then easily confused.
-fn say_like_a_place<R: Eprint + AllocGlobal>(rt: &R, projects: &[Project]) {
+fn say_like_a_place<R: System>(rt: &R, projects: &[Project]) {
     for project in projects {
         let is_place = match read_number(project.id()) {
             Some(number) => (number as usize) < projects.len(),
             None => false,
         };
         if is_place {
-            words::say_like_a_place(rt, project.id());
-            return;
+            return say_words(rt, like_a_place_words(rt.alloc(), project.id()));
         }
     }
 }
 
 /// Opens the desk of an election on a device. Answers how many bytes were cut off, too.
-fn open_on<'a, R>(
-    rt: &R,
+fn open_on<'d, R: System>(
+    serving: &Serving<'_, '_, R>,
     election: Election,
-    device: FileDevice<'a, R>,
-    beside: &mut TornFile<'_, R>,
-) -> Result<(DurableDesk<FileDevice<'a, R>>, usize), Refusal>
-where
-    R: Files<File = File> + Eprint + AllocGlobal,
-{
-    let alloc = rt.alloc();
+    device: FileDevice<'d, R>,
+    torn: &mut TornFile<'_, R>,
+) -> Result<(DurableDesk<FileDevice<'d, R>>, usize), Refusal> {
+    let alloc = serving.alloc;
     let mut file = JournalFile::on(alloc, device);
-    match pb_durable::open(alloc, &mut file, election, ROOM, beside) {
-        Ok(Opened { desk, torn }) => Ok((DurableDesk::on(desk, file), torn)),
+    match pb_durable::open(alloc, &mut file, election, ROOM, torn) {
+        Ok(OpenedDesk { desk, torn }) => Ok((DurableDesk::on(desk, file), torn)),
         Err(fault) => {
             let mut device = file.into_device();
             let why = device.failure().get();
             // No desk has the text of a journal that was moved before it was opened.
             let kept = match why {
-                Some(FileFailure::Changed(Change::Moved)) => Kept::of(device.keep_moved()),
-                _ => Kept::Unopened,
+                Some(FileFailure::Changed(FileChange::Moved)) => Some(device.keep_moved()),
+                _ => None,
             };
             drop(device);
-            let beside = beside.failure.get();
-            Err(refusal_of(AppFault::from(fault), why, beside, kept))
+            match (AppFault::from(fault), torn.failure.get()) {
+                (AppFault::Write, Some(error)) => {
+                    let words = unkept_words(alloc, serving.journal, TORN, &error);
+                    Err(Refusal::Told(End::Fault(AppFault::Write), words))
+                }
+                (fault, _) => Err(ended(serving, fault, why, kept)),
+            }
         }
     }
 }
 
-/// Keeps the text of a desk's journal in a new file beside the journal, up to the last request that was
-/// answered.
-fn keep_text_of<R>(
-    serving: &Serving<'_, '_, R>,
-    desk: &DurableDesk<FileDevice<'_, R>>,
-) -> io::Result<u32>
-where
-    R: Files<File = File> + AllocGlobal,
-{
-    let (rt, alloc) = (serving.rt, serving.rt.alloc());
-    let Ok(text) = desk.durable_text(alloc) else {
-        return Err(Error::from(ErrorKind::OutOfMemory));
-    };
-    let kept = keep_text(rt, alloc, serving.journal, text.as_slice());
-    drop(text);
-    kept
-}
-
 /// Serves the requests of standard input on a desk that was opened. Where somebody has moved its journal or
 /// written over it, its text is kept.
-fn serve_desk<R, W: Write>(
+fn serve_desk<R: System, W: Write>(
     serving: &Serving<'_, '_, R>,
     mut desk: DurableDesk<FileDevice<'_, R>>,
     torn: usize,
     failure: &Cell<Option<FileFailure>>,
     writer: &mut W,
-) -> Result<u64, Refusal>
-where
-    R: Files<File = File> + Input + Eprint + AllocGlobal,
-{
+) -> Result<u64, Refusal> {
     let served = match serve_rows(serving, &mut desk, torn, writer) {
         Ok(refused) => Ok(refused),
         Err(fault) => {
             let why = failure.get();
             let kept = match why {
-                Some(FileFailure::Changed(_)) => Kept::of(keep_text_of(serving, &desk)),
-                _ => Kept::Unopened,
+                Some(FileFailure::Changed(_)) => Some(keep_text_of(serving, &desk)),
+                _ => None,
             };
-            Err(refusal_of(fault, why, None, kept))
+            Err(ended(serving, fault, why, kept))
         }
     };
     drop(desk);
     served
 }
 
+/// Keeps the text of a desk's journal in a new file beside the journal, up to the last request that was
+/// answered. Answers the file's number.
+fn keep_text_of<R: System>(
+    serving: &Serving<'_, '_, R>,
+    desk: &DurableDesk<FileDevice<'_, R>>,
+) -> io::Result<u32> {
+    let Ok(text) = desk.durable_text(serving.alloc) else {
+        return Err(Error::from(ErrorKind::OutOfMemory));
+    };
+    let kept = keep_text(serving.rt, serving.alloc, serving.journal, text.as_slice());
+    drop(text);
+    kept
+}
+
 /// Serves the requests of standard input.
-fn serve_rows<R, W: Write>(
+fn serve_rows<R: System, W: Write>(
     serving: &Serving<'_, '_, R>,
     desk: &mut DurableDesk<FileDevice<'_, R>>,
     torn: usize,
     writer: &mut W,
-) -> Result<u64, AppFault>
-where
-    R: Files<File = File> + Input + Eprint + AllocGlobal,
-{
-    let (rt, typing) = (serving.rt, serving.typing);
+) -> Result<u64, AppFault> {
+    let (rt, alloc, typing) = (serving.rt, serving.alloc, serving.run.typing);
     if !typing.by_id() {
         say_like_a_place(rt, desk.desk().projects());
     }
     typing.opens(desk.desk().is_shut());
     let at_hand = AtHand::new();
-    let Ok(input) = Paced::new(rt.alloc(), TypedReader::new(rt, typing), &at_hand) else {
+    let Ok(input) = Paced::new(alloc, TypedReader::new(rt, typing), &at_hand) else {
         return Err(AppFault::Memory);
     };
-    let mut rows = RequestRows::new(rt.alloc(), input);
+    let mut rows = RequestRows::new(alloc, input);
     let session = Session {
         torn,
         pace: &at_hand,
         admission: serving.admission,
         notice: &serving.notice,
     };
-    let served = run_serve(rt.alloc(), desk, &mut rows, &session, writer);
+    let served = run_serve(alloc, desk, &mut rows, &session, writer);
     drop(rows);
     served
 }
 
 /// Why a journal was not opened.
-fn unopened(fault: FileFault) -> Refusal {
+fn unopened<R: System>(serving: &Serving<'_, '_, R>, fault: &FileFault) -> Refusal {
+    let (alloc, journal) = (serving.alloc, serving.journal);
     match fault {
-        FileFault::Locked => Refusal::Fault(AppFault::Serving(ServingFault::Locked(2))),
-        FileFault::Open(error) if error.kind() == ErrorKind::OutOfMemory => {
-            Refusal::Fault(AppFault::Memory)
+        FileFault::Locked => Refusal::Fault(AppFault::Serving(ServingFault::Locked(
+            RunText::Journal,
+        ))),
+        FileFault::Open(error) => {
+            let words = unopened_words(alloc, journal, error);
+            Refusal::of_call(error, AppFault::Open(RunText::Journal), words)
         }
-        FileFault::Open(error) => Refusal::NoJournal(error),
-        FileFault::Device(error) => Refusal::Journal(error),
+        FileFault::Device(error) => {
+            let words = unkept_words(alloc, journal, "", error);
+            Refusal::Told(End::Fault(AppFault::Write), words)
+        }
     }
 }
 
-/// Why a run has ended early, where the journal or what is beside it may have failed. Where somebody has
-/// changed the journal, this became of its text.
-fn refusal_of(
+/// Why a run has ended early, where the journal may have failed. Where somebody has changed the journal while
+/// its desk was open, this became of its text.
+fn ended<R: System>(
+    serving: &Serving<'_, '_, R>,
     fault: AppFault,
-    journal: Option<FileFailure>,
-    beside: Option<Error>,
-    kept: Kept,
+    why: Option<FileFailure>,
+    kept: Option<io::Result<u32>>,
 ) -> Refusal {
-    match (fault, journal, beside) {
-        (AppFault::Write, _, Some(error)) => Refusal::Beside(error),
-        (AppFault::Write, Some(FileFailure::Failed(error)), None) => Refusal::Journal(error),
-        (AppFault::Write, Some(FileFailure::Changed(change)), None) => {
-            Refusal::Changed(change, kept)
+    let (alloc, journal) = (serving.alloc, serving.journal);
+    match (fault, why) {
+        (AppFault::Write, Some(FileFailure::Failed(error))) => {
+            let words = unkept_words(alloc, journal, "", &error);
+            Refusal::Told(End::Fault(fault), words)
         }
-        (fault, ..) => Refusal::Fault(fault),
+        (AppFault::Write, Some(FileFailure::Changed(change))) => Refusal::Told(
+            End::Fault(AppFault::Serving(ServingFault::Moved)),
+            change_words(alloc, journal, change, kept),
+        ),
+        (fault, _) => Refusal::Fault(fault),
+    }
+}
+
+/// Words where somebody has moved the journal with this path or written over it, and this became of its text.
+fn change_words(
+    alloc: Global,
+    path: &str,
+    change: FileChange,
+    kept: Option<io::Result<u32>>,
+) -> Said {
+    match (change, kept) {
+        (_, None) => changed_words(alloc, path),
+        (FileChange::Moved, Some(Err(reason))) => lost_words(alloc, path, &reason),
+        (FileChange::Overwritten, Some(Err(reason))) => unkept_text_words(alloc, path, &reason),
+        (change, Some(Ok(number))) => {
+            let beside = kept_path(alloc, path, number)?;
+            let words = match change {
+                FileChange::Moved => moved_words(alloc, path, beside.as_str()),
+                FileChange::Overwritten => overwritten_words(alloc, path, beside.as_str()),
+            };
+            drop(beside);
+            words
+        }
     }
 }

@@ -1,17 +1,19 @@
 //! Raises that were spent: whether more would decide is looked for, for words alone.
 
-use pb_command_line::{Asked, Source, Task};
+use crate::system::System;
+use pb_command_line::{Asked, Task};
 use pb_commands::{Inputs, election_of};
 use pb_core::election::Election;
 use pb_core::gate::Gate;
 use pb_core::money::Money;
-use pb_read::{NoWatch, read_pb};
+use pb_read::NoWatch;
 use pb_rounds::count::count_watched;
 use pb_rounds::count_fault::CountFault;
 use pb_rounds::options::{CountOptions, LARGEST_STEP, MOST_RAISES};
 use pb_words::count_words::Deciding;
 use std::fs;
-use std::rt::{Clock, Files};
+use std::fs::File;
+use std::rt::Clock;
 use std::thread::Threads;
 use std::time::{Duration, Instant};
 
@@ -28,15 +30,12 @@ pub(crate) struct Found {
 
 /// Looks for raises that would decide, in ballots that are read once more, where they stand in files. It
 /// looks for about as long as the refused count took, and a second at least.
-pub(crate) fn look_further<R, G: Gate>(
+pub(crate) fn look_further<R: System, G: Gate>(
     rt: &R,
     asked: &Asked<'_>,
     took: Option<Duration>,
     gate: &G,
-) -> Found
-where
-    R: Files + Clock + AllocGlobal + Threads + Sync,
-{
+) -> Found {
     let allowed = Allowed::new(rt, took);
     match ballots_again(rt, &asked.task) {
         Some(election) => {
@@ -68,41 +67,18 @@ fn sure_step(max_raises: u32, budget: Money) -> Option<u64> {
 }
 
 /// The ballots that a task counts, read once more, where they stand in files.
-fn ballots_again<R: Files + AllocGlobal>(rt: &R, task: &Task<'_>) -> Option<Election> {
-    let alloc = rt.alloc();
-    let (path, _) = task.paths();
-    let file = open_again(rt, path?)?;
-    let Some(journal) = journal_of(task) else {
-        return read_pb(alloc, file).ok();
+fn ballots_again<R: System>(rt: &R, task: &Task<'_>) -> Option<Election> {
+    let (file, journal) = (task.paths().0?, task.journal());
+    let file = open_again(rt, file)?;
+    let journal = match journal {
+        Some(journal) => Some(open_again(rt, journal.path()?)?),
+        None => None,
     };
-    match journal.path() {
-        Some(path) => match open_again(rt, path) {
-            Some(journal) => {
-                let journal = Some(journal);
-                election_of(alloc, Inputs { file, journal }, &mut NoWatch).ok()
-            }
-            None => {
-                drop(file);
-                None
-            }
-        },
-        None => {
-            drop(file);
-            None
-        }
-    }
-}
-
-/// The journal that leaves a task's ballots, if there is one.
-fn journal_of<'a>(task: &Task<'a>) -> Option<Source<'a>> {
-    match task {
-        Task::Desk(..) | Task::Serve(..) | Task::Ballots(..) => None,
-        _ => task.texts().1,
-    }
+    election_of(rt.alloc(), Inputs { file, journal }, &mut NoWatch).ok()
 }
 
 /// Opens a file once more. A pipe or a device has given what it had.
-fn open_again<R: Files>(rt: &R, path: &str) -> Option<R::File> {
+fn open_again<R: System>(rt: &R, path: &str) -> Option<File> {
     match fs::metadata(rt, path) {
         Ok(metadata) if metadata.is_file() => fs::open(rt, path).ok(),
         _ => None,

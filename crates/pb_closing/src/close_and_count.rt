@@ -38,25 +38,14 @@ pub fn close_and_count<T: Threads + Sync>(
         → IfErr result (λ fault. (word : ℕ) → fault ≢ CloseFault.Unfinished word) }
 {
     match shared.finish(clerks) {
-        Ok(desk) => count_desk(rt, alloc, desk, options),
+        Ok(desk) => count_desk(rt, alloc, desk, options, &NoGate),
         Err(Unfinished(word)) => Err(CloseFault::Unfinished(word)),
     }
 }
 
-/// Counts the ballots that a desk's journal leaves, where the desk is shut; else the desk is the answer.
-pub fn count_desk<T: Threads + Sync>(
-    rt: &T,
-    alloc: Global,
-    desk: Desk,
-    options: &CountOptions,
-) -> Result<Closing, CloseFault>
-    ensures { ComesTo desk options.now result }
-{
-    count_desk_watched(rt, alloc, desk, options, &NoGate)
-}
-
-/// Counts them as `count_desk` does, and tells the gate of raises before they are tried.
-pub fn count_desk_watched<T: Threads + Sync, G: Gate>(
+/// Counts the ballots that a desk's journal leaves, where the desk is shut; else the desk is the answer. The
+/// gate is told of raises before they are tried.
+pub fn count_desk<T: Threads + Sync, G: Gate>(
     rt: &T,
     alloc: Global,
     desk: Desk,

@@ -31,16 +31,6 @@ pub struct Ballots<'a> {
     pub journal: Option<Source<'a>>,
 }
 
-impl<'a> Ballots<'a> {
-    /// The journal's path; standard input has none.
-    pub fn journal_path(&self) -> Option<&'a str> {
-        match self.journal {
-            Some(journal) => journal.path(),
-            None => None,
-        }
-    }
-}
-
 /// Which requests a desk admits, and how their rows name projects.
 #[derive(Clone, Copy)]
 pub struct Admits<'a> {
@@ -196,14 +186,59 @@ impl<'a> Task<'a> {
         }
     }
 
-    /// The path of the third file that is read, if there is one: the voters' roll, or the words of a page.
-    pub fn roll(&self) -> Option<&'a str> {
+    /// The journal that is read, if one is.
+    pub fn journal(&self) -> Option<Source<'a>> {
+        match self {
+            Task::Desk(_) => None,
+            _ => self.texts().1,
+        }
+    }
+
+    /// Whether the result is a journal.
+    pub fn makes_journal(&self) -> bool {
+        matches!(self, Task::Desk(_))
+    }
+
+    /// Whether the result pairs ids with ballots.
+    pub fn pairs_ids(&self) -> bool {
+        match self {
+            Task::Desk(_) | Task::Voters(_) | Task::Export(_) | Task::Ballots(_) => true,
+            Task::Count(_)
+            | Task::Projects(_)
+            | Task::Compare(_)
+            | Task::WhatIf(..)
+            | Task::Page(..)
+            | Task::Check(_)
+            | Task::Audit(_)
+            | Task::Serve(..) => false,
+        }
+    }
+
+    /// Whether digests of what is read are part of the result.
+    pub fn shows_digests(&self) -> bool {
+        matches!(
+            self,
+            Task::Page(_) | Task::Audit(AuditRun { digests: true, .. })
+        )
+    }
+
+    /// Which requests are admitted: all, where no desk takes any.
+    pub fn admits(&self) -> Admits<'a> {
         match *self {
-            Task::Desk(DeskRun { admits, .. }) | Task::Serve(ServeRun { admits, .. }) => {
-                admits.roll
-            }
+            Task::Desk(DeskRun { admits, .. }) | Task::Serve(ServeRun { admits, .. }) => admits,
+            _ => Admits {
+                by_id: false,
+                roll: None,
+                least: 0,
+            },
+        }
+    }
+
+    /// The path of the third file that is read, if there is one: the voters' roll, or the words of a page.
+    pub fn third(&self) -> Option<&'a str> {
+        match *self {
             Task::Page(PageRun { words, .. }) => words,
-            _ => None,
+            _ => self.admits().roll,
         }
     }
 

@@ -7,6 +7,7 @@ use pb_commands::run_count::run_count;
 use pb_commands::run_desk::run_desk;
 use pb_core::gate::NoGate;
 use pb_desk::AuditFault;
+use pb_faults::RunText;
 use pb_read::{ReadFault, ReadKind};
 use pb_rounds::count_fault::CountFault;
 use pb_rounds::options::CountOptions;
@@ -120,7 +121,10 @@ const RUN_FAULTS: &[(AppFault, &str)] = &[
         AppFault::Count(CountFault::RaisesSpent),
         "count: the raises are spent",
     ),
-    (AppFault::Open(2), "file 2 could not be opened"),
+    (
+        AppFault::Open(RunText::Journal),
+        "file 2 could not be opened",
+    ),
     (AppFault::Write, "the writer failed"),
     (AppFault::Memory, "out of memory"),
 ];
@@ -157,7 +161,7 @@ fn a_run_tells_its_faults(rt: HostRuntime) {
 /// A fault of the device, and the line of it.
 const LINES: &[(AppFault, &[u8])] = &[
     (AppFault::Write, b"fault;write\n"),
-    (AppFault::Open(2), b"fault;open;2\n"),
+    (AppFault::Open(RunText::Journal), b"fault;open;2\n"),
 ];
 
 /// A writer that takes all has taken the whole line, and the call says so.

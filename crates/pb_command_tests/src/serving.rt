@@ -8,7 +8,7 @@ use crate::memory_device::MemoryDevice;
 use pb_commands::{AppFault, ServingFault};
 use pb_core::answer::Answer;
 use pb_core::devices::{FailsAfter, FailsAt};
-use pb_durable::{Device, DeviceFault, DurableDesk, JournalFile, Opened, open};
+use pb_durable::{Device, DeviceFault, DurableDesk, JournalFile, OpenedDesk, open};
 use pb_read::read_pb;
 use pb_script::{Admission, NoNotice, Notice, RequestRows, RowRefusal, ScriptFault};
 use pb_serving::run_serve::run_serve;
@@ -219,7 +219,7 @@ fn opened<'a>(
     let election = read_pb(alloc, THREE_VOTERS.as_bytes()).expect(rt, "an election");
     let mut beside = Vec::new(alloc);
     let found = open(alloc, &mut file, election, 10, &mut beside).expect(rt, "a journal");
-    let Opened { desk, torn } = found;
+    let OpenedDesk { desk, torn } = found;
     same(rt, beside.len(), torn, "bytes kept beside");
     drop(beside);
     (DurableDesk::on(desk, file), torn)

@@ -22,8 +22,8 @@ use Rattle.pb_rounds.specs.declared.rule.FillUp.{FillUp}
 use Rattle.pb_rounds.specs.declared.rule.FillUp.TheVariants.{Nothing, MostVotes}
 use Rattle.pb_rounds.specs.declared.rule.Rule.{Rule}
 use Rattle.pb_rows.specs.Reading.{records_of}
-use Rattle.pb_commands.specs.Counted.{IsReportOf}
-use Rattle.pb_commands.specs.Closed.{WritesOf}
+use Rattle.pb_commands.specs.Counted.{IsTold}
+use Rattle.pb_commands.specs.Closed.{Gives}
 use Rattle.pb_commands.specs.Ends.{IsOutsideFault}
 use Rattle.pb_faults.specs.Fault.{merged}
 use Rattle.pb_commands.specs.Report.{report_of}
@@ -101,7 +101,7 @@ report_of_other e Nothing o priced = refl
 report_of_other e MostVotes o priced = refl
 
 -- an election has one report by a rule
-pub one_report : (rule : Rule) (e : ElectionView) (a b : List ℕ) → IsReportOf rule e a → IsReportOf rule e b → a ≡ b
+pub one_report : (rule : Rule) (e : ElectionView) (a b : List ℕ) → IsTold report_of rule e a → IsTold report_of rule e b → a ≡ b
 one_report rule e a b first second =
     let one = first.1 in
     let other = second.1 in
@@ -109,7 +109,7 @@ one_report rule e a b first second =
     first.2 ∙ ap (report_of e) one.2 ∙ ap (λ o. report_of e (counted e rule.fill_up o)) outcome
     ∙ report_of_other e rule.fill_up other.0 one.0.priced ∙ ap (report_of e) (sym other.2) ∙ sym second.2
 
-pub one_text : (rule : Rule) (bytes : List ℕ) (a b : List ℕ) → WritesOf (IsReportOf rule) bytes None a → WritesOf (IsReportOf rule) bytes None b → a ≡ b
+pub one_text : (rule : Rule) (bytes : List ℕ) (a b : List ℕ) → Gives (IsTold report_of rule) bytes None a → Gives (IsTold report_of rule) bytes None b → a ≡ b
 one_text rule bytes a b first second =
     let report = rw (one_election (records_of bytes) second.0 first.0 second.1 first.1) at second.2 in
     one_report rule first.0 a b first.2 report

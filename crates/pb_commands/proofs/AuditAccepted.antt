@@ -22,7 +22,8 @@ use Rattle.pb_script.specs.Serving.{program_room}
 use Rattle.pb_faults.specs.DeskRow.{entries_row}
 use Rattle.pb_commands.specs.Audited.{AuditWrites, IsDeskOf, IsTextOf}
 use Rattle.pb_commands.specs.Inner.Audited.{IsRefusedDesk}
-use Rattle.pb_commands.specs.Counted.{IsReportOf}
+use Rattle.pb_commands.specs.Counted.{IsTold}
+use Rattle.pb_commands.specs.Report.{report_of}
 use Rattle.pb_commands.specs.declared.demand.Demand.{Demand}
 use Rattle.pb_commands.specs.Ends.{IsOutsideFault}
 use Rattle.pb_faults.specs.Fault.{merged}
@@ -54,7 +55,7 @@ pub desk_from_outside : (rule : Rule) (d : DeskView) (text : List ℕ) → IsTex
     → (fault : CountFault) → IsRefusedDesk d rule.options fault → IsOutsideFault (merged (Count fault))
 desk_from_outside rule d text written count.NoMemory refused = refl
 desk_from_outside rule d text written fault refused =
-    let report : IsReportOf rule (closed_election d) written.0 = rw refused.0 at written.2 in
+    let report : IsTold report_of rule (closed_election d) written.0 = rw refused.0 at written.2 in
     let count = report.1 in
     count_from_outside (closed_election d) rule.options count.0 count.1 fault refused.1
 
@@ -68,8 +69,8 @@ desk_of bytes journal e d stands is = record {
 
 -- a desk has one text
 one_desk_text : (rule : Rule) (shut : Bool) (e : ElectionView) (row a b first second : List ℕ)
-    → a ≡ row ++ first → b ≡ row ++ second → MatchBool shut (IsReportOf rule e first) (first ≡ [])
-    → MatchBool shut (IsReportOf rule e second) (second ≡ []) → a ≡ b
+    → a ≡ row ++ first → b ≡ row ++ second → MatchBool shut (IsTold report_of rule e first) (first ≡ [])
+    → MatchBool shut (IsTold report_of rule e second) (second ≡ []) → a ≡ b
 one_desk_text rule true e row a b first second is_a is_b one other =
     is_a ∙ ap (λ (t : List ℕ). row ++ t) (one_report rule e first second one other) ∙ sym is_b
 one_desk_text rule false e row a b first second is_a is_b one other =

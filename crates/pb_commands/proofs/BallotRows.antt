@@ -1,27 +1,14 @@
 -- The rows of ballots, written one after the other.
-use Rattle.std.proofs.Common.{◌≡◌, ℕ, Bool, true, false, cond, List, [], ◌∷◌, ◌++◌, filter, map, append_assoc, append-nil, codes, decimal, Option, Ok, Err, sym, ◌∙◌, ap}
-use Rattle.std.specs.Prelude.{OnOk, Result}
+use Rattle.std.proofs.Common.{◌≡◌, ℕ, Bool, true, false, cond, List, [], ◌∷◌, ◌++◌, filter, map, append_assoc, append-nil, decimal, Option, sym, ◌∙◌, ap}
 use Rattle.std.specs.Option.{option_map_or}
-use Rattle.csv.specs.Writing.{escaped, fields_text, is_blank}
 use Rattle.pb_rows.specs.Reading.{Fields}
 use Rattle.pb_rows.specs.Writing.{text_of_row, text_of_rows}
 use Rattle.pb_rows.proofs.RowsText.{text_of_rows-nil, text_of_rows-cons}
 use Rattle.pb_core.specs.Election.{project_ids}
 use Rattle.pb_desk.specs.Desk.{DeskView}
-use Rattle.pb_commands.specs.Ballots.{ballot_row, last_given}
-use Rattle.pb_commands.specs.Inner.Ballots.{ballot_columns, ids_text}
-
-pub ballots_head : (rows : List Fields) → text_of_rows (ballot_columns ∷ rows) ≡ codes "voter_id;entry;project_ids\n" ++ text_of_rows rows
-unfolding text_of_row fields_text is_blank escaped
-ballots_head rows = text_of_rows-cons ballot_columns rows
-
--- the columns, and then rows, where memory suffices
-pub head_then : {E : Type 0} (r : Result (Unit {0}) E) (columns : Fields) (rows : List Fields) (old middle new : List ℕ)
-    → middle ≡ old ++ text_of_row columns → OnOk r (new ≡ middle ++ text_of_rows rows) → OnOk r (new ≡ old ++ text_of_rows (columns ∷ rows))
-head_then (Err fault) columns rows old middle new first then = tt
-head_then (Ok done) columns rows old middle new first then =
-    then ∙ ap (λ (t : List ℕ). t ++ text_of_rows rows) first ∙ append_assoc old (text_of_row columns) (text_of_rows rows)
-    ∙ ap (λ (t : List ℕ). old ++ t) (sym (text_of_rows-cons columns rows))
+use Rattle.pb_commands.specs.Ballots.{ballot_columns, last_given}
+use Rattle.pb_commands.specs.Inner.Ballots.{ids_text}
+use Rattle.pb_commands.specs.Inner.Tables.{row_of}
 
 module _ {X : Type 0} (row : X → Fields) (p : X → Bool) where
   -- the rows that are still to come, after this text
@@ -44,5 +31,5 @@ module _ {X : Type 0} (row : X → Fields) (p : X → Bool) where
 -- the row of a ballot, by its fields
 pub row_is : (d : DeskView) (id places first ids : List ℕ) (number : Option ℕ) → first ≡ id → number ≡ last_given id d.journal
     → ids ≡ ids_text (project_ids d.opening.election) places
-    → first ∷ option_map_or decimal number [] ∷ ids ∷ [] ≡ ballot_row d (id, places)
+    → first ∷ option_map_or decimal number [] ∷ ids ∷ [] ≡ row_of (ballot_columns d) (id, places)
 row_is d id places first ids number first_is number_is ids_is = λ i. first_is i ∷ option_map_or decimal (number_is i) [] ∷ ids_is i ∷ []

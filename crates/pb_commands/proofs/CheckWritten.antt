@@ -5,8 +5,8 @@ use Rattle.pb_read.specs.declared.warning.WarningRow.{WarningRow}
 use Rattle.pb_rows.specs.Reading.{Fields}
 use Rattle.pb_rows.specs.Writing.{text_of_rows}
 use Rattle.pb_commands.proofs.RowsGrown.{rows_grown}
-use Rattle.pb_commands.specs.Checked.{IsTextOfCheck, fault_row}
-use Rattle.pb_commands.specs.Inner.Checked.{warning_fields, warning_row}
+use Rattle.pb_commands.specs.Checked.{IsTextOfCheck}
+use Rattle.pb_commands.specs.Inner.Checked.{fault_row, warning_fields, warning_row}
 
 rows_of_warnings : (warnings : List WarningRow) → map warning_row warnings ≡ map (λ row. codes "warning" ∷ row) (map warning_fields warnings)
 rows_of_warnings [] = refl

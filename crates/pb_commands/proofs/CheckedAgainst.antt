@@ -1,5 +1,5 @@
 -- A check against a count: what it hands out is the election of the file, and how it fails.
-use Rattle.std.proofs.Common.{◌≡◌, ◌⊎◌, inl, inr, ℕ, List, [], ◌∷◌, Option, Some, None, Ok, Err, refl, subst, sym}
+use Rattle.std.proofs.Common.{◌≡◌, ◌≢◌, ◌⊎◌, inl, inr, ℕ, List, [], ◌∷◌, Option, Some, None, Ok, Err, refl, subst, sym}
 use Rattle.std.specs.Prelude.{IfErr, IfSome, IsErrAnd, Result}
 use Rattle.pb_core.specs.Election.{ElectionView}
 use Rattle.pb_read.specs.Listed.{IsHandedOut}
@@ -12,7 +12,8 @@ use Rattle.pb_rounds.specs.declared.count_fault.CountFault.TheVariants as count
 use Rattle.pb_rounds.specs.declared.options.CountOptions.{CountOptions}
 use Rattle.pb_rows.specs.Reading.{Fields, records_of}
 use Rattle.pb_commands.proofs.Accepted.{given_fault}
-use Rattle.pb_commands.specs.Checked.{CheckFails}
+use Rattle.pb_commands.specs.Closed.{Gives}
+use Rattle.pb_commands.specs.Inner.Checked.{CheckFails}
 use Rattle.pb_faults.specs.Fault.{merged}
 use Rattle.pb_faults.specs.declared.fault.AppFault.{AppFault}
 use Rattle.pb_faults.specs.declared.fault.AppFault.TheVariants.{Count, Memory, Write}
@@ -45,20 +46,30 @@ fails_of records faults election options (Count fault) handed fails =
     (fails.0, handed_stands records faults fails.0 (subst (λ x. IsHandedOut records faults x) fails.1 handed), fails.2)
 fails_of records faults election options app handed fails = fails
 
+-- what a check against a count answers of a file
+abbrev pub IsAnswered : CountOptions → List ℕ → AppFault → Type 0
+IsAnswered options bytes app = (app ≡ Write) ⊎ (app ≡ Memory) ⊎ ((why : CountFault) × (app ≡ Count why) × (why ≢ count.NoMemory) × Gives (λ e. IsCountFault e options) bytes None why)
+
+answered : (bytes : List ℕ) (options : CountOptions) (app : AppFault) → CheckFails (StandsFor (records_of bytes)) options app → IsAnswered options bytes app
+answered bytes options (Count count.NoMemory) fails = absurd fails
+answered bytes options (Count fault) fails = inr (inr (fault, refl, λ is. cc, fails))
+answered bytes options app (inl is) = inl is
+answered bytes options app (inr is) = inr (inl is)
+
 pub known_fails : (known : Option (List ℕ)) (faults : List ReadFault) (election : Option ElectionView) (options : CountOptions) (app : AppFault)
     → IfSome known (λ bytes. IsHandedOut (records_of bytes) faults election) → CheckFails (λ e. election ≡ Some e) options app
-    → IfSome known (λ bytes. CheckFails (StandsFor (records_of bytes)) options app)
+    → IfSome known (λ bytes. IsAnswered options bytes app)
 known_fails None faults election options app handed fails = tt
-known_fails (Some bytes) faults election options app handed fails = fails_of (records_of bytes) faults election options app handed fails
+known_fails (Some bytes) faults election options app handed fails = answered bytes options app (fails_of (records_of bytes) faults election options app handed fails)
 
 -- memory was refused
-memory_fails : (known : Option (List ℕ)) (options : CountOptions) → IfSome known (λ bytes. CheckFails (StandsFor (records_of bytes)) options Memory)
+memory_fails : (known : Option (List ℕ)) (options : CountOptions) → IfSome known (λ bytes. IsAnswered options bytes Memory)
 memory_fails None options = tt
-memory_fails (Some bytes) options = inr refl
+memory_fails (Some bytes) options = inr (inl refl)
 
 pub memory_refused : {T : Type 0} (known : Option (List ℕ)) (options : CountOptions) (r : Result T AppFault) → IsErrAnd r (λ app. app ≡ Memory)
-    → IfErr r (λ app. IfSome known (λ bytes. CheckFails (StandsFor (records_of bytes)) options app))
-memory_refused known options r is = given_fault (λ app. IfSome known (λ bytes. CheckFails (StandsFor (records_of bytes)) options app)) r Memory is (memory_fails known options)
+    → IfErr r (λ app. IfSome known (λ bytes. IsAnswered options bytes app))
+memory_refused known options r is = given_fault (λ app. IfSome known (λ bytes. IsAnswered options bytes app)) r Memory is (memory_fails known options)
 
 -- a count is refused
 count_fails : (IsIt : ElectionView → Type 0) (e : ElectionView) (options : CountOptions) (fault : CountFault) → IsIt e → IsCountFault e options fault → CheckFails IsIt options (merged (Count fault))

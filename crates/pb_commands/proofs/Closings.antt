@@ -14,7 +14,7 @@ use Rattle.pb_rows.specs.Writing.{text_of_row}
 use Rattle.pb_faults.specs.DeskRow.{entries_row}
 use Rattle.pb_commands.specs.Audited.{IsTextOf}
 use Rattle.pb_commands.specs.Inner.Audited.{IsRefusedDesk}
-use Rattle.pb_commands.specs.Counted.{IsReportOf}
+use Rattle.pb_commands.specs.Counted.{IsTold}
 use Rattle.pb_commands.specs.Report.{report_of}
 
 when_true : (b : Bool) (A B : Type 0) → b ≡ true → A → MatchBool b A B
@@ -31,7 +31,7 @@ pub report_follows : (rule : Rule) (d : DeskView) (e : ElectionView) (c : Counte
     → (text : List ℕ) × IsTextOf rule d text × (after ≡ before ++ text)
 report_follows rule d e c before middle after shut is count row_is put =
     let row = text_of_row (entries_row d) in
-    let of_closed = subst (λ (x : ElectionView). IsReportOf rule x (report_of e c)) is (c, count, refl) in (
+    let of_closed = subst (λ (x : ElectionView). IsTold report_of rule x (report_of e c)) is (c, count, refl) in (
       row ++ report_of e c,
       (report_of e c, refl, when_true (standing_of d).is_shut _ _ shut of_closed),
       put ∙ ap (λ (t : List ℕ). t ++ report_of e c) row_is ∙ append_assoc before row (report_of e c),
@@ -43,7 +43,7 @@ pub row_alone : (rule : Rule) (d : DeskView) (before after : List ℕ) → (stan
 row_alone rule d before after unshut is =
     let row = text_of_row (entries_row d) in
     let none : List ℕ = [] in
-    let P : Bool → Type 0 = λ t. MatchBool t (IsReportOf rule (closed_election d) none) (none ≡ none) in
+    let P : Bool → Type 0 = λ t. MatchBool t (IsTold report_of rule (closed_election d) none) (none ≡ none) in
     (row, (none, sym (append-nil row), subst P (sym unshut) refl), is)
 
 -- what a desk comes to that a count of it refuses, or for want of memory

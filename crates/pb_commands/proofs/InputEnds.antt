@@ -22,8 +22,7 @@ use Rattle.pb_commands.proofs.Accepted.{audit_again, read_again, read_from_outsi
 use Rattle.pb_commands.proofs.AuditAccepted.{desk_of, journal_from_outside, one_desk}
 use Rattle.pb_commands.proofs.Endings.{Bars, FailsAs, IsElectionFile, IsLate, given, given_end, known_map, late_end, memory_end, passed_on}
 use Rattle.pb_commands.specs.Audited.{IsDeskOf}
-use Rattle.pb_commands.specs.Closed.{Demanding, Leaves, LeavesNone}
-use Rattle.pb_commands.specs.declared.demand.Demand.TheVariants.{Any}
+use Rattle.pb_commands.specs.Closed.{Leaves, LeavesNone}
 use Rattle.pb_commands.specs.Ends.{Ends, IfBothKnown, IsOutsideFault, Judges}
 use Rattle.pb_faults.specs.Fault.{merged}
 use Rattle.pb_faults.specs.declared.fault.AppFault.{AppFault}
@@ -44,24 +43,30 @@ one_left bytes None a b first second = one_election (records_of bytes) a b first
 one_left bytes (Some journal) a b first second =
     first.3 ∙ ap closed_election (one_desk bytes journal first.0 second.0 first.1 second.1) ∙ sym second.3
 
--- the faults of reading are not the writer's
-read_reads : (kind : ReadKind) (at : ℕ) → merged (Read (record { kind = kind; at = at })) ≢ Write
-read_reads NoMemory at is = cc
-read_reads kind at is = cc
+-- the faults of reading are not the writer's, and say nothing of an open desk
+read_reads : (kind : ReadKind) (at : ℕ) → (merged (Read (record { kind = kind; at = at })) ≢ Write) × (merged (Read (record { kind = kind; at = at })) ≢ OpenDesk)
+read_reads NoMemory at = (λ is. cc, λ is. cc)
+read_reads kind at = (λ is. cc, λ is. cc)
 
-audit_reads : (fault : AuditFault) → merged (Audit fault) ≢ Write
-audit_reads audit.NoMemory is = cc
-audit_reads fault is = cc
+audit_reads : (fault : AuditFault) → (merged (Audit fault) ≢ Write) × (merged (Audit fault) ≢ OpenDesk)
+audit_reads audit.NoMemory = (λ is. cc, λ is. cc)
+audit_reads fault = (λ is. cc, λ is. cc)
 
-pub not_written : {T : Type 0} (r : Result T AppFault) (fault : AppFault) → IsErrAnd r (λ app. app ≡ fault) → fault ≢ Write → IfErr r (λ app. app ≢ Write)
-not_written (Ok done) fault is other = tt
-not_written (Err app) fault is other = λ written. other (sym is ∙ written)
+pub not_that : {T : Type 0} (r : Result T AppFault) (fault that : AppFault) → IsErrAnd r (λ app. app ≡ fault) → fault ≢ that → IfErr r (λ app. app ≢ that)
+not_that (Ok done) fault that is other = tt
+not_that (Err app) fault that is other = λ same. other (sym is ∙ same)
 
 pub reader_reads : {T : Type 0} (r : Result T AppFault) (fault : ReadFault) → IsErrAnd r (λ app. app ≡ merged (Read fault)) → IfErr r (λ app. app ≢ Write)
-reader_reads r fault is = not_written r (merged (Read fault)) is (read_reads fault.kind fault.at)
+reader_reads r fault is = not_that r (merged (Read fault)) Write is (read_reads fault.kind fault.at).0
+
+pub reader_of_any : {T : Type 0} (r : Result T AppFault) (fault : ReadFault) → IsErrAnd r (λ app. app ≡ merged (Read fault)) → IfErr r (λ app. app ≢ OpenDesk)
+reader_of_any r fault is = not_that r (merged (Read fault)) OpenDesk is (read_reads fault.kind fault.at).1
 
 pub journal_reads : {T : Type 0} (r : Result T AppFault) (fault : AuditFault) → IsErrAnd r (λ app. app ≡ merged (Audit fault)) → IfErr r (λ app. app ≢ Write)
-journal_reads r fault is = not_written r (merged (Audit fault)) is (audit_reads fault)
+journal_reads r fault is = not_that r (merged (Audit fault)) Write is (audit_reads fault).0
+
+pub journal_of_any : {T : Type 0} (r : Result T AppFault) (fault : AuditFault) → IsErrAnd r (λ app. app ≡ merged (Audit fault)) → IfErr r (λ app. app ≢ OpenDesk)
+journal_of_any r fault is = not_that r (merged (Audit fault)) OpenDesk is (audit_reads fault).1
 
 -- what is so of bytes that may be known
 if_some : (P Q : List ℕ → Type 0) (files : Option (List ℕ)) → ((bytes : List ℕ) → P bytes → Q bytes) → IfSome files P → IfSome files Q
@@ -104,16 +109,16 @@ module _ (files : Option (List ℕ)) (warning : Option Warning) where
   }
 
 -- what refuses the file alone refuses its desk
-own_refuses : (bytes rows : List ℕ) (e : ElectionView) (fault : AppFault) → LeavesNone bytes None e fault → Demanding Any (LeavesNone bytes (Some rows)) e fault
+own_refuses : (bytes rows : List ℕ) (e : ElectionView) (fault : AppFault) → LeavesNone bytes None e fault → LeavesNone bytes (Some rows) e fault
 own_refuses bytes rows e (Warned warning) refused = tt
 own_refuses bytes rows e fault refused = absurd refused
 
 -- the desk of a file and a journal
 module _ (files journals : Option (List ℕ)) (warning : Option Warning) where
   pub desk_passes : {T A : Type 0} (fault : AppFault) → fault ≢ Write → Ends {T = T} Leaves LeavesNone files (Some None) warning (Err fault)
-      → Ends {T = A} IsDeskOf (λ bytes rows. Demanding Any (LeavesNone bytes (Some rows))) files journals warning (Err fault)
+      → Ends {T = A} IsDeskOf (λ bytes rows. LeavesNone bytes (Some rows)) files journals warning (Err fault)
   desk_passes fault reads ends =
-      passed_on (λ rows. None) Leaves LeavesNone IsDeskOf (λ bytes rows. Demanding Any (LeavesNone bytes (Some rows))) files (Some None) journals warning fault (λ rows is. refl)
+      passed_on (λ rows. None) Leaves LeavesNone IsDeskOf (λ bytes rows. LeavesNone bytes (Some rows)) files (Some None) journals warning fault (λ rows is. refl)
       (λ bytes rows e refused. own_refuses bytes rows e fault refused) (λ bytes rows d is. (d.opening.election, is.stands)) reads ends
 
   journal_late : (fault : AuditFault) → IsLate (merged (Audit fault))
@@ -121,7 +126,7 @@ module _ (files journals : Option (List ℕ)) (warning : Option Warning) where
   journal_late fault = tt
 
   journal_fails : (e : ElectionView) (fault : AuditFault) (bytes rows : List ℕ) → StandsFor (records_of bytes) e → IsFaultOfJournal e program_room (records_of rows) fault
-      → FailsAs IsDeskOf (λ bytes rows. Demanding Any (LeavesNone bytes (Some rows))) (merged (Audit fault)) bytes rows
+      → FailsAs IsDeskOf (λ bytes rows. LeavesNone bytes (Some rows)) (merged (Audit fault)) bytes rows
   journal_fails e audit.NoMemory bytes rows stands fails = tt
   journal_fails e fault bytes rows stands fails = (e, stands, fails)
 
@@ -141,12 +146,12 @@ module _ (files journals : Option (List ℕ)) (warning : Option Warning) where
 
   pub journal_ends : {T : Type 0} (e : ElectionView) (fault : AuditFault) (r : Result T AppFault) → IsErrAnd r (λ app. app ≡ merged (Audit fault))
       → IfSome files (λ bytes. StandsFor (records_of bytes) e) → IfSome journals (λ rows. IsFaultOfJournal e program_room (records_of rows) fault) → warning ≡ None
-      → Ends {T = T} IsDeskOf (λ bytes rows. Demanding Any (LeavesNone bytes (Some rows))) files journals warning r
+      → Ends {T = T} IsDeskOf (λ bytes rows. LeavesNone bytes (Some rows)) files journals warning r
   journal_ends e fault r is stands fails none =
-      given_end IsDeskOf (λ bytes rows. Demanding Any (LeavesNone bytes (Some rows))) files journals warning r (merged (Audit fault)) is
-      (late_end IsDeskOf (λ bytes rows. Demanding Any (LeavesNone bytes (Some rows))) files journals warning (merged (Audit fault)) (journal_late fault) (audit_again fault) (is_file files e stands) none
-      (both (FailsAs IsDeskOf (λ bytes rows. Demanding Any (LeavesNone bytes (Some rows))) (merged (Audit fault))) e fault files journals stands fails (journal_fails e fault))
-      (both (Bars IsDeskOf (λ bytes rows. Demanding Any (LeavesNone bytes (Some rows))) (merged (Audit fault))) e fault files journals stands fails (journal_bars e fault)))
+      given_end IsDeskOf (λ bytes rows. LeavesNone bytes (Some rows)) files journals warning r (merged (Audit fault)) is
+      (late_end IsDeskOf (λ bytes rows. LeavesNone bytes (Some rows)) files journals warning (merged (Audit fault)) (journal_late fault) (audit_again fault) (is_file files e stands) none
+      (both (FailsAs IsDeskOf (λ bytes rows. LeavesNone bytes (Some rows)) (merged (Audit fault))) e fault files journals stands fails (journal_fails e fault))
+      (both (Bars IsDeskOf (λ bytes rows. LeavesNone bytes (Some rows)) (merged (Audit fault))) e fault files journals stands fails (journal_bars e fault)))
 
   pub desk_is : (e : ElectionView) (d : DeskView) → IfSome files (λ bytes. StandsFor (records_of bytes) e) → IsAudited e program_room journals d
       → IfBothKnown files journals (λ bytes rows. IsDeskOf bytes rows d)
@@ -158,21 +163,16 @@ module _ (files journals : Option (List ℕ)) (warning : Option Warning) where
       by (Some bytes) None stands audited = tt
       by (Some bytes) (Some rows) stands audited = desk_of bytes rows e d stands audited
 
--- what refuses a desk refuses what it leaves
-pub journal_leaves_none : (bytes rows : List ℕ) (e : ElectionView) (fault : AppFault) → Demanding Any (LeavesNone bytes (Some rows)) e fault → LeavesNone bytes (Some rows) e fault
-journal_leaves_none bytes rows e OpenDesk refused = absurd refused
-journal_leaves_none bytes rows e fault refused = refused
-
 -- the election that a shut desk leaves
 module _ (files journals : Option (List ℕ)) (warning : Option Warning) where
   abbrev pub IsLeft : List ℕ → List ℕ → ElectionView → Type 0
   IsLeft bytes rows = Leaves bytes (Some rows)
 
-  pub left_passes : {T A : Type 0} (fault : AppFault) → fault ≢ Write → Ends {T = T} IsDeskOf (λ bytes rows. Demanding Any (LeavesNone bytes (Some rows))) files journals warning (Err fault)
+  pub left_passes : {T A : Type 0} (fault : AppFault) → fault ≢ Write → Ends {T = T} IsDeskOf (λ bytes rows. LeavesNone bytes (Some rows)) files journals warning (Err fault)
       → Ends {T = A} (λ bytes rows. Leaves bytes (Some rows)) (λ bytes rows. LeavesNone bytes (Some rows)) files journals warning (Err fault)
   left_passes fault reads ends =
-      passed_on (λ (rows : List ℕ). rows) IsDeskOf (λ bytes rows. Demanding Any (LeavesNone bytes (Some rows))) (λ bytes rows. Leaves bytes (Some rows)) (λ bytes rows. LeavesNone bytes (Some rows)) files journals journals warning fault
-      (λ rows is. is) (λ bytes rows e refused. journal_leaves_none bytes rows e fault refused) (λ bytes rows e leaves. (leaves.0, leaves.1)) reads ends
+      passed_on (λ (rows : List ℕ). rows) IsDeskOf (λ bytes rows. LeavesNone bytes (Some rows)) (λ bytes rows. Leaves bytes (Some rows)) (λ bytes rows. LeavesNone bytes (Some rows)) files journals journals warning fault
+      (λ rows is. is) (λ bytes rows e refused. refused) (λ bytes rows e leaves. (leaves.0, leaves.1)) reads ends
 
   open_bars : (d : DeskView) → (standing_of d).is_shut ≡ false → (bytes rows : List ℕ) → IsDeskOf bytes rows d → (e : ElectionView) → Leaves bytes (Some rows) e → IsOutsideFault OpenDesk
   open_bars d unshut bytes rows is e leaves =

@@ -1,6 +1,5 @@
 -- The lemmas that the proofs of this crate share.
 pub mod RowsGrown
-pub mod Selected
 pub mod ReportSums
 pub mod Closings
 pub mod Accepted
@@ -13,9 +12,7 @@ mod ThreeVoters
 pub mod DeskRuns
 pub mod Recounts
 pub mod TablesTell
-pub mod TableRows
-pub mod TableHeads
-pub mod ComparedRows
+pub mod TableColumns
 pub mod PaymentsText
 pub mod CheckWritten
 pub mod CheckedAgainst

@@ -5,7 +5,7 @@ use Rattle.std.specs.List.{join_with_byte}
 use Rattle.std.proofs.lemmas.List.{length-map, map_more, length-take-le}
 use Rattle.pb_core.specs.MoneyText.{money_text}
 use Rattle.pb_reasons.specs.declared.payment.Payment.{Payment}
-use Rattle.pb_commands.specs.Tables.{payments_text}
+use Rattle.pb_commands.specs.Inner.Tables.{payments_text}
 
 -- pieces with one piece more
 join-push : (c : ℕ) (p : List ℕ) (ps : List (List ℕ)) (x : List ℕ) → join_with_byte c ((p ∷ ps) ++ x ∷ []) ≡ join_with_byte c (p ∷ ps) ++ c ∷ x

@@ -9,7 +9,7 @@ use Rattle.pb_price.specs.Supporters.{support_of}
 use Rattle.pb_reasons.proofs.WinnerSums.{IsWinner, cost_at-known}
 use Rattle.pb_rounds.specs.Run.{ElectedView}
 use Rattle.pb_rows.specs.Writing.{text_of_row, text_of_rows}
-use Rattle.pb_commands.specs.Report.{added_row, elected_row}
+use Rattle.pb_commands.specs.Inner.Report.{added_row, elected_row}
 use Rattle.pb_commands.proofs.RowsGrown.{row_grown}
 
 pub id_at-known : (e : ElectionView) (place : ℕ) (p : ProjectView)

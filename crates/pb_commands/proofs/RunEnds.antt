@@ -1,7 +1,7 @@
 -- How the runs end that write a report, a table or a file of a count, an audit, ballots, or a desk's journal.
 use Rattle.std.proofs.Common.{◌≡◌, ◌≢◌, ◌∙◌, ℕ, List, Option, Some, None, Ok, Err, false, true, refl, sym, ap, subst}
 use Rattle.std.proofs.lemmas.Bool.{true≢false}
-use Rattle.std.specs.Prelude.{IfErr, IfSome, Result}
+use Rattle.std.specs.Prelude.{IfErr, IfSome, IsErrAnd, Result}
 use Rattle.pb_core.specs.Election.{ElectionView, IsElection}
 use Rattle.pb_desk.specs.Desk.{DeskView, closed_election, standing_of}
 use Rattle.pb_export.specs.declared.export_fault.ExportFault.TheVariants as export
@@ -10,6 +10,7 @@ use Rattle.pb_read.specs.declared.warning.Warning.{Warning}
 use Rattle.pb_reasons.proofs.Results.{result_of}
 use Rattle.pb_reasons.proofs.Tellable.{count_can_be_told}
 use Rattle.pb_reasons.specs.Counted.{CountedView, IsCountBy}
+use Rattle.pb_reasons.specs.CountedElection.{CountedElectionView, IsCountedElection}
 use Rattle.pb_rounds.specs.Counted.{IsCountOf}
 use Rattle.pb_rounds.specs.Outcome.{OutcomeView}
 use Rattle.pb_rounds.specs.declared.count_fault.CountFault.{CountFault}
@@ -18,21 +19,20 @@ use Rattle.pb_rounds.specs.declared.options.CountOptions.{CountOptions}
 use Rattle.pb_rounds.specs.declared.rule.Rule.{Rule}
 use Rattle.pb_commands.proofs.Accepted.{count_again}
 use Rattle.pb_commands.proofs.AuditAccepted.{desk_from_outside, one_desk}
-use Rattle.pb_commands.proofs.CountEnds.{count_late}
+use Rattle.pb_commands.proofs.CountEnds.{Outcomes, count_late, count_of_any, none_counted}
 use Rattle.pb_commands.proofs.Endings.{Bars, FailsAs, IsElectionFile, known_all, known_map, late_end, memory_end, passed_on}
 use Rattle.pb_commands.proofs.InputEnds.{file_of, one_left}
 use Rattle.pb_commands.specs.Audited.{AuditWrites, IsDeskOf, IsTextOf}
 use Rattle.pb_commands.specs.Ballots.{BallotsWrites, ballots_table}
-use Rattle.pb_commands.specs.Closed.{CountRefuses, CountsAs, Demanding, Leaves, LeavesNone, WritesOf}
-use Rattle.pb_commands.specs.Counted.{IsReportOf}
+use Rattle.pb_commands.specs.Closed.{CountRefuses, Gives, Leaves, LeavesNone}
+use Rattle.pb_commands.specs.Counted.{IsTold}
 use Rattle.pb_commands.specs.declared.demand.Demand.{Demand}
-use Rattle.pb_commands.specs.declared.demand.Demand.TheVariants.{Any, Shut}
+use Rattle.pb_commands.specs.declared.demand.Demand.TheVariants.{Shut}
 use Rattle.pb_commands.specs.Ends.{Ends, FailsBy, IfBothKnown, IsOutsideFault}
 use Rattle.pb_commands.specs.Exported.{ExportRefuses, IsExportOf}
 use Rattle.pb_commands.specs.Inner.Audited.{IsRefusedDesk}
 use Rattle.pb_commands.specs.Inner.Exporting.{IsStopped}
-use Rattle.pb_commands.specs.Tabled.{IsTableOf}
-use Rattle.pb_commands.specs.Tables.{table_of}
+use Rattle.pb_commands.specs.Tables.{IsTableOf, table_of}
 use Rattle.pb_commands.specs.declared.table.Table.{Table}
 use Rattle.pb_faults.specs.Fault.{merged}
 use Rattle.pb_faults.specs.declared.fault.AppFault.{AppFault}
@@ -42,21 +42,25 @@ use Rattle.pb_faults.specs.declared.fault.AppFault.TheVariants.{OpenDesk, Count,
 module _ (IsSuch : ElectionView → List ℕ → Type 0) (options : CountOptions) (files : Option (List ℕ)) (journals : Option (Option (List ℕ))) (warning : Option Warning)
     (counts : (e : ElectionView) (text : List ℕ) → IsSuch e text → (o : OutcomeView) × IsCountOf e options o) where
   -- the count's fault is that of the run
-  pub counts_pass : {T A : Type 0} (fault : AppFault) → fault ≢ Write → Ends {T = T} (CountsAs options) (CountRefuses options) files journals warning (Err fault)
-      → Ends {T = A} (WritesOf IsSuch) (CountRefuses options) files journals warning (Err fault)
+  pub counts_pass : {T A : Type 0} (fault : AppFault) → fault ≢ Write → Ends {T = T} (Outcomes options) (CountRefuses options) files journals warning (Err fault)
+      → Ends {T = A} (Gives IsSuch) (CountRefuses options) files journals warning (Err fault)
   counts_pass fault reads ends =
-      passed_on (λ (journal : Option (List ℕ)). journal) (CountsAs options) (CountRefuses options) (WritesOf IsSuch) (CountRefuses options) files journals journals warning fault
+      passed_on (λ (journal : Option (List ℕ)). journal) (Outcomes options) (CountRefuses options) (Gives IsSuch) (CountRefuses options) files journals journals warning fault
       (λ journal is. is) (λ bytes journal e refused. refused)
-      (λ bytes journal text writes. let o = counts writes.0 text writes.2 in ((writes.0, o.0), (writes.1, o.1))) reads ends
+      (λ bytes journal text writes. let o = counts writes.0 text writes.2 in (o.0, (writes.0, writes.1, o.1))) reads ends
 
 pub writes_of : (IsSuch : ElectionView → List ℕ → Type 0) (files : Option (List ℕ)) (journals : Option (Option (List ℕ))) (e : ElectionView) (text : List ℕ)
-    → IfBothKnown files journals (λ bytes journal. Leaves bytes journal e) → IsSuch e text → IfBothKnown files journals (λ bytes journal. WritesOf IsSuch bytes journal text)
+    → IfBothKnown files journals (λ bytes journal. Leaves bytes journal e) → IsSuch e text → IfBothKnown files journals (λ bytes journal. Gives IsSuch bytes journal text)
 writes_of IsSuch files journals e text leaves such =
-    known_map (λ bytes journal. Leaves bytes journal e) (λ bytes journal. WritesOf IsSuch bytes journal text) files journals (λ bytes journal leaves. (e, leaves, such)) leaves
+    known_map (λ bytes journal. Leaves bytes journal e) (λ bytes journal. Gives IsSuch bytes journal text) files journals (λ bytes journal leaves. (e, leaves, such)) leaves
 
--- a report
-pub report_counts : (rule : Rule) (e : ElectionView) (text : List ℕ) → IsReportOf rule e text → (o : OutcomeView) × IsCountOf e rule.options o
-report_counts rule e text report = let count = report.1 in (count.0, count.1)
+-- a counted election is a count by its rule
+pub is_count_by : (x : CountedElectionView) (rule : Rule) → IsCountedElection x → x.rule ≡ rule → IsCountBy rule x.election x.counted
+is_count_by x rule is same = subst (λ (rule : Rule). IsCountBy rule x.election x.counted) same (x.counted.outcome, is.is_count, is.is_filled_up)
+
+-- what is told of a count
+pub told_counts : (told : ElectionView → CountedView → List ℕ) (rule : Rule) (e : ElectionView) (text : List ℕ) → IsTold told rule e text → (o : OutcomeView) × IsCountOf e rule.options o
+told_counts told rule e text is = let count = is.1 in (count.0, count.1)
 
 -- a table
 pub table_counts : (table : Table) (rule : Rule) (e : ElectionView) (text : List ℕ) → IsTableOf table rule e text → (o : OutcomeView) × IsCountOf e rule.options o
@@ -76,105 +80,93 @@ module _ (rule : Rule) (files : Option (List ℕ)) (journals : Option (Option (L
   counted_exports bytes (Some rows) e (Export fault) refused = absurd refused
   counted_exports bytes journal e fault refused = refused
 
-  pub exports_pass : (kept : Further) {T A : Type 0} (fault : AppFault) → fault ≢ Write → Ends {T = T} (CountsAs rule.options) (CountRefuses rule.options) files journals warning (Err fault)
-      → Ends {T = A} (WritesOf (IsExportOf rule kept)) (ExportRefuses rule.options) files journals warning (Err fault)
+  pub exports_pass : (kept : Further) {T A : Type 0} (fault : AppFault) → fault ≢ Write → Ends {T = T} (Outcomes rule.options) (CountRefuses rule.options) files journals warning (Err fault)
+      → Ends {T = A} (Gives (IsExportOf rule kept)) (ExportRefuses rule.options) files journals warning (Err fault)
   exports_pass kept fault reads ends =
-      passed_on (λ (journal : Option (List ℕ)). journal) (CountsAs rule.options) (CountRefuses rule.options) (WritesOf (IsExportOf rule kept)) (ExportRefuses rule.options) files journals journals warning fault
+      passed_on (λ (journal : Option (List ℕ)). journal) (Outcomes rule.options) (CountRefuses rule.options) (Gives (IsExportOf rule kept)) (ExportRefuses rule.options) files journals journals warning fault
       (λ journal is. is) (λ bytes journal e refused. counted_exports bytes journal e fault refused)
-      (λ bytes journal text writes. (let count = writes.2.by_rule in ((writes.0, count.0), (writes.1, count.1)))) reads ends
+      (λ bytes journal text writes. (let count = writes.2.told.1 in (count.0, (writes.0, writes.1, count.1)))) reads ends
 
   -- with whatever is kept
-  pub passed_bars : {T : Type 0} (fault : AppFault) → Ends {T = T} (CountsAs rule.options) (CountRefuses rule.options) files journals warning (Err fault) → warning ≡ None
-      → IfBothKnown files journals (λ bytes journal. (kept : Further) (text : List ℕ) → WritesOf (IsExportOf rule kept) bytes journal text → IsOutsideFault fault)
+  pub passed_bars : {T : Type 0} (fault : AppFault) → Ends {T = T} (Outcomes rule.options) (CountRefuses rule.options) files journals warning (Err fault) → warning ≡ None
+      → IfBothKnown files journals (λ bytes journal. (kept : Further) (text : List ℕ) → Gives (IsExportOf rule kept) bytes journal text → IsOutsideFault fault)
   passed_bars fault ends none =
-      known_map (Bars (CountsAs rule.options) (CountRefuses rule.options) fault)
-      (λ bytes journal. (kept : Further) (text : List ℕ) → WritesOf (IsExportOf rule kept) bytes journal text → IsOutsideFault fault) files journals
-      (λ bytes journal bars kept text writes. (let count = writes.2.by_rule in bars (writes.0, count.0) (writes.1, count.1))) (ends.accepts none)
+      known_map (Bars (Outcomes rule.options) (CountRefuses rule.options) fault)
+      (λ bytes journal. (kept : Further) (text : List ℕ) → Gives (IsExportOf rule kept) bytes journal text → IsOutsideFault fault) files journals
+      (λ bytes journal bars kept text writes. (let count = writes.2.told.1 in bars count.0 (writes.0, writes.1, count.1))) (ends.accepts none)
 
   -- the writer's fault comes from outside
   pub writer_bars : {T : Type 0} (r : Result T AppFault) → IfErr r (λ fault. fault ≡ Write)
-      → IfErr r (λ fault. IfBothKnown files journals (λ bytes journal. (kept : Further) (text : List ℕ) → WritesOf (IsExportOf rule kept) bytes journal text → IsOutsideFault fault))
+      → IfErr r (λ fault. IfBothKnown files journals (λ bytes journal. (kept : Further) (text : List ℕ) → Gives (IsExportOf rule kept) bytes journal text → IsOutsideFault fault))
   writer_bars (Ok done) is = tt
   writer_bars (Err fault) is =
-      known_all (λ bytes journal. (kept : Further) (text : List ℕ) → WritesOf (IsExportOf rule kept) bytes journal text → IsOutsideFault fault) files journals
+      known_all (λ bytes journal. (kept : Further) (text : List ℕ) → Gives (IsExportOf rule kept) bytes journal text → IsOutsideFault fault) files journals
       (λ bytes journal kept text writes. subst IsOutsideFault (sym is) refl)
 
   module _ (e : ElectionView) (o : OutcomeView) (is_count : IsCountOf e rule.options o) where
     stopped_outside : (kept : Further) (text : List ℕ) (fault : AppFault) → IsExportOf rule kept e text → IsStopped e fault → merged fault ≡ fault → IsOutsideFault fault
     stopped_outside kept text Memory writes stopped is = refl
-    stopped_outside kept text (Export export.SectionWord) writes stopped is = absurd (true≢false (sym stopped ∙ writes.can.words))
-    stopped_outside kept text (Export export.CommaInId) writes stopped is = absurd (true≢false (sym stopped.1 ∙ writes.can.commas))
-    stopped_outside kept text (Export export.OfNoFile) writes stopped is = absurd (true≢false (sym writes.can.of_file ∙ stopped.2))
+    stopped_outside kept text (Export export.SectionWord) writes stopped is = cc (writes.can export.SectionWord stopped)
+    stopped_outside kept text (Export export.CommaInId) writes stopped is = cc (writes.can export.CommaInId stopped)
+    stopped_outside kept text (Export export.OfNoFile) writes stopped is = cc (writes.can export.OfNoFile stopped)
     stopped_outside kept text (Export export.NoMemory) writes stopped is = cc is
     stopped_outside kept text fault writes stopped is = absurd stopped
 
     bars_export : (fault : AppFault) → IsStopped e fault → merged fault ≡ fault → (bytes : List ℕ) (journal : Option (List ℕ)) → Leaves bytes journal e
-        → (kept : Further) (text : List ℕ) → WritesOf (IsExportOf rule kept) bytes journal text → IsOutsideFault fault
+        → (kept : Further) (text : List ℕ) → Gives (IsExportOf rule kept) bytes journal text → IsOutsideFault fault
     bars_export fault stopped is bytes journal leaves kept text writes =
         let such = subst (λ (x : ElectionView). IsExportOf rule kept x text) (one_left bytes journal writes.0 e writes.1 leaves) writes.2 in
         stopped_outside kept text fault such stopped is
 
     pub stopped_bars : (fault : AppFault) → IsStopped e fault → merged fault ≡ fault → IfBothKnown files journals (λ bytes journal. Leaves bytes journal e)
-        → IfBothKnown files journals (λ bytes journal. (kept : Further) (text : List ℕ) → WritesOf (IsExportOf rule kept) bytes journal text → IsOutsideFault fault)
+        → IfBothKnown files journals (λ bytes journal. (kept : Further) (text : List ℕ) → Gives (IsExportOf rule kept) bytes journal text → IsOutsideFault fault)
     stopped_bars fault stopped is leaves =
         known_map (λ bytes journal. Leaves bytes journal e)
-        (λ bytes journal. (kept : Further) (text : List ℕ) → WritesOf (IsExportOf rule kept) bytes journal text → IsOutsideFault fault) files journals (bars_export fault stopped is) leaves
+        (λ bytes journal. (kept : Further) (text : List ℕ) → Gives (IsExportOf rule kept) bytes journal text → IsOutsideFault fault) files journals (bars_export fault stopped is) leaves
 
     -- no file would be read back as the election, or memory was refused
     pub stopped_ends : (kept : Further) {T : Type 0} (fault : AppFault) → IsStopped e fault → merged fault ≡ fault → IfBothKnown files journals (λ bytes journal. Leaves bytes journal e)
         → IfSome files (λ bytes. IsElectionFile bytes) → warning ≡ None
-        → Ends {T = T} (WritesOf (IsExportOf rule kept)) (ExportRefuses rule.options) files journals warning (Err fault)
-    stopped_ends kept Memory stopped is leaves file none = memory_end (WritesOf (IsExportOf rule kept)) (ExportRefuses rule.options) files journals warning file none
+        → Ends {T = T} (Gives (IsExportOf rule kept)) (ExportRefuses rule.options) files journals warning (Err fault)
+    stopped_ends kept Memory stopped is leaves file none = memory_end (Gives (IsExportOf rule kept)) (ExportRefuses rule.options) files journals warning file none
     stopped_ends kept (Export fault) stopped is leaves file none =
-        late_end (WritesOf (IsExportOf rule kept)) (ExportRefuses rule.options) files journals warning (Export fault) tt is file none
-        (known_map (λ bytes journal. Leaves bytes journal e) (FailsAs (WritesOf (IsExportOf rule kept)) (ExportRefuses rule.options) (Export fault)) files journals
-        (λ bytes journal leaves. let own = file_of bytes journal e leaves in (own.0, own.1, ((e, o), (leaves, is_count), stopped))) leaves)
-        (known_map (λ bytes journal. Leaves bytes journal e) (Bars (WritesOf (IsExportOf rule kept)) (ExportRefuses rule.options) (Export fault)) files journals
+        late_end (Gives (IsExportOf rule kept)) (ExportRefuses rule.options) files journals warning (Export fault) tt is file none
+        (known_map (λ bytes journal. Leaves bytes journal e) (FailsAs (Gives (IsExportOf rule kept)) (ExportRefuses rule.options) (Export fault)) files journals
+        (λ bytes journal leaves. let own = file_of bytes journal e leaves in (own.0, own.1, (e, leaves, ((o, is_count), stopped)))) leaves)
+        (known_map (λ bytes journal. Leaves bytes journal e) (Bars (Gives (IsExportOf rule kept)) (ExportRefuses rule.options) (Export fault)) files journals
         (λ bytes journal leaves text writes. bars_export (Export fault) stopped is bytes journal leaves kept text writes) leaves)
     stopped_ends kept fault stopped is leaves file none = absurd stopped
 
 -- an audit, and its ballots
 module _ (files journals : Option (List ℕ)) (warning : Option Warning) where
-  pub ballots_pass : (voter : Option (List ℕ)) {T A : Type 0} (fault : AppFault) → fault ≢ Write → Ends {T = T} IsDeskOf (λ bytes rows. Demanding Any (LeavesNone bytes (Some rows))) files journals warning (Err fault)
-      → Ends {T = A} (BallotsWrites voter) (λ bytes rows. Demanding Any (LeavesNone bytes (Some rows))) files journals warning (Err fault)
+  pub ballots_pass : (voter : Option (List ℕ)) {T A : Type 0} (fault : AppFault) → fault ≢ Write → Ends {T = T} IsDeskOf (λ bytes rows. LeavesNone bytes (Some rows)) files journals warning (Err fault)
+      → Ends {T = A} (BallotsWrites voter) (λ bytes rows. LeavesNone bytes (Some rows)) files journals warning (Err fault)
   ballots_pass voter fault reads ends =
-      passed_on (λ (rows : List ℕ). rows) IsDeskOf (λ bytes rows. Demanding Any (LeavesNone bytes (Some rows))) (BallotsWrites voter) (λ bytes rows. Demanding Any (LeavesNone bytes (Some rows))) files journals journals warning fault
+      passed_on (λ (rows : List ℕ). rows) IsDeskOf (λ bytes rows. LeavesNone bytes (Some rows)) (BallotsWrites voter) (λ bytes rows. LeavesNone bytes (Some rows)) files journals journals warning fault
       (λ rows is. is) (λ bytes rows e refused. refused) (λ bytes rows text writes. (writes.0, writes.1)) reads ends
 
   pub ballots_known : (d : DeskView) → IfBothKnown files journals (λ bytes rows. IsDeskOf bytes rows d) → (voter : Option (List ℕ)) (text : List ℕ) → text ≡ ballots_table voter d
       → IfBothKnown files journals (λ bytes rows. BallotsWrites voter bytes rows text)
   ballots_known d is voter text told = known_map (λ bytes rows. IsDeskOf bytes rows d) (λ bytes rows. BallotsWrites voter bytes rows text) files journals (λ bytes rows is. (d, is, told)) is
 
--- what refuses a desk refuses its audit, whatever is demanded
-journal_audits : (demand : Demand) (options : CountOptions) (bytes rows : List ℕ) (e : ElectionView) (fault : AppFault) → Demanding Any (LeavesNone bytes (Some rows)) e fault
-    → Demanding demand (CountRefuses options bytes (Some rows)) e fault
-journal_audits Any options bytes rows e OpenDesk refused = absurd refused
-journal_audits Any options bytes rows e (Count fault) refused = absurd refused
-journal_audits Any options bytes rows e fault refused = refused
-journal_audits Shut options bytes rows e OpenDesk refused = absurd refused
-journal_audits Shut options bytes rows e (Count fault) refused = absurd refused
-journal_audits Shut options bytes rows e fault refused = refused
-
--- so does what refuses the count of a shut desk's ballots
-refused_count : (demand : Demand) (options : CountOptions) (bytes rows : List ℕ) (d : DeskView) (fault : CountFault) → IsRefusedDesk d options fault → IsDeskOf bytes rows d
-    → FailsBy (Demanding demand (CountRefuses options bytes (Some rows))) (λ (text : List ℕ). ⊥) bytes (merged (Count fault))
-refused_count Any options bytes rows d count.NoMemory refused is = tt
-refused_count Any options bytes rows d fault refused is = (d.opening.election, is.stands, (closed_election d, (d, is, refused.0, refl), refused.1))
-refused_count Shut options bytes rows d count.NoMemory refused is = tt
-refused_count Shut options bytes rows d fault refused is = (d.opening.election, is.stands, (closed_election d, (d, is, refused.0, refl), refused.1))
+-- what refuses the count of a shut desk's ballots refuses its audit
+refused_count : (options : CountOptions) (bytes rows : List ℕ) (d : DeskView) (fault : CountFault) → IsRefusedDesk d options fault → IsDeskOf bytes rows d
+    → FailsBy (CountRefuses options bytes (Some rows)) (λ (text : List ℕ). ⊥) bytes (merged (Count fault))
+refused_count options bytes rows d count.NoMemory refused is = tt
+refused_count options bytes rows d fault refused is = (d.opening.election, is.stands, (closed_election d, (d, is, refused.0, refl), refused.1))
 
 module _ (demand : Demand) (rule : Rule) (files journals : Option (List ℕ)) (warning : Option Warning) where
   abbrev Writes : List ℕ → List ℕ → List ℕ → Type 0
   Writes = AuditWrites demand rule
 
   abbrev Refuses : List ℕ → List ℕ → ElectionView → AppFault → Type 0
-  Refuses bytes rows = Demanding demand (CountRefuses rule.options bytes (Some rows))
+  Refuses bytes rows = CountRefuses rule.options bytes (Some rows)
 
-  pub audits_pass : {T A : Type 0} (fault : AppFault) → fault ≢ Write → Ends {T = T} IsDeskOf (λ bytes rows. Demanding Any (LeavesNone bytes (Some rows))) files journals warning (Err fault)
-      → Ends {T = A} (AuditWrites demand rule) (λ bytes rows. Demanding demand (CountRefuses rule.options bytes (Some rows))) files journals warning (Err fault)
+  pub audits_pass : {T A : Type 0} (fault : AppFault) → fault ≢ Write → Ends {T = T} IsDeskOf (λ bytes rows. LeavesNone bytes (Some rows)) files journals warning (Err fault)
+      → Ends {T = A} (AuditWrites demand rule) (λ bytes rows. CountRefuses rule.options bytes (Some rows)) files journals warning (Err fault)
   audits_pass fault reads ends =
-      passed_on (λ (rows : List ℕ). rows) IsDeskOf (λ bytes rows. Demanding Any (LeavesNone bytes (Some rows))) Writes Refuses files journals journals warning fault
-      (λ rows is. is) (λ bytes rows e refused. journal_audits demand rule.options bytes rows e fault refused) (λ bytes rows text writes. (writes.0, writes.1)) reads ends
+      passed_on (λ (rows : List ℕ). rows) IsDeskOf (λ bytes rows. LeavesNone bytes (Some rows)) Writes Refuses files journals journals warning fault
+      (λ rows is. is) (λ bytes rows e refused. none_counted rule.options bytes (Some rows) e fault refused) (λ bytes rows text writes. (writes.0, writes.1)) reads ends
 
   module _ (d : DeskView) (is : IfBothKnown files journals (λ bytes rows. IsDeskOf bytes rows d)) where
     pub audit_known : (demand ≡ Shut → (standing_of d).is_shut ≡ true) → (text : List ℕ) → IsTextOf rule d text → IfBothKnown files journals (λ bytes rows. AuditWrites demand rule bytes rows text)
@@ -182,7 +174,7 @@ module _ (demand : Demand) (rule : Rule) (files journals : Option (List ℕ)) (w
 
     refused_fails : (fault : CountFault) (bytes rows : List ℕ) → IsRefusedDesk d rule.options fault → IsDeskOf bytes rows d → FailsAs Writes Refuses (merged (Count fault)) bytes rows
     refused_fails count.NoMemory bytes rows refused is = tt
-    refused_fails fault bytes rows refused is = refused_count demand rule.options bytes rows d fault refused is
+    refused_fails fault bytes rows refused is = refused_count rule.options bytes rows d fault refused is
 
     refused_bars : (fault : CountFault) (bytes rows : List ℕ) → IsRefusedDesk d rule.options fault → IsDeskOf bytes rows d → (text : List ℕ) → AuditWrites demand rule bytes rows text
         → IsOutsideFault (merged (Count fault))
@@ -191,7 +183,7 @@ module _ (demand : Demand) (rule : Rule) (files journals : Option (List ℕ)) (w
         desk_from_outside rule d text written fault refused
 
     pub refused_audit : {T : Type 0} (fault : CountFault) → IsRefusedDesk d rule.options fault → IfSome files (λ bytes. IsElectionFile bytes) → warning ≡ None
-        → Ends {T = T} (AuditWrites demand rule) (λ bytes rows. Demanding demand (CountRefuses rule.options bytes (Some rows))) files journals warning (Err (merged (Count fault)))
+        → Ends {T = T} (AuditWrites demand rule) (λ bytes rows. CountRefuses rule.options bytes (Some rows)) files journals warning (Err (merged (Count fault)))
     refused_audit fault refused file none =
         late_end Writes Refuses files journals warning (merged (Count fault)) (count_late fault) (count_again fault) file none
         (known_map (λ bytes rows. IsDeskOf bytes rows d) (FailsAs Writes Refuses (merged (Count fault))) files journals (λ bytes rows is. refused_fails fault bytes rows refused is) is)
@@ -199,20 +191,27 @@ module _ (demand : Demand) (rule : Rule) (files journals : Option (List ℕ)) (w
 
 -- an open desk, where a shut one is demanded
 module _ (demand : Demand) (rule : Rule) (files journals : Option (List ℕ)) (warning : Option Warning) (d : DeskView) (shut : demand ≡ Shut) (unshut : (standing_of d).is_shut ≡ false) where
-  open_fails : (bytes rows : List ℕ) → IsDeskOf bytes rows d → Demanding demand (CountRefuses rule.options bytes (Some rows)) d.opening.election OpenDesk
-  open_fails bytes rows is =
-      let P : Demand → Type 0 = λ demand. Demanding demand (CountRefuses rule.options bytes (Some rows)) d.opening.election OpenDesk in
-      subst P (sym shut) (d, is, unshut)
-
   open_bars : (bytes rows : List ℕ) → IsDeskOf bytes rows d → (text : List ℕ) → AuditWrites demand rule bytes rows text → IsOutsideFault OpenDesk
   open_bars bytes rows is text writes =
       let same = one_desk bytes rows writes.0 d writes.1 is in
       absurd (true≢false (sym (writes.2 shut) ∙ ap (λ (d : DeskView). (standing_of d).is_shut) same ∙ unshut))
 
   pub open_audit : {T : Type 0} → IfBothKnown files journals (λ bytes rows. IsDeskOf bytes rows d) → IfSome files (λ bytes. IsElectionFile bytes) → warning ≡ None
-      → Ends {T = T} (AuditWrites demand rule) (λ bytes rows. Demanding demand (CountRefuses rule.options bytes (Some rows))) files journals warning (Err OpenDesk)
+      → Ends {T = T} (AuditWrites demand rule) (λ bytes rows. CountRefuses rule.options bytes (Some rows)) files journals warning (Err OpenDesk)
   open_audit is file none =
-      let Refuses : List ℕ → List ℕ → ElectionView → AppFault → Type 0 = λ bytes rows. Demanding demand (CountRefuses rule.options bytes (Some rows)) in
+      let Refuses : List ℕ → List ℕ → ElectionView → AppFault → Type 0 = λ bytes rows. CountRefuses rule.options bytes (Some rows) in
       late_end (AuditWrites demand rule) Refuses files journals warning OpenDesk tt refl file none
-      (known_map (λ bytes rows. IsDeskOf bytes rows d) (FailsAs (AuditWrites demand rule) Refuses OpenDesk) files journals (λ bytes rows is. (d.opening.election, is.stands, open_fails bytes rows is)) is)
+      (known_map (λ bytes rows. IsDeskOf bytes rows d) (FailsAs (AuditWrites demand rule) Refuses OpenDesk) files journals (λ bytes rows is. (d.opening.election, is.stands, (d, is, unshut))) is)
       (known_map (λ bytes rows. IsDeskOf bytes rows d) (Bars (AuditWrites demand rule) Refuses OpenDesk) files journals open_bars is)
+
+-- a refused count, and a writer that fails, say nothing of an open desk
+pub of_any : {T : Type 0} (P : Type 0) (r : Result T AppFault) (fault : CountFault) → IsErrAnd r (λ app. app ≡ merged (Count fault)) → IfErr r (λ app. app ≡ OpenDesk → P)
+of_any P (Ok done) fault is = tt
+of_any P (Err app) fault is = λ same. absurd (count_of_any fault (sym is ∙ same))
+
+pub written_of_any : {T : Type 0} (P : Type 0) (r : Result T AppFault) → IfErr r (λ app. app ≡ Write) → IfErr r (λ app. app ≡ OpenDesk → P)
+written_of_any P (Ok done) is = tt
+written_of_any P (Err app) is = λ same. absurd (write_is_other (sym is ∙ same))
+  where
+    write_is_other : Write ≡ OpenDesk → ⊥
+    write_is_other is = cc

@@ -21,7 +21,7 @@ use Rattle.pb_reasons.specs.declared.project_reason.Won.{Won}
 use Rattle.pb_rounds.proofs.Counted.{is_computed}
 use Rattle.pb_rounds.specs.Count.{spent_on}
 use Rattle.pb_rounds.specs.Outcome.{settled}
-use Rattle.pb_rounds.specs.PriceSystem.{PaysFor}
+use Rattle.pb_rounds.specs.PriceSystem.{IsPriceSystem, PaysFor}
 use Rattle.pb_rounds.specs.Run.{ElectedView, is_elected}
 use Rattle.pb_reasons.proofs.ElectedPlaces.{count_elects_projects}
 use Rattle.pb_reasons.proofs.Tellable.{count_can_be_told}
@@ -57,6 +57,9 @@ missing_told e c place h is_count known unselected =
 pub share_told : (e : ElectionView) (c : CountedView) (voter : ℕ) → IsElection e → IsCounted e c → voter < length e.voters
     → (voter_reason e c voter).paid + (voter_reason e c voter).left ≡ c.outcome.share
 share_told e c voter h is_count known = (count_can_be_told e is_count.0 c.outcome h is_count.1).price_system.endowed voter known
+
+pub payments_told : (e : ElectionView) (c : CountedView) → IsElection e → IsCounted e c → IsPriceSystem (support_of e) c.outcome.share c.outcome.elected c.outcome.rests (all_payments e c.outcome)
+payments_told e c h is_count = (count_can_be_told e is_count.0 c.outcome h is_count.1).price_system
 
 read_here : (elected : List ElectedView) (round : ℕ) (w : ElectedView) → slice_get elected round ≡ Some w → (round < length elected) × (get_or elected round w ≡ w)
 read_here elected round w is = elim (cases_lt round (length elected)) [

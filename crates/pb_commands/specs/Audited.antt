@@ -7,7 +7,8 @@ use Rattle.pb_rounds.specs.declared.rule.Rule.{Rule}
 use Rattle.pb_rows.specs.Reading.{records_of}
 use Rattle.pb_rows.specs.Writing.{text_of_row}
 use Rattle.pb_script.specs.Serving.{program_room}
-use Rattle.pb_commands.specs.Counted.{IsReportOf}
+use Rattle.pb_commands.specs.Counted.{IsTold}
+use Rattle.pb_commands.specs.Report.{report_of}
 use Rattle.pb_commands.specs.declared.demand.Demand.{Demand}
 use Rattle.pb_commands.specs.declared.demand.Demand.TheVariants.{Shut}
 use Rattle.pb_faults.specs.DeskRow.{entries_row}
@@ -22,7 +23,7 @@ pub record IsDeskOf (bytes journal : List ℕ) (d : DeskView) : Type 0 where
 -- leaves
 abbrev pub IsTextOf : Rule → DeskView → List ℕ → Type 0
 IsTextOf rule d text = (report : List ℕ) × (text ≡ text_of_row (entries_row d) ++ report)
-    × MatchBool (standing_of d).is_shut (IsReportOf rule (closed_election d) report) (report ≡ [])
+    × MatchBool (standing_of d).is_shut (IsTold report_of rule (closed_election d) report) (report ≡ [])
 
 -- what these bytes make a run of `audit` write: of a shut desk, where one is demanded
 abbrev pub AuditWrites : Demand → Rule → List ℕ → List ℕ → List ℕ → Type 0

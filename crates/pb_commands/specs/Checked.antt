@@ -1,29 +1,12 @@
 -- What a run of `check` writes.
-use Rattle.std.specs.Prelude.{◌≡◌, ◌⊎◌, ℕ, List, ◌∷◌, ◌++◌, codes, map}
-use Rattle.pb_core.specs.Election.{ElectionView}
+use Rattle.std.specs.Prelude.{◌≡◌, ℕ, List, ◌∷◌, ◌++◌, codes, map}
 use Rattle.pb_read.specs.declared.fault.ReadFault.{ReadFault}
-use Rattle.pb_rounds.specs.Counted.{IsCountFault}
-use Rattle.pb_rounds.specs.declared.count_fault.CountFault.TheVariants as count
-use Rattle.pb_rounds.specs.declared.options.CountOptions.{CountOptions}
 use Rattle.pb_rows.specs.Reading.{Fields}
 use Rattle.pb_rows.specs.Writing.{text_of_rows}
 use Rattle.pb_faults.specs.Fault.{told}
-use Rattle.pb_faults.specs.declared.fault.AppFault.{AppFault}
-use Rattle.pb_faults.specs.declared.fault.AppFault.TheVariants.{Count, Memory, Read, Write}
-
--- the row of a fault
-abbrev pub fault_row : ReadFault → Fields
-fault_row fault = codes "fault" ∷ (told (Read fault)).1
+use Rattle.pb_faults.specs.declared.fault.AppFault.TheVariants.{Read}
 
 -- a row for each fault, and then rows of warnings
 abbrev pub IsTextOfCheck : List ReadFault → List ℕ → Type 0
-IsTextOfCheck faults text =
-    (warnings : List Fields)
-    × (text ≡ text_of_rows (map fault_row faults ++ map (λ row. codes "warning" ∷ row) warnings))
-
--- why a check against a count fails: the count of such an election is refused; or the writer failed; or
--- memory was refused, in the count too
-abbrev pub CheckFails : (ElectionView → Type 0) → CountOptions → AppFault → Type 0
-CheckFails IsIt options (Count count.NoMemory) = ⊥
-CheckFails IsIt options (Count fault) = (e : ElectionView) × IsIt e × IsCountFault e options fault
-CheckFails IsIt options fault = (fault ≡ Write) ⊎ (fault ≡ Memory)
+IsTextOfCheck faults text = (warnings : List Fields) × (text ≡ text_of_rows
+    (map (λ fault. codes "fault" ∷ (told (Read fault)).1) faults ++ map (λ row. codes "warning" ∷ row) warnings))

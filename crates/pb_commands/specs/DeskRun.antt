@@ -1,11 +1,11 @@
 -- What a run of `desk` writes, and what it refuses.
-use Rattle.std.specs.Prelude.{ℕ, Bool, List, Some, if◌then◌else◌}
+use Rattle.std.specs.Prelude.{ℕ, Bool, List, None, Some, if◌then◌else◌}
 use Rattle.pb_core.specs.Election.{ElectionView, project_ids}
-use Rattle.pb_read.specs.StandsFor.{StandsFor}
 use Rattle.pb_rows.specs.Reading.{records_of}
 use Rattle.pb_script.specs.Served.{IsServeFault, IsServed}
 use Rattle.pb_script.specs.declared.admission.Admission.{Admission}
 use Rattle.pb_script.specs.declared.serve_fault.ServeFault.TheVariants as serve
+use Rattle.pb_commands.specs.Closed.{Gives}
 use Rattle.pb_commands.specs.declared.run_desk.Rules.{Rules}
 use Rattle.pb_faults.specs.declared.fault.AppFault.{AppFault}
 use Rattle.pb_faults.specs.declared.fault.AppFault.TheVariants.{Script, ClerkCount}
@@ -17,8 +17,7 @@ admission_on rules e = if rules.by_id then record rules.admission { ids = Some (
 -- what these bytes, as a file and as a script for this many clerks, make a run of `desk` by these rules write
 -- that shuts the desk at its end, or does not
 abbrev pub DeskWrites : Rules → List ℕ → List ℕ → ℕ → Bool → List ℕ → Type 0
-DeskWrites rules bytes rows clerks shuts text =
-    (e : ElectionView) × StandsFor (records_of bytes) e × IsServed (admission_on rules e) e clerks shuts (records_of rows) text
+DeskWrites rules bytes rows clerks shuts = Gives (λ e. IsServed (admission_on rules e) e clerks shuts (records_of rows)) bytes None
 
 -- what refuses an election in a run of `desk`: the script's first fault; or the number of clerks
 abbrev pub DeskRefuses : Rules → List ℕ → ℕ → ElectionView → AppFault → Type 0

@@ -23,10 +23,8 @@ known remaining journal = option_map_or (λ journal. option_map Some (remaining 
 abbrev pub HasWritten : (List ℕ → Type 0) → Option (List ℕ) → Option (List ℕ) → Type 0
 HasWritten IsText before after = (text : List ℕ) × IsText text × Appends before after text
 
--- the fault of a device, or out of memory: it comes from outside, whatever the bytes are; that of a journal
--- that is served comes in none of these runs
+-- the fault of a device, or out of memory: it comes from outside, whatever the bytes are
 abbrev pub IsOutsideFault : AppFault → Type 0
-IsOutsideFault (Serving why) = ⊥
 IsOutsideFault fault = (told fault).0 ≡ 3
 
 -- why a run on this file ends: the file's first fault; or, of the election that it stands for, such a
@@ -39,7 +37,7 @@ FailsBy Refuses IsIt bytes fault = (e : ElectionView) × StandsFor (records_of b
 
 -- the file is judged first: its first fault is the answer; then the warning for which who looked on refuses
 -- it, if there is one; and any other end, out of memory aside, says that the file stands for an election, and
--- that there is no such warning
+-- that there is no such warning; the fault of a journal that is served comes in none of these runs
 abbrev pub Judges : {T : Type 0} → Option (List ℕ) → Option Warning → Result T AppFault → Type 0
 Judges file warning (Err (Read fault)) = IfSome file (λ bytes. IsFaultAt (records_of bytes) fault.kind fault.at)
 Judges file warning (Err (Open number)) = ⊥

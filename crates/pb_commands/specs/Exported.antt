@@ -1,5 +1,5 @@
 -- What a run of `export` writes, and what refuses it.
-use Rattle.std.specs.Prelude.{◌≡◌, ◌==◌, ◌++◌, ℕ, List, [], Option, codes, if◌then◌else◌, length, map}
+use Rattle.std.specs.Prelude.{◌==◌, ◌++◌, ℕ, List, [], Option, codes, if◌then◌else◌, length, map}
 use Rattle.std.specs.Prelude.{string_bytes}
 use Rattle.std.specs.List.{range_with_len}
 use Rattle.pb_core.specs.Election.{ElectionView}
@@ -8,7 +8,8 @@ use Rattle.pb_export.specs.FileRows.{file_rows}
 use Rattle.pb_export.specs.declared.further.Further.{Further}
 use Rattle.pb_price.specs.Supporters.{support_of}
 use Rattle.pb_read.specs.StandsFor.{StandsFor}
-use Rattle.pb_reasons.specs.Counted.{CountedView, IsCountBy, is_selected}
+use Rattle.pb_reasons.specs.Counted.{is_selected}
+use Rattle.pb_rounds.specs.Counted.{IsCountOf}
 use Rattle.pb_rounds.specs.MostVotes.{votes_at}
 use Rattle.pb_rounds.specs.Outcome.{OutcomeView}
 use Rattle.pb_rounds.specs.RuleNames.{rule_text, rule_word}
@@ -16,28 +17,24 @@ use Rattle.pb_rounds.specs.declared.options.CountOptions.{CountOptions}
 use Rattle.pb_rounds.specs.declared.rule.Rule.{Rule}
 use Rattle.pb_rows.specs.Reading.{records_of}
 use Rattle.pb_rows.specs.Writing.{text_of_rows}
-use Rattle.pb_commands.specs.Closed.{CountRefuses, CountsAs}
+use Rattle.pb_commands.specs.Closed.{CountRefuses, Gives}
+use Rattle.pb_commands.specs.Counted.{IsTold}
 use Rattle.pb_faults.specs.declared.fault.AppFault.{AppFault}
 use Rattle.pb_faults.specs.declared.fault.AppFault.TheVariants.{Export}
 
--- a comment that the file had, behind other words
-abbrev pub own_comment : List ℕ → List ℕ
-own_comment own = if length own == 0 then [] else codes ". " ++ own
-
 -- the text is a file of the election, with what a count by this rule came to, and what is kept of the file
--- that was read; it is read back as the election
+-- that was read: behind the rule stands the comment that this had; it is read back as the election
 pub record IsExportOf (rule : Rule) (kept : Further) (e : ElectionView) (text : List ℕ) : Type 0 where
-  pub counted : CountedView
-  pub by_rule : IsCountBy rule e counted
+  pub told : let own = string_bytes kept.comment in let places = range_with_len 0 (length e.projects) in
+      IsTold (λ e c. text_of_rows (file_rows e (rule_word rule.options.completion rule.fill_up)
+      (rule_text rule ++ (if length own == 0 then [] else codes ". " ++ own))
+      (map (votes_at (support_of e)) places) (map (is_selected c) places) kept)) rule e text
   pub can : CanBeWritten e
-  pub text_is : let places = range_with_len 0 (length e.projects) in text ≡ text_of_rows
-      (file_rows e (rule_word rule.options.completion rule.fill_up) (rule_text rule ++ own_comment (string_bytes kept.comment))
-      (map (votes_at (support_of e)) places) (map (is_selected counted) places) kept)
   pub reads_back : StandsFor (records_of text) e
 
 -- what refuses an export: its count; or, once it is counted, that no file would be read back as the election
 -- that is left
 abbrev pub ExportRefuses : CountOptions → List ℕ → Option (List ℕ) → ElectionView → AppFault → Type 0
 ExportRefuses options bytes journal e (Export fault) =
-    (x : ElectionView × OutcomeView) × CountsAs options bytes journal x × IsExportFault x.0 fault
+    Gives (λ e fault. ((o : OutcomeView) × IsCountOf e options o) × IsExportFault e fault) bytes journal fault
 ExportRefuses options bytes journal e fault = CountRefuses options bytes journal e fault

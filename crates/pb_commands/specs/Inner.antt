@@ -3,8 +3,8 @@
 pub mod Audited
 pub mod Ballots
 pub mod Checked
-pub mod Compared
 pub mod DeskRun
 pub mod Exporting
+pub mod Report
 pub mod Tables
 pub mod WhatIf

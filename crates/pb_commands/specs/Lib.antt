@@ -1,8 +1,6 @@
 -- The words that public contracts reach, a notion a file.
 pub mod Report
-pub mod Compared
 pub mod Tables
-pub mod Tabled
 pub mod Ends
 pub mod Counted
 pub mod Audited

@@ -1,60 +1,90 @@
--- The tables of a count: project by project, voter by voter, and beside most votes first.
-use Rattle.std.specs.Prelude.{ℕ, List, [], ◌∷◌, ◌++◌, codes, decimal, if◌then◌else◌, length, map}
-use Rattle.std.specs.Prelude.{slice_index_or, take}
+-- The tables of a count by their columns: of projects, of voters, and beside most votes first.
+use Rattle.std.specs.Prelude.{◌≡◌, ℕ, List, [], ◌∷◌, ◌++◌, codes, decimal, if◌then◌else◌, length, map}
+use Rattle.std.specs.Prelude.{slice_index_or}
 use Rattle.std.specs.List.{join_with_byte, range_with_len}
 use Rattle.pb_core.specs.Election.{ElectionView, project_ids, voter_ids}
 use Rattle.pb_core.specs.MoneyText.{money_text}
 use Rattle.pb_price.specs.Supporters.{cost_at, support_of}
-use Rattle.pb_reasons.specs.Counted.{CountedView}
-use Rattle.pb_reasons.specs.Reasons.{project_reason, voter_payments, voter_reason}
+use Rattle.pb_reasons.specs.BesideVotes.{beside_votes, elected_by_votes}
+use Rattle.pb_reasons.specs.Counted.{CountedView, IsCountBy, winners_of}
+use Rattle.pb_reasons.specs.Reasons.{all_payments, project_reason, voter_payments, voter_reason}
 use Rattle.pb_reasons.specs.declared.payment.Payment.{Payment}
 use Rattle.pb_reasons.specs.declared.project_reason.Ending.{Ending}
-use Rattle.pb_reasons.specs.declared.project_reason.Ending.TheVariants.{Won, Added, Lost}
+use Rattle.pb_reasons.specs.declared.project_reason.Ending.TheVariants as ending
+use Rattle.pb_reasons.specs.declared.project_reason.Added.{Added}
+use Rattle.pb_reasons.specs.declared.project_reason.Lost.{Lost}
+use Rattle.pb_reasons.specs.declared.project_reason.Won.{Won}
+use Rattle.pb_reasons.specs.declared.rule_row.RuleRow.{RuleRow}
+use Rattle.pb_rounds.specs.MostVotes.{is_taken, votes_at}
+use Rattle.pb_rounds.specs.PriceSystem.{IsPriceSystem}
 use Rattle.pb_rounds.specs.RuleNames.{fills_up}
-use Rattle.pb_rows.specs.Reading.{Fields}
-use Rattle.pb_rows.specs.Writing.{text_of_rows}
-use Rattle.pb_commands.specs.Compared.{ruled_projects_table, rules_table}
+use Rattle.pb_rounds.specs.declared.rule.Rule.{Rule}
+use Rattle.pb_rows.specs.Tables.{Column, table_text}
 use Rattle.pb_commands.specs.declared.table.Table.{Table}
 use Rattle.pb_commands.specs.declared.table.Table.TheVariants.{Projects, RuledProjects, Rules, Voters}
 
--- the name of the project at this place
-abbrev pub name_at : ElectionView → ℕ → List ℕ
-name_at e place = slice_index_or (map (λ p. p.name) e.projects) place []
+-- the columns that begin each table of projects, each by its place
+abbrev pub project_head : ElectionView → List (Column ℕ)
+project_head e =
+    (codes "place", decimal) ∷ (codes "project_id", λ place. slice_index_or (project_ids e) place [])
+    ∷ (codes "name", λ place. slice_index_or (map (λ p. p.name) e.projects) place [])
+    ∷ (codes "cost", λ place. money_text (cost_at (support_of e) place))
+    ∷ (codes "votes", λ place. decimal (votes_at (support_of e) place)) ∷ []
 
--- the fields on how a project ended; those of another ending are empty
-abbrev pub ending_fields : Ending → Fields
-ending_fields (Won w) =
-    decimal w.round ∷ money_text w.price ∷ money_text w.collected ∷ decimal w.in_full ∷ [] ∷ [] ∷ [] ∷ []
-ending_fields (Added a) = [] ∷ [] ∷ [] ∷ [] ∷ [] ∷ [] ∷ decimal a.number ∷ []
-ending_fields (Lost l) = [] ∷ [] ∷ [] ∷ [] ∷ money_text l.left ∷ money_text l.missing ∷ [] ∷ []
+-- what is said of an elected project, of one that is neither elected nor added, and of an added one
+abbrev pub on_ending : (Won → List ℕ) → (Lost → List ℕ) → (Added → List ℕ) → Ending → List ℕ
+on_ending won lost added (ending.Won w) = won w
+on_ending won lost added (ending.Lost l) = lost l
+on_ending won lost added (ending.Added a) = added a
 
--- the row of the project at this place; the last field, the number of an added project, stands where an
--- outcome is filled up
-abbrev pub project_table_row : ElectionView → CountedView → ℕ → Fields
-project_table_row e c place =
-    let r = project_reason e c place in take (if fills_up c.fill_up then 12 else 11)
-    (decimal place ∷ slice_index_or (project_ids e) place [] ∷ name_at e place ∷ money_text (cost_at (support_of e) place)
-    ∷ decimal r.votes ∷ ending_fields r.ending)
+-- the columns of projects: what another ending would say is empty, and the number of an added project stands
+-- where an outcome is filled up
+abbrev pub project_columns : ElectionView → CountedView → List (Column ℕ)
+project_columns e c = project_head e
+    ++ map (λ (k : Column Ending). (k.0, λ (place : ℕ). k.1 (project_reason e c place).ending)) (
+    (codes "round", on_ending (λ w. decimal w.round) (λ l. []) (λ a. []))
+    ∷ (codes "price", on_ending (λ w. money_text w.price) (λ l. []) (λ a. []))
+    ∷ (codes "collected", on_ending (λ w. money_text w.collected) (λ l. []) (λ a. []))
+    ∷ (codes "in_full", on_ending (λ w. decimal w.in_full) (λ l. []) (λ a. []))
+    ∷ (codes "left", on_ending (λ w. []) (λ l. money_text l.left) (λ a. []))
+    ∷ (codes "missing", on_ending (λ w. []) (λ l. money_text l.missing) (λ a. []))
+    ∷ (if fills_up c.fill_up
+    then (codes "added", on_ending (λ w. []) (λ l. []) (λ a. decimal a.number)) ∷ [] else []))
 
--- payments as text: each a place, `:` and an amount, with `,` between two
-abbrev pub payments_text : List Payment → List ℕ
-payments_text payments =
-    join_with_byte 44 (map (λ p. decimal p.place ++ (codes ":" ++ money_text p.amount)) payments)
+-- the columns of voters, each by its position; payments are each a place, `:` and an amount, with `,` between
+abbrev pub voter_columns : ElectionView → CountedView → List (Column ℕ)
+voter_columns e c = let told = voter_reason e c in
+    let payment = λ (p : Payment). decimal p.place ++ (codes ":" ++ money_text p.amount) in
+    (codes "voter_id", λ v. slice_index_or (voter_ids e) v []) ∷ (codes "votes", λ v. decimal (told v).votes)
+    ∷ (codes "elected", λ v. decimal (told v).elected) ∷ (codes "paid", λ v. money_text (told v).paid)
+    ∷ (codes "left", λ v. money_text (told v).left)
+    ∷ (codes "payments", λ v. join_with_byte 44 (map payment (voter_payments e c.outcome v))) ∷ []
 
--- the row of the voter at this position
-abbrev pub voter_table_row : ElectionView → CountedView → ℕ → Fields
-voter_table_row e c voter = let r = voter_reason e c voter in
-    slice_index_or (voter_ids e) voter [] ∷ decimal r.votes ∷ decimal r.elected ∷ money_text r.paid
-    ∷ money_text r.left ∷ payments_text (voter_payments e c.outcome voter) ∷ []
+-- the columns of rules, each by its name and what its winners come to
+abbrev pub rule_columns : List (Column (List ℕ × RuleRow))
+rule_columns = (codes "rule", λ r. r.0) ∷ (codes "projects", λ r. decimal r.1.projects)
+    ∷ (codes "spent", λ r. money_text r.1.spent) ∷ (codes "left", λ r. money_text r.1.left)
+    ∷ (codes "without", λ r. decimal r.1.without) ∷ (codes "choices", λ r. decimal r.1.choices)
+    ∷ (codes "worth", λ r. money_text r.1.worth) ∷ (codes "more_choices", λ r. decimal r.1.more_choices)
+    ∷ (codes "more_worth", λ r. decimal r.1.more_worth) ∷ []
 
--- a table of a count, as text: its columns, and then a row each, in the order of the file
+-- the columns of projects by rule: at the end 1 or 0 for each rule, as the project is among its winners or
+-- not
+abbrev pub ruled_columns : ElectionView → CountedView → List (Column ℕ)
+ruled_columns e c = project_head e
+    ++ (codes "equal_shares", λ place. decimal (if is_taken (winners_of c) place then 1 else 0))
+    ∷ (codes "most_votes", λ place. decimal (if is_taken (elected_by_votes e) place then 1 else 0)) ∷ []
+
+-- a table of a count, as text: rows in the order of the file; of rules the count's comes before the other
 unfoldable pub table_of : Table → ElectionView → CountedView → List ℕ
-table_of Projects e c =
-    codes "place;project_id;name;cost;votes;round;price;collected;in_full;left;missing"
-    ++ (if fills_up c.fill_up then codes ";added\n" else codes "\n")
-    ++ text_of_rows (map (project_table_row e c) (range_with_len 0 (length e.projects)))
-table_of Voters e c =
-    codes "voter_id;votes;elected;paid;left;payments\n"
-    ++ text_of_rows (map (voter_table_row e c) (range_with_len 0 (length e.voters)))
-table_of Rules e c = rules_table e c
-table_of RuledProjects e c = ruled_projects_table e c
+table_of Projects e c = table_text (project_columns e c) (range_with_len 0 (length e.projects))
+table_of Voters e c = table_text (voter_columns e c) (range_with_len 0 (length e.voters))
+table_of Rules e c = table_text rule_columns
+    ((codes "equal shares", (beside_votes e c).own) ∷ (codes "most votes", (beside_votes e c).other) ∷ [])
+table_of RuledProjects e c = table_text (ruled_columns e c) (range_with_len 0 (length e.projects))
+
+-- the text is this table of a count of the election by this rule; the payments that it tells are a price system
+-- of the elected
+abbrev pub IsTableOf : Table → Rule → ElectionView → List ℕ → Type 0
+IsTableOf table rule e text = (c : CountedView) × IsCountBy rule e c × IsPriceSystem (support_of e) c.outcome.share
+    c.outcome.elected c.outcome.rests (all_payments e c.outcome) × (text ≡ table_of table e c)

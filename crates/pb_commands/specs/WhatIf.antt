@@ -8,8 +8,7 @@ use Rattle.pb_rounds.specs.Counted.{IsCountFault}
 use Rattle.pb_rounds.specs.CountFault.{refusal_of}
 use Rattle.pb_rounds.specs.declared.count_fault.CountFault.TheVariants.{NoMemory}
 use Rattle.pb_rounds.specs.declared.options.CountOptions.{CountOptions}
-use Rattle.pb_rows.specs.Reading.{Fields}
-use Rattle.pb_rows.specs.Writing.{text_of_rows}
+use Rattle.pb_rows.specs.Tables.{Column, table_text}
 use Rattle.pb_commands.specs.declared.what_if_rows.Changes.{Changes}
 use Rattle.pb_commands.specs.declared.what_if_rows.Changes.TheVariants.{Searched, One}
 use Rattle.pb_commands.specs.declared.what_if_rows.WhatIfFault.{WhatIfFault}
@@ -24,32 +23,33 @@ use Rattle.pb_reasons.specs.declared.changes.found.Found.{Found}
 use Rattle.pb_reasons.specs.declared.changes.found.WhatIf.{WhatIf}
 use Rattle.pb_reasons.specs.declared.changes.question.Question.{Question}
 
+-- what is changed, and to what
+abbrev pub changed : Change → ℕ → List ℕ × List ℕ
+changed Cost value = (codes "cost", money_text value)
+changed Voters value = (codes "voters", decimal value)
+
+-- what the count says
 abbrev pub verdict_text : Verdict → List ℕ
 verdict_text Lost = codes "0"
 verdict_text Won = codes "1"
 verdict_text Refused = codes "refused"
 
--- what is changed, to what, and what the count says
-abbrev pub what_if_row : Change → Row → Fields
-what_if_row Cost row = codes "cost" ∷ money_text row.value ∷ verdict_text row.verdict ∷ []
-what_if_row Voters row = codes "voters" ∷ decimal row.value ∷ verdict_text row.verdict ∷ []
+abbrev pub what_if_columns : List (Column (Change × Row))
+what_if_columns = (codes "change", λ r. (changed r.0 r.1.value).0)
+    ∷ (codes "value", λ r. (changed r.0 r.1.value).1) ∷ (codes "won", λ r. verdict_text r.1.verdict) ∷ []
 
 -- the two rows of one kind of change, or the one where its range is one value
-abbrev pub found_rows : Change → Found → List Fields
-found_rows change f = what_if_row change f.first
-    ∷ (if f.first.value == f.second.value then [] else what_if_row change f.second ∷ [])
-
--- rows as text, below their columns
-abbrev pub what_if_text : List Fields → List ℕ
-what_if_text rows = text_of_rows ((codes "change" ∷ codes "value" ∷ codes "won" ∷ []) ∷ rows)
+abbrev pub found_rows : Change → Found → List (Change × Row)
+found_rows change f =
+    (change, f.first) ∷ (if f.first.value == f.second.value then [] else (change, f.second) ∷ [])
 
 -- the text is what is found of a project of the election, or what the count of one changed election says of
 -- it
 abbrev pub IsWhatIfText : ElectionView → Question → Changes → List ℕ → Type 0
 IsWhatIfText e q Searched text = (w : WhatIf) × IsWhatIf e q (cost_at (support_of e) q.place) w
-    × (text ≡ what_if_text (found_rows Cost w.cost ++ found_rows Voters w.voters))
+    × (text ≡ table_text what_if_columns (found_rows Cost w.cost ++ found_rows Voters w.voters))
 IsWhatIfText e q (One change value) text = (row : Row) × (row.value ≡ value) × IsTrue (seen e) q change row
-    × (text ≡ what_if_text (what_if_row change row ∷ []))
+    × (text ≡ table_text what_if_columns ((change, row) ∷ []))
 
 -- when each fault comes, out of memory aside: no project has the id; the count of the election is refused, or
 -- the options are out of their ranges; the election can't be changed so, and to this value at most

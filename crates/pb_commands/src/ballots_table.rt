@@ -1,17 +1,15 @@
 //! The table of the ballots that a desk has.
 
-ghost use Rattle.std.specs.Prelude.{◌≡◌, ◌<◌, ◌-◌, ◌++◌, ◌∷◌, ℕ, List, [], OnOk, IfOk, decimal, filter, map};
+ghost use Rattle.std.specs.Prelude.{◌≡◌, ◌<◌, ◌-◌, ◌++◌, ◌∷◌, ℕ, List, [], OnOk, IfOk, decimal, map};
 ghost use Rattle.std.specs.Prelude.{slice_get, slice_index_or, string_bytes, true};
 ghost use Rattle.std.specs.FinMap as finite;
 ghost use Rattle.std.specs.Option.{option_and_then, option_copied, option_map_or};
 ghost use Rattle.std.specs.Str.{bytes_eq};
-ghost use Rattle.pb_desk.specs.Desk.{standing_of};
-ghost use Rattle.pb_rows.specs.Writing.{text_of_row, text_of_rows};
-ghost use Rattle.pb_commands.specs.Ballots.{ballot_row, ballots_table, given_to, last_given};
-ghost use Rattle.pb_commands.specs.Inner.Ballots.{ballot_columns, ids_text, is_asked};
+ghost use Rattle.pb_rows.specs.Writing.{text_of_row};
+ghost use Rattle.pb_commands.specs.Ballots.{ballots_table, given_to, last_given};
+ghost use Rattle.pb_commands.specs.Inner.Ballots.{ids_text};
 
-use crate::report::{put_row, whole};
-use itoa::Buffer;
+use crate::report::whole;
 use pb_core::answer::Answer;
 use pb_core::entry::Entry;
 use pb_core::no_memory::NoMemory;
@@ -20,7 +18,7 @@ use pb_core::request::Request;
 use pb_core::voter_id::VoterId;
 use pb_desk::Desk;
 use pb_ids::IdTable;
-use pb_rows::RowsWriter;
+use pb_rows::{Field, RowsWriter};
 use std::alloc::Global;
 
 /// The table of a desk's ballots, or of the ballot of this voter alone, as text.
@@ -32,13 +30,8 @@ pub(crate) fn ballots_text(
     ensures { IfOk result (λ text. text.items ≡ ballots_table (option_copied voter.entry) desk.now) }
 {
     let mut rows = RowsWriter::start(alloc);
-    match put_ballots(&mut rows, alloc, desk, voter) {
-        Ok(()) => whole(rows),
-        Err(refused) => {
-            drop(rows);
-            Err(refused)
-        }
-    }
+    put_ballots(&mut rows, alloc, desk, voter)?;
+    whole(rows)
 }
 
 /// Writes the columns, and a row for each ballot.
@@ -48,15 +41,21 @@ fn put_ballots(
     desk: &Desk,
     voter: Option<&str>,
 ) -> Result<(), NoMemory>
-    ensures { OnOk result (rows.new.text ≡ rows.old.text ++ text_of_rows (ballot_columns
-        ∷ map (ballot_row desk.now) (filter (is_asked (option_copied voter.entry))
-        (standing_of desk.now).ballots))) }
+    ensures { OnOk result (rows.new.text
+        ≡ rows.old.text ++ ballots_table (option_copied voter.entry) desk.now) }
 {
     rows.put_row(&["voter_id", "entry", "project_ids"])?;
     let givers = givers_of(alloc, desk)?;
-    let put = put_each(rows, alloc, desk, &givers, voter);
-    drop(givers);
-    put
+    let projects = desk.projects();
+    let mut ids = String::new(alloc);
+    for (id, ballot) in desk.standing() {
+        let id = id.text();
+        if is_asked(voter, id) {
+            write_ids(&mut ids, projects, ballot.places())?;
+            put_ballot(rows, id, givers.get(id), ids.as_str())?;
+        }
+    }
+    Ok(())
 }
 
 /// The voters to whom entries of the journal gave a ballot, each with the number of the last that did.
@@ -64,27 +63,13 @@ fn givers_of(alloc: Global, desk: &Desk) -> Result<IdTable, NoMemory>
     ensures { IfOk result (λ givers. (id : List ℕ) → finite.get givers id ≡ last_given id desk.now.journal) }
 {
     let mut givers = IdTable::new(alloc);
-    match note_givers(&mut givers, alloc, desk) {
-        Ok(()) => Ok(givers),
-        Err(refused) => {
-            drop(givers);
-            Err(refused)
-        }
-    }
-}
-
-/// Notes the voters to whom entries of the journal gave a ballot, in a table that has none.
-fn note_givers(givers: &mut IdTable, alloc: Global, desk: &Desk) -> Result<(), NoMemory>
-    requires { givers.old ≡ finite.empty }
-    ensures { OnOk result ((id : List ℕ) → finite.get givers.new id ≡ last_given id desk.now.journal) }
-{
     for index in 0..desk.entries() {
         let number = index + 1;
         if let Some(voter) = given_by(desk, number) {
             givers.insert(alloc, voter.text(), number)?;
         }
     }
-    Ok(())
+    Ok(givers)
 }
 
 /// The voter to whom the entry with this number gave a ballot.
@@ -104,31 +89,6 @@ fn given_to(entry: &Entry) -> Option<&VoterId>
         (Answer::Done, Request::Cast(voter, _) | Request::Replace(voter, _)) => Some(voter),
         _ => None,
     }
-}
-
-/// Writes a row for each ballot of the desk, or for that of this voter alone.
-fn put_each(
-    rows: &mut RowsWriter,
-    alloc: Global,
-    desk: &Desk,
-    givers: &IdTable,
-    voter: Option<&str>,
-) -> Result<(), NoMemory>
-    requires { (id : List ℕ) → finite.get givers.now id ≡ last_given id desk.now.journal }
-    ensures { OnOk result (rows.new.text ≡ rows.old.text ++ text_of_rows
-        (map (ballot_row desk.now) (filter (is_asked (option_copied voter.entry))
-        (standing_of desk.now).ballots))) }
-{
-    let projects = desk.projects();
-    let mut ids = String::new(alloc);
-    for (id, ballot) in desk.standing() {
-        let id = id.text();
-        if is_asked(voter, id) {
-            write_ids(&mut ids, projects, ballot.places())?;
-            put_ballot(rows, id, givers.get(id), ids.as_str())?;
-        }
-    }
-    Ok(())
 }
 
 /// Whether the row of the voter with this id is asked for.
@@ -175,9 +135,10 @@ fn put_ballot(
     ensures { OnOk result (rows.new.text ≡ rows.old.text
         ++ text_of_row (id.now ∷ option_map_or decimal number [] ∷ ids.now ∷ [])) }
 {
-    let mut digits = Buffer::new();
-    match number {
-        Some(number) => put_row(rows, &[id, digits.format(number), ids]),
-        None => put_row(rows, &[id, "", ids]),
-    }
+    let entry = match number {
+        Some(number) => Field::number(number),
+        None => Field::Empty,
+    };
+    rows.put_fields(&[Field::Text(id), entry, Field::Text(ids)])?;
+    Ok(())
 }

@@ -1,16 +1,23 @@
-//! How to count, as one value.
+//! How to count, as one value, and the count of what is read.
 
-ghost use Rattle.std.specs.Prelude.{IfErr, IfOk};
-ghost use Rattle.pb_reasons.specs.Counted.{IsCountBy};
-ghost use Rattle.pb_rounds.specs.Counted.{IsCountFault};
+ghost use Rattle.std.specs.Prelude.{◌≡◌, ◌≢◌, IfErr, IfOk};
+ghost use Rattle.pb_faults.specs.Fault.{merged};
+ghost use Rattle.pb_reasons.specs.CountedElection.{IsCountedElection};
+ghost use Rattle.pb_rounds.specs.Counted.{IsCountFault, IsCountOf};
+ghost use Rattle.pb_commands.specs.Closed.{CountRefuses, Gives, Leaves};
+ghost use Rattle.pb_commands.specs.Ends.{Ends, IfBothKnown, known};
 
+use crate::inputs::{Inputs, election_of};
 use pb_core::election::Election;
 use pb_core::gate::Gate;
-use pb_reasons::Counted;
+use pb_faults::AppFault;
+use pb_read::Heed;
+use pb_reasons::CountedElection;
 use pb_rounds::count::count_watched;
 use pb_rounds::count_fault::CountFault;
 use pb_rounds::rule::Rule;
 use std::alloc::Global;
+use std::io::Read;
 use std::thread::Threads;
 
 /// How to count: by which threads, in which memory, by which rule, and who is told of raises.
@@ -23,15 +30,59 @@ pub struct Counting<'a, T, G> {
     pub rule: &'a Rule,
 }
 
+/// Reads an election and counts it by the rule.
+///
+/// The file is refused before the journal, the journal before an open desk, and that before the options. Who
+/// looks on while the file is read may refuse it for a warning, before the journal is judged.
+pub fn count_inputs<T: Threads + Sync, P: Read + Drop, J: Read + Drop, G: Gate, H: Heed>(
+    counting: &Counting<T, G>,
+    inputs: Inputs<P, J>,
+    watch: &mut H,
+) -> Result<CountedElection, AppFault>
+    ensures left { IfOk result (λ x. IfBothKnown (P.remaining inputs.file) (known J.remaining inputs.journal)
+        (λ bytes journal. Leaves bytes journal x.election)) }
+    ensures counted { IfOk result (λ x. IsCountedElection x × (x.rule ≡ counting.now.rule.now)) }
+    ensures ends { Ends (Gives (λ e. IsCountOf e counting.now.rule.now.options))
+        (CountRefuses counting.now.rule.now.options) (P.remaining inputs.file)
+        (known J.remaining inputs.journal) (H.refused_for watch.new) result }
+    ensures reads { IfErr result (λ fault. fault ≢ AppFault.Write) }
+{
+    let election = match election_of(counting.alloc, inputs, watch) {
+        Ok(election) => election,
+        Err(fault) => return Err(fault),
+    };
+    match counted(counting, election) {
+        Ok(count) => Ok(count),
+        Err(fault) => Err(not_counted(fault)),
+    }
+}
+
+/// A refused count, as a run answers it.
+fn not_counted(fault: CountFault) -> AppFault
+    ensures { result ≡ merged (AppFault.Count fault) }
+{
+    AppFault::Count(fault).merged()
+}
+
 /// Counts an election by the rule.
 pub(crate) fn counted<T: Threads + Sync, G: Gate>(
     counting: &Counting<T, G>,
-    election: &Election,
-) -> Result<Counted, CountFault>
-    ensures ok { IfOk result (IsCountBy counting.now.rule.now election.now) }
-    ensures fault { IfErr result (IsCountFault election.now counting.now.rule.now.options) }
+    election: Election,
+) -> Result<CountedElection, CountFault>
+    ensures election { IfOk result (λ x. x.election ≡ election) }
+    ensures counted { IfOk result (λ x. IsCountedElection x × (x.rule ≡ counting.now.rule.now)) }
+    ensures fault { IfErr result (IsCountFault election counting.now.rule.now.options) }
 {
     let (rt, alloc, rule) = (counting.rt, counting.alloc, counting.rule);
-    let outcome = count_watched(rt, alloc, election, &rule.options, counting.gate)?;
-    Ok(Counted::of(alloc, election, outcome, rule.fill_up)?)
+    let outcome = match count_watched(rt, alloc, &election, &rule.options, counting.gate) {
+        Ok(outcome) => outcome,
+        Err(fault) => {
+            drop(election);
+            return Err(fault);
+        }
+    };
+    let count = CountedElection::of(alloc, election, *rule, outcome)?;
+    // What is true of every count is so of this one.
+    let _election = count.election();
+    Ok(count)
 }

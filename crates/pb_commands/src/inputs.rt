@@ -3,8 +3,7 @@
 ghost use Rattle.std.specs.Prelude.{◌≡◌, ◌≢◌, IfErr, IfOk, None, Some, true};
 ghost use Rattle.pb_desk.specs.Desk.{closed_election, standing_of};
 ghost use Rattle.pb_commands.specs.Audited.{IsDeskOf};
-ghost use Rattle.pb_commands.specs.Closed.{Demanding, Leaves, LeavesNone};
-ghost use Rattle.pb_commands.specs.declared.demand.Demand.TheVariants.{Any};
+ghost use Rattle.pb_commands.specs.Closed.{Leaves, LeavesNone};
 ghost use Rattle.pb_commands.specs.Ends.{Ends, IfBothKnown, known};
 
 use pb_core::election::Election;
@@ -55,6 +54,7 @@ pub(crate) fn own_election<P: Read + Drop, H: Heed>(
     ensures ok { IfOk result (λ e. IfBothKnown (P.remaining file) (Some None)
         (λ bytes journal. Leaves bytes journal e)) }
     ensures ends { Ends Leaves LeavesNone (P.remaining file) (Some None) (H.refused_for watch.new) result }
+    ensures any { IfErr result (λ fault. fault ≢ AppFault.OpenDesk) }
     ensures reads { IfErr result (λ fault. fault ≢ AppFault.Write) }
 {
     let election = read_pb_watched(alloc, file, watch)?;
@@ -74,9 +74,9 @@ pub(crate) fn audited_desk<P: Read + Drop, J: Read + Drop, H: Heed>(
 ) -> Result<Desk, AppFault>
     ensures ok { IfOk result (λ d. IfBothKnown (P.remaining file) (J.remaining journal) (λ bytes rows.
         IsDeskOf bytes rows d)) }
-    ensures ends { Ends IsDeskOf (λ bytes rows. Demanding Any (LeavesNone bytes (Some rows)))
-        (P.remaining file) (J.remaining journal)
-        (H.refused_for watch.new) result }
+    ensures ends { Ends IsDeskOf (λ bytes rows. LeavesNone bytes (Some rows)) (P.remaining file)
+        (J.remaining journal) (H.refused_for watch.new) result }
+    ensures any { IfErr result (λ fault. fault ≢ AppFault.OpenDesk) }
     ensures reads { IfErr result (λ fault. fault ≢ AppFault.Write) }
 {
     let election = match own_election(alloc, file, watch) {

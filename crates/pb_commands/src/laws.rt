@@ -21,8 +21,8 @@ ghost use Rattle.pb_script.specs.Serving.{program_room};
 ghost use Rattle.pb_faults.specs.DeskRow.{entries_row};
 ghost use Rattle.pb_commands.specs.Audited.{AuditWrites, IsDeskOf, IsTextOf};
 ghost use Rattle.pb_commands.specs.Ballots.{BallotsWrites, last_given};
-ghost use Rattle.pb_commands.specs.Closed.{WritesOf};
-ghost use Rattle.pb_commands.specs.Counted.{IsReportOf};
+ghost use Rattle.pb_commands.specs.Closed.{Gives};
+ghost use Rattle.pb_commands.specs.Counted.{IsTold};
 ghost use Rattle.pb_commands.specs.declared.demand.Demand.{Demand};
 ghost use Rattle.pb_commands.specs.declared.demand.Demand.TheVariants.{Any};
 ghost use Rattle.pb_commands.specs.DeskRun.{DeskWrites, admission_on};
@@ -35,7 +35,7 @@ use pb_core::answer::Answer;
 /// most, and a file and a journal have one text and one table of ballots at most.
 pub fn one_report()
     ensures counted { (bytes : List ℕ) (rule : Rule) (first second : List ℕ)
-        → WritesOf (IsReportOf rule) bytes None first → WritesOf (IsReportOf rule) bytes None second
+        → Gives (IsTold report_of rule) bytes None first → Gives (IsTold report_of rule) bytes None second
         → first ≡ second }
     ensures audited { (demand : Demand) (rule : Rule) (bytes journal first second : List ℕ)
         → AuditWrites demand rule bytes journal first → AuditWrites demand rule bytes journal second

@@ -6,7 +6,6 @@
 #![tactic(auto)]
 
 mod ballots_table;
-mod counted_election;
 mod counting;
 pub mod demand;
 mod digested;
@@ -29,13 +28,13 @@ pub mod table_laws;
 mod voters_table;
 pub mod what_if_rows;
 
-pub use counted_election::{CountedElection, count_inputs};
-pub use counting::Counting;
+pub use counting::{Counting, count_inputs};
 pub use demand::Demand;
 pub use digested::{Digests, write_digested};
 pub use inputs::{Inputs, election_of};
 pub use pb_faults::{
     AppFault, BAD_ARGUMENTS, ServingFault, WordsPlace, WordsRefusal, rows_status, write_out,
 };
+pub use pb_reasons::CountedElection;
 pub use table::Table;
 pub use what_if_rows::{Changes, WhatIfFault, what_if_text};

@@ -3,20 +3,16 @@
 ghost use Rattle.std.specs.Prelude.{◌≡◌, ◌<◌, ◌++◌, ◌∷◌, [], All, IfOk, OnOk, codes, decimal, length, map};
 ghost use Rattle.pb_core.specs.MoneyText.{money_text};
 ghost use Rattle.pb_price.specs.Supporters.{support_of};
-ghost use Rattle.pb_reasons.specs.Counted.{IsCounted};
 ghost use Rattle.pb_rows.specs.Writing.{text_of_row, text_of_rows};
-ghost use Rattle.pb_commands.specs.Report.{added_row, closing_rows, elected_row, opening_rows, report_of};
+ghost use Rattle.pb_commands.specs.Report.{report_of};
+ghost use Rattle.pb_commands.specs.Inner.Report.{added_row, closing_rows, elected_row, opening_rows};
 
-use itoa::Buffer;
 use pb_core::election::Election;
-use pb_core::money::Money;
 use pb_core::no_memory::NoMemory;
-use pb_core::project::Project;
 use pb_price::supporters::Supporters;
-use pb_reasons::{Counted, Totals};
-use pb_rounds::outcome::Elected;
-use pb_rows::RowsWriter;
-use std::alloc::Global;
+use pb_reasons::{CountedElection, Totals};
+use pb_rounds::outcome::{Elected, Outcome};
+use pb_rows::{Field, RowsWriter};
 
 /// The text of these rows.
 pub(crate) fn whole(rows: RowsWriter) -> Result<Vec<u8>, NoMemory>
@@ -37,46 +33,41 @@ pub(crate) fn put_row(rows: &mut RowsWriter, fields: &[&str]) -> Result<(), NoMe
     Ok(())
 }
 
-/// Writes the report of a count of this election after the rows that stand there.
+/// Writes the report of a count after the rows that stand there.
 ///
 /// It fails only where memory is refused, and then no text comes of the rows.
-pub(crate) fn put_report(
-    rows: &mut RowsWriter,
-    alloc: Global,
-    election: &Election,
-    counted: &Counted,
-) -> Result<(), NoMemory>
-    requires { IsCounted election.now counted.now }
-    ensures { OnOk result (rows.new.text ≡ rows.old.text ++ report_of election.now counted.now) }
+pub(crate) fn put_report(rows: &mut RowsWriter, count: &CountedElection) -> Result<(), NoMemory>
+    ensures { OnOk result (rows.new.text
+        ≡ rows.old.text ++ report_of count.now.election count.now.counted) }
 {
-    // What is true of every election is true of the places of its elected projects.
-    let _budget = election.budget();
-    put_opening(rows, alloc, election, counted)?;
-    put_elected(rows, alloc, election, counted.elected())?;
-    put_added(rows, alloc, election, counted.added())?;
-    put_closing(rows, alloc, Totals::of(election, counted))
+    let election = count.election();
+    let outcome = count.outcome();
+    put_opening(rows, election, outcome)?;
+    put_elected(rows, election, outcome.elected.as_slice())?;
+    put_added(rows, election, count.supporters(), count.added())?;
+    put_closing(rows, count.totals())
 }
 
 /// The rows above the elected projects.
 fn put_opening(
     rows: &mut RowsWriter,
-    alloc: Global,
     election: &Election,
-    counted: &Counted,
+    outcome: &Outcome,
 ) -> Result<(), NoMemory>
     ensures { OnOk result (rows.new.text ≡ rows.old.text
-        ++ text_of_rows (opening_rows election.now counted.now.outcome)) }
+        ++ text_of_rows (opening_rows election.now outcome.now)) }
 {
-    put_amount(rows, alloc, "budget", election.budget())?;
-    put_number(rows, "voters", election.voters().len() as u64)?;
-    put_amount(rows, alloc, "share", counted.share())?;
-    put_number(rows, "raises", u64::from(counted.raised()))
+    let voters = election.voters().len() as u64;
+    rows.put_fields(&[Field::Text("budget"), Field::amount(election.budget())])?;
+    rows.put_fields(&[Field::Text("voters"), Field::Number(voters)])?;
+    rows.put_fields(&[Field::Text("share"), Field::amount(outcome.share)])?;
+    rows.put_fields(&[Field::Text("raises"), Field::number(outcome.raised)])?;
+    Ok(())
 }
 
 /// One row for each elected project.
 fn put_elected(
     rows: &mut RowsWriter,
-    alloc: Global,
     election: &Election,
     elected: &[Elected],
 ) -> Result<(), NoMemory>
@@ -87,37 +78,20 @@ fn put_elected(
     let projects = election.projects();
     for winner in elected {
         let project = &projects[winner.place as usize];
-        let cost = project.cost().text(alloc)?;
-        let price = winner.price.text(alloc)?;
-        rows.put_row(&["elected", project.id(), cost.as_str(), price.as_str()])?;
+        let price = Field::amount(winner.price);
+        rows.put_fields(&[
+            Field::Text("elected"),
+            Field::Text(project.id()),
+            Field::amount(project.cost()),
+            price,
+        ])?;
     }
     Ok(())
 }
 
-/// One row for each added project.
+/// One row for each added project, which has these supporters.
 fn put_added(
     rows: &mut RowsWriter,
-    alloc: Global,
-    election: &Election,
-    added: &[u32],
-) -> Result<(), NoMemory>
-    requires { All (λ place. place < length election.now.projects) added.now }
-    ensures { OnOk result (rows.new.text ≡ rows.old.text
-        ++ text_of_rows (map (added_row election.now) added.now)) }
-{
-    if added.is_empty() {
-        return Ok(());
-    }
-    let supporters = Supporters::build(alloc, election)?;
-    let put = put_supported(rows, alloc, election, &supporters, added);
-    drop(supporters);
-    put
-}
-
-/// One row for each added project, which has these supporters.
-fn put_supported(
-    rows: &mut RowsWriter,
-    alloc: Global,
     election: &Election,
     supporters: &Supporters,
     added: &[u32],
@@ -131,54 +105,21 @@ fn put_supported(
     for place in added {
         let project = &projects[*place as usize];
         let votes = supporters.of(*place).len();
-        put_one_added(rows, alloc, project, votes as u64)?;
+        rows.put_fields(&[
+            Field::Text("added"),
+            Field::Text(project.id()),
+            Field::amount(project.cost()),
+            Field::Number(votes as u64),
+        ])?;
     }
     Ok(())
 }
 
-/// The row of an added project that so many ballots approve.
-fn put_one_added(
-    rows: &mut RowsWriter,
-    alloc: Global,
-    project: &Project,
-    votes: u64,
-) -> Result<(), NoMemory>
-    ensures { OnOk result (rows.new.text ≡ rows.old.text
-        ++ text_of_row (codes "added" ∷ project.now.id ∷ money_text project.now.cost ∷ decimal votes ∷ [])) }
-{
-    let mut digits = Buffer::new();
-    let cost = project.cost().text(alloc)?;
-    put_row(
-        rows,
-        &["added", project.id(), cost.as_str(), digits.format(votes)],
-    )
-}
-
 /// The sums below.
-fn put_closing(rows: &mut RowsWriter, alloc: Global, totals: Totals) -> Result<(), NoMemory>
+fn put_closing(rows: &mut RowsWriter, totals: Totals) -> Result<(), NoMemory>
     ensures { OnOk result (rows.new.text ≡ rows.old.text ++ text_of_rows (closing_rows totals)) }
 {
-    put_amount(rows, alloc, "spent", totals.spent)?;
-    put_amount(rows, alloc, "surplus", totals.surplus)
-}
-
-/// A row of a name and an amount.
-fn put_amount(
-    rows: &mut RowsWriter,
-    alloc: Global,
-    name: &str,
-    amount: Money,
-) -> Result<(), NoMemory>
-    ensures { OnOk result (rows.new.text ≡ rows.old.text ++ text_of_row (name.now ∷ money_text amount ∷ [])) }
-{
-    let text = amount.text(alloc)?;
-    put_row(rows, &[name, text.as_str()])
-}
-
-/// A row of a name and a number.
-fn put_number(rows: &mut RowsWriter, name: &str, number: u64) -> Result<(), NoMemory>
-    ensures { OnOk result (rows.new.text ≡ rows.old.text ++ text_of_row (name.now ∷ decimal number ∷ [])) }
-{
-    let mut digits = Buffer::new();
-    put_row(rows, &[name, digits.format(number)])
+    rows.put_fields(&[Field::Text("spent"), Field::amount(totals.spent)])?;
+    rows.put_fields(&[Field::Text("surplus"), Field::amount(totals.surplus)])?;
+    Ok(())
 }

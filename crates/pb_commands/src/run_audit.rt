@@ -1,24 +1,30 @@
 //! The command `audit`: what a journal says of a file.
 
-ghost use Rattle.std.specs.Prelude.{◌≡◌, ◌++◌, ℕ, List, IfErr, IfOk, OnOk, None, Some, false, true};
-ghost use Rattle.pb_desk.specs.Desk.{standing_of};
+ghost use Rattle.std.specs.Prelude.{◌≡◌, ◌≢◌, ◌++◌, ℕ, List, IfErr, IfOk, IfSome, OnOk, None, Some, false};
+ghost use Rattle.std.specs.Prelude.{true};
+ghost use Rattle.pb_desk.specs.Desk.{closed_election, standing_of};
+ghost use Rattle.pb_reasons.specs.CountedElection.{IsCountedElection};
+ghost use Rattle.pb_rounds.specs.Counted.{IsCountOf};
 ghost use Rattle.pb_rounds.specs.declared.count_fault.CountFault.TheVariants as count;
 ghost use Rattle.pb_rounds.specs.declared.rule.FillUp.TheVariants.{Nothing};
 ghost use Rattle.pb_commands.specs.Audited.{AuditWrites, IsTextOf};
-ghost use Rattle.pb_commands.specs.Closed.{CountRefuses, Demanding};
+ghost use Rattle.pb_commands.specs.Closed.{CountRefuses};
 ghost use Rattle.pb_commands.specs.declared.demand.Demand.TheVariants.{Any, Shut};
 ghost use Rattle.pb_commands.specs.Ends.{Runs};
 ghost use Rattle.pb_commands.specs.Inner.Audited.{IsRefusedDesk};
 
-use crate::counted_election::desk_count;
 use crate::counting::Counting;
 use crate::demand::Demand;
 use crate::inputs::audited_desk;
 use crate::report::put_report;
+use pb_closing::close_and_count::count_desk;
+use pb_closing::{CloseFault, Closing, DeskCount};
 use pb_core::gate::{Gate, NoGate};
+use pb_core::no_memory::NoMemory;
 use pb_desk::Desk;
 use pb_faults::{AppFault, put_entries, write_out};
 use pb_read::{Heed, NoWatch};
+use pb_reasons::CountedElection;
 use pb_rounds::count_fault::CountFault;
 use pb_rounds::options::CountOptions;
 use pb_rounds::rule::{FillUp, Rule};
@@ -53,9 +59,12 @@ pub fn run_audit<T: Threads + Sync, P: Read + Drop, J: Read + Drop, W: Write>(
     writer: &mut W,
     options: &CountOptions,
 ) -> Result<(), AppFault>
-    ensures { Runs (AuditWrites Any (record { options = options.now; fill_up = Nothing }))
-        (λ bytes rows. Demanding Any (CountRefuses options.now bytes (Some rows)))
-        (P.remaining file) (J.remaining journal) None W.contents writer.old writer.new result }
+    ensures runs { Runs (AuditWrites Any (record { options = options.now; fill_up = Nothing }))
+        (λ bytes rows. CountRefuses options.now bytes (Some rows)) (P.remaining file) (J.remaining journal)
+        None W.contents writer.old writer.new result }
+
+    // An open desk is not refused.
+    ensures any { IfErr result (λ fault. fault ≢ AppFault.OpenDesk) }
 {
     let rule = Rule {
         options: *options,
@@ -94,10 +103,13 @@ pub fn run_audit_watched<
     watch: &mut H,
     writer: &mut W,
 ) -> Result<(), AppFault>
-    ensures { Runs (AuditWrites inputs.demand counting.now.rule.now)
-        (λ bytes rows. Demanding inputs.demand (CountRefuses counting.now.rule.now.options bytes (Some rows)))
+    ensures runs { Runs (AuditWrites inputs.demand counting.now.rule.now)
+        (λ bytes rows. CountRefuses counting.now.rule.now.options bytes (Some rows))
         (P.remaining inputs.file) (J.remaining inputs.journal) (H.refused_for watch.new)
         W.contents writer.old writer.new result }
+
+    // An open desk is refused only where a shut one is demanded.
+    ensures demanded { IfErr result (λ fault. fault ≡ AppFault.OpenDesk → inputs.demand ≡ Shut) }
 {
     let AuditInputs {
         file,
@@ -177,12 +189,62 @@ fn put_desk<T: Threads + Sync, G: Gate>(
         Ok(None) => return Ok(()),
         Err(fault) => return Err(fault),
     };
-    let put = put_report(rows, counting.alloc, &count.election, &count.counted);
+    let put = put_report(rows, &count);
     drop(count);
     match put {
         Ok(()) => Ok(()),
         Err(_) => Err(CountFault::NoMemory),
     }
+}
+
+/// The count of the ballots that a shut desk leaves; nothing where the desk is open.
+fn desk_count<T: Threads + Sync, G: Gate>(
+    counting: &Counting<T, G>,
+    desk: Desk,
+) -> Result<Option<CountedElection>, CountFault>
+    ensures open { IfOk result (λ count. count ≡ None → (standing_of desk).is_shut ≡ false) }
+    ensures shut { IfOk result (λ count. IfSome count (λ x. ((standing_of desk).is_shut ≡ true)
+        × (x.election ≡ closed_election desk) × IsCountedElection x × (x.rule ≡ counting.now.rule.now))) }
+    ensures fault { IfErr result (IsRefusedDesk desk counting.now.rule.now.options) }
+{
+    let (rt, alloc) = (counting.rt, counting.alloc);
+    match count_desk(rt, alloc, desk, &counting.rule.options, counting.gate) {
+        Ok(Closing::Open(desk)) => {
+            drop(desk);
+            Ok(None)
+        }
+        Ok(Closing::Counted(count)) => match told_of(counting, count) {
+            Ok(count) => Ok(Some(count)),
+            Err(_) => Err(CountFault::NoMemory),
+        },
+        Err(CloseFault::NotCounted(fault, election)) => {
+            drop(election);
+            Err(fault)
+        }
+        Err(CloseFault::NoMemory(desk)) => {
+            drop(desk);
+            Err(CountFault::NoMemory)
+        }
+        // No clerk is out.
+        Err(CloseFault::Unfinished(_)) => Err(CountFault::NoMemory),
+    }
+}
+
+/// The count of a desk, with what is told of it.
+fn told_of<T, G>(counting: &Counting<T, G>, count: DeskCount) -> Result<CountedElection, NoMemory>
+    requires { IsCountOf count.election counting.now.rule.now.options count.outcome }
+    ensures { IfOk result (λ x. IsCountedElection x × (x.election ≡ count.election)
+        × (x.rule ≡ counting.now.rule.now)) }
+{
+    let DeskCount {
+        election,
+        outcome,
+        ..
+    } = count;
+    let count = CountedElection::of(counting.alloc, election, *counting.rule, outcome)?;
+    // What is true of every count is so of this one.
+    let _election = count.election();
+    Ok(count)
 }
 
 /// The text of these rows.

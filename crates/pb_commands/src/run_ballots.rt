@@ -1,10 +1,9 @@
 //! The command `ballots`: the ballots that a journal leaves on the desk of a file.
 
-ghost use Rattle.std.specs.Prelude.{None, Some};
+ghost use Rattle.std.specs.Prelude.{◌≢◌, IfErr, None, Some};
 ghost use Rattle.std.specs.Option.{option_copied};
 ghost use Rattle.pb_commands.specs.Ballots.{BallotsWrites};
-ghost use Rattle.pb_commands.specs.Closed.{Demanding, LeavesNone};
-ghost use Rattle.pb_commands.specs.declared.demand.Demand.TheVariants.{Any};
+ghost use Rattle.pb_commands.specs.Closed.{LeavesNone};
 ghost use Rattle.pb_commands.specs.Ends.{Runs};
 
 use crate::ballots_table::ballots_text;
@@ -27,9 +26,12 @@ pub fn run_ballots<P: Read + Drop, J: Read + Drop, W: Write>(
     voter: Option<&str>,
     writer: &mut W,
 ) -> Result<(), AppFault>
-    ensures { Runs (BallotsWrites (option_copied voter.entry))
-        (λ bytes rows. Demanding Any (LeavesNone bytes (Some rows)))
-        (P.remaining file) (J.remaining journal) None W.contents writer.old writer.new result }
+    ensures runs { Runs (BallotsWrites (option_copied voter.entry))
+        (λ bytes rows. LeavesNone bytes (Some rows)) (P.remaining file) (J.remaining journal) None
+        W.contents writer.old writer.new result }
+
+    // An open desk is not refused.
+    ensures any { IfErr result (λ fault. fault ≢ AppFault.OpenDesk) }
 {
     let desk = match audited_desk(alloc, file, journal, &mut NoWatch) {
         Ok(desk) => desk,

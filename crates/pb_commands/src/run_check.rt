@@ -1,6 +1,6 @@
 //! The command `check`: all that is wrong with a file, and what is probably not meant.
 
-ghost use Rattle.std.specs.Prelude.{◌≡◌, ◌≢◌, ◌⊎◌, ◌++◌, ℕ, List, [], Some, IfErr, IfOk, IfSome, OnOk, map};
+ghost use Rattle.std.specs.Prelude.{◌≡◌, ◌≢◌, ◌⊎◌, ◌++◌, ℕ, List, [], None, Some, IfErr, IfOk, IfSome, OnOk, map};
 ghost use Rattle.pb_core.specs.Election.{ElectionView};
 ghost use Rattle.pb_reasons.specs.Counted.{CountedView, IsCountBy, winners_of};
 ghost use Rattle.pb_rounds.specs.Counted.{IsCountFault};
@@ -8,8 +8,9 @@ ghost use Rattle.pb_rows.specs.Reading.{records_of};
 ghost use Rattle.pb_rows.specs.Writing.{text_of_row, text_of_rows};
 ghost use Rattle.pb_read.specs.Listed.{AreListed};
 ghost use Rattle.pb_read.specs.StandsFor.{StandsFor};
-ghost use Rattle.pb_commands.specs.Checked.{CheckFails, IsTextOfCheck, fault_row};
-ghost use Rattle.pb_commands.specs.Inner.Checked.{warning_row};
+ghost use Rattle.pb_commands.specs.Checked.{IsTextOfCheck};
+ghost use Rattle.pb_commands.specs.Closed.{Gives};
+ghost use Rattle.pb_commands.specs.Inner.Checked.{CheckFails, fault_row, warning_row};
 ghost use Rattle.pb_commands.specs.Ends.{HasWritten};
 
 use crate::counting::{Counting, counted};
@@ -19,7 +20,7 @@ use pb_core::election::Election;
 use pb_core::gate::Gate;
 use pb_core::no_memory::NoMemory;
 use pb_faults::{AppFault, write_out};
-use pb_read::{Checked, Compare, ReadFault, Warn, WarningRow, check_pb, list_faults};
+use pb_read::{Checked, Compare, ReadFault, Warn, WarningRow, check_pb};
 use pb_rounds::count_fault::CountFault;
 use pb_rows::RowsWriter;
 use std::alloc::Global;
@@ -28,7 +29,7 @@ use std::thread::Threads;
 
 /// Checks a .pb file, and writes a row for each fault, and after them the warnings.
 ///
-/// The rows of faults are `fault;read;NUMBER;NAME;RECORD`, as `list_faults` lists them: the first is that of
+/// The rows of faults are `fault;read;NUMBER;NAME;RECORD`, as `check_pb` lists them: the first is that of
 /// `read_pb`, and there is none where `read_pb` accepts the file. They are answered too. All other rows begin
 /// with `warning`. It fails only where memory is refused or the writer fails.
 pub fn run_check<R: Read + Drop, W: Write, N: Warn>(
@@ -49,7 +50,7 @@ pub fn run_check<R: Read + Drop, W: Write, N: Warn>(
     ensures fault { IfErr result (λ fault. (fault ≡ AppFault.Write) ⊎ (fault ≡ AppFault.Memory)) }
     ensures unchanged { IfErr result (λ fault. fault ≢ AppFault.Write → writer.new ≡ writer.old) }
 {
-    let faults = list_faults(alloc, reader, notes)?;
+    let faults = check_pb(alloc, reader, notes)?.into_faults();
     match put_out(alloc, writer, faults.as_slice(), notes) {
         Ok(()) => Ok(faults),
         Err(fault) => {
@@ -83,17 +84,20 @@ pub fn run_check_against<T: Threads + Sync, R: Read + Drop, G: Gate, W: Write, N
         × (c : CountedView) × IsCountBy counting.now.rule.now e c × N.has_compared notes.new
         (winners_of c))) }
 
-    // A fault of the run is that of the count or comes from outside. It writes nothing, unless it is the
-    // writer's.
+    // A fault of the run is the writer's, or says that memory was refused, or is that of the count of the
+    // file's election. It writes nothing, unless it is the writer's.
     ensures fault { IfErr result (λ fault. IfSome (R.remaining reader) (λ bytes.
-        CheckFails (StandsFor (records_of bytes)) counting.now.rule.now.options fault)) }
+        (fault ≡ AppFault.Write) ⊎ (fault ≡ AppFault.Memory)
+        ⊎ ((why : CountFault) × (fault ≡ AppFault.Count why) × (why ≢ CountFault.NoMemory)
+        × Gives (λ e. IsCountFault e counting.now.rule.now.options) bytes None why))) }
     ensures unchanged { IfErr result (λ fault. fault ≢ AppFault.Write → writer.new ≡ writer.old) }
 {
     let checked = check_pb(counting.alloc, reader, notes)?;
-    match put_checked(counting, writer, &checked, notes) {
-        Ok(()) => Ok(checked.into_faults()),
+    let Checked { faults, election } = checked;
+    match put_checked(counting, writer, faults.as_slice(), election, notes) {
+        Ok(()) => Ok(faults),
         Err(fault) => {
-            drop(checked);
+            drop(faults);
             Err(fault)
         }
     }
@@ -103,20 +107,18 @@ pub fn run_check_against<T: Threads + Sync, R: Read + Drop, G: Gate, W: Write, N
 fn put_checked<T: Threads + Sync, G: Gate, W: Write, N: Compare>(
     counting: &Counting<T, G>,
     writer: &mut W,
-    checked: &Checked,
+    faults: &[ReadFault],
+    election: Option<Election>,
     notes: &mut N,
 ) -> Result<(), AppFault>
     ensures written { OnOk result
-        (HasWritten (IsTextOfCheck checked.now.faults.items) (W.contents writer.old)
-        (W.contents writer.new)) }
-    ensures compared { OnOk result (IfSome checked.now.election (λ e.
+        (HasWritten (IsTextOfCheck faults.now) (W.contents writer.old) (W.contents writer.new)) }
+    ensures compared { OnOk result (IfSome election (λ e.
         (c : CountedView) × IsCountBy counting.now.rule.now e c × N.has_compared notes.new (winners_of c))) }
-    ensures fault { IfErr result (CheckFails
-        (λ e. checked.now.election ≡ Some e) counting.now.rule.now.options) }
+    ensures fault { IfErr result (CheckFails (λ e. election ≡ Some e) counting.now.rule.now.options) }
     ensures unchanged { IfErr result (λ fault. fault ≢ AppFault.Write → writer.new ≡ writer.old) }
 {
-    let warnings = warnings_against(counting, &checked.election, notes)?;
-    let faults = checked.faults.as_slice();
+    let warnings = warnings_against(counting, election, notes)?;
     let put = put_rows(counting.alloc, writer, faults, warnings.as_slice());
     drop(warnings);
     put
@@ -125,35 +127,20 @@ fn put_checked<T: Threads + Sync, G: Gate, W: Write, N: Compare>(
 /// The warnings of what was checked; where it handed out an election, those beside its count.
 fn warnings_against<T: Threads + Sync, G: Gate, N: Compare>(
     counting: &Counting<T, G>,
-    election: &Option<Election>,
+    election: Option<Election>,
     notes: &mut N,
 ) -> Result<Vec<WarningRow>, AppFault>
-    ensures compared { OnOk result (IfSome election.now (λ e.
+    ensures compared { OnOk result (IfSome election (λ e.
         (c : CountedView) × IsCountBy counting.now.rule.now e c × N.has_compared notes.new (winners_of c))) }
-    ensures fault { IfErr result (CheckFails (λ e. election.now ≡ Some e) counting.now.rule.now.options) }
+    ensures fault { IfErr result (CheckFails (λ e. election ≡ Some e) counting.now.rule.now.options) }
 {
     let Some(election) = election else {
         return Ok(notes.warnings()?);
     };
-    let winners = counted_winners(counting, election)?;
-    let warnings = notes.warnings_beside(winners.as_slice());
-    drop(winners);
+    let count = counted(counting, election)?;
+    let warnings = notes.warnings_beside(count.winners());
+    drop(count);
     Ok(warnings?)
-}
-
-/// The places of the winners of an election's count.
-fn counted_winners<T: Threads + Sync, G: Gate>(
-    counting: &Counting<T, G>,
-    election: &Election,
-) -> Result<Vec<u32>, CountFault>
-    ensures ok { IfOk result (λ winners. (c : CountedView) × IsCountBy counting.now.rule.now election.now c
-        × (winners.items ≡ winners_of c)) }
-    ensures fault { IfErr result (IsCountFault election.now counting.now.rule.now.options) }
-{
-    let counted = counted(counting, election)?;
-    let winners = counted.winners(counting.alloc);
-    drop(counted);
-    Ok(winners?)
 }
 
 /// Writes the rows of these faults, and of the warnings of what was seen.

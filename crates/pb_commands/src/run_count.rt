@@ -1,22 +1,20 @@
 //! The command `count`: a file's report.
 
 ghost use Rattle.std.specs.Prelude.{◌≡◌, IfOk, None, Some};
-ghost use Rattle.pb_reasons.specs.Counted.{IsCounted};
 ghost use Rattle.pb_rounds.specs.declared.rule.FillUp.TheVariants.{Nothing};
-ghost use Rattle.pb_commands.specs.Closed.{CountRefuses, WritesOf};
-ghost use Rattle.pb_commands.specs.Counted.{IsReportOf};
+ghost use Rattle.pb_commands.specs.Closed.{CountRefuses, Gives};
+ghost use Rattle.pb_commands.specs.Counted.{IsTold};
 ghost use Rattle.pb_commands.specs.Ends.{Runs};
 ghost use Rattle.pb_commands.specs.Report.{report_of};
 
-use crate::counted_election::count_own;
-use crate::counting::Counting;
+use crate::counting::{Counting, count_inputs};
+use crate::inputs::Inputs;
 use crate::report::{put_report, whole};
-use pb_core::election::Election;
 use pb_core::gate::{Gate, NoGate};
 use pb_core::no_memory::NoMemory;
 use pb_faults::{AppFault, write_out};
 use pb_read::{Heed, NoWatch};
-use pb_reasons::Counted;
+use pb_reasons::CountedElection;
 use pb_rounds::options::CountOptions;
 use pb_rounds::rule::{FillUp, Rule};
 use pb_rows::RowsWriter;
@@ -36,7 +34,7 @@ pub fn run_count<T: Threads + Sync, R: Read + Drop, W: Write>(
     writer: &mut W,
     options: &CountOptions,
 ) -> Result<(), AppFault>
-    ensures { Runs (WritesOf (IsReportOf (record { options = options.now; fill_up = Nothing })))
+    ensures { Runs (Gives (IsTold report_of (record { options = options.now; fill_up = Nothing })))
         (CountRefuses options.now)
         (R.remaining reader) (Some None) None W.contents writer.old writer.new result }
 {
@@ -61,28 +59,31 @@ pub fn run_count_watched<T: Threads + Sync, R: Read + Drop, G: Gate, H: Heed, W:
     watch: &mut H,
     writer: &mut W,
 ) -> Result<(), AppFault>
-    ensures { Runs (WritesOf (IsReportOf counting.now.rule.now))
+    ensures { Runs (Gives (IsTold report_of counting.now.rule.now))
         (CountRefuses counting.now.rule.now.options) (R.remaining reader) (Some None)
         (H.refused_for watch.new)
         W.contents writer.old writer.new result }
 {
-    let count = match count_own(counting, reader, watch) {
+    let inputs = Inputs {
+        file: reader,
+        journal: None::<R>,
+    };
+    let count = match count_inputs(counting, inputs, watch) {
         Ok(count) => count,
         Err(fault) => return Err(fault),
     };
-    let made = report_text(counting.alloc, &count.election, &count.counted);
+    let made = report_text(counting.alloc, &count);
     drop(count);
     let text = made?;
     write_out(writer, text.as_slice(), AppFault::Write)
 }
 
 /// The report of a count.
-fn report_text(alloc: Global, election: &Election, counted: &Counted) -> Result<Vec<u8>, NoMemory>
-    requires { IsCounted election.now counted.now }
-    ensures { IfOk result (λ text. text.items ≡ report_of election.now counted.now) }
+fn report_text(alloc: Global, count: &CountedElection) -> Result<Vec<u8>, NoMemory>
+    ensures { IfOk result (λ text. text.items ≡ report_of count.now.election count.now.counted) }
 {
     let mut rows = RowsWriter::start(alloc);
-    match put_report(&mut rows, alloc, election, counted) {
+    match put_report(&mut rows, count) {
         Ok(()) => whole(rows),
         Err(refused) => {
             drop(rows);

@@ -13,7 +13,7 @@ use pb_core::no_memory::NoMemory;
 use pb_faults::{AppFault, write_out};
 use pb_read::{NoWatch, ProjectIds};
 use pb_script::serve_script::serve_admitted;
-use pb_script::{Admission, NoNotice, Notice, ServeFault};
+use pb_script::{Admission, NoNotice, Notice, ScriptRun, ServeFault};
 use std::alloc::Global;
 use std::io::{Read, Write};
 use std::thread::Threads;
@@ -102,9 +102,14 @@ pub fn run_admitted_desk<
             return Err(AppFault::Memory);
         }
     };
-    let served = serve_admitted(
-        rt, alloc, election, script, clerks, shuts, gate, &admission, notice,
-    );
+    let run = ScriptRun {
+        clerks,
+        shuts,
+        admission: &admission,
+        gate,
+        notice,
+    };
+    let served = serve_admitted(rt, alloc, election, script, &run);
     drop(admission);
     let text = match served {
         Ok(text) => text,

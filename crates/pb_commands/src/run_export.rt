@@ -2,12 +2,11 @@
 
 ghost use Rattle.std.specs.Prelude.{◌≡◌, List, IfErr, None, ℕ};
 ghost use Rattle.pb_export.specs.declared.further.Further.{Further};
-ghost use Rattle.pb_commands.specs.Closed.{WritesOf};
+ghost use Rattle.pb_commands.specs.Closed.{Gives};
 ghost use Rattle.pb_commands.specs.Ends.{IfBothKnown, IsOutsideFault, Runs, known};
 ghost use Rattle.pb_commands.specs.Exported.{ExportRefuses, IsExportOf};
 
-use crate::counted_election::count_inputs;
-use crate::counting::Counting;
+use crate::counting::{Counting, count_inputs};
 use crate::export_text::export_text;
 use crate::inputs::Inputs;
 use pb_core::gate::Gate;
@@ -38,7 +37,7 @@ pub fn run_export<
     watch: &mut H,
     writer: &mut W,
 ) -> Result<(), AppFault>
-    ensures runs { Runs (WritesOf (IsExportOf counting.now.rule.now (H.keeps watch.new)))
+    ensures runs { Runs (Gives (IsExportOf counting.now.rule.now (H.keeps watch.new)))
         (ExportRefuses counting.now.rule.now.options) (P.remaining inputs.file)
         (known J.remaining inputs.journal)
         (H.refused_for watch.new) W.contents writer.old writer.new result }
@@ -48,14 +47,14 @@ pub fn run_export<
     ensures accepts { H.refused_for watch.new ≡ None → IfErr result (λ fault.
         IfBothKnown (P.remaining inputs.file) (known J.remaining inputs.journal) (λ bytes journal.
         (kept : Further) (text : List ℕ)
-        → WritesOf (IsExportOf counting.now.rule.now kept) bytes journal text
+        → Gives (IsExportOf counting.now.rule.now kept) bytes journal text
         → IsOutsideFault fault)) }
 {
     let count = match count_inputs(counting, inputs, watch) {
         Ok(count) => count,
         Err(fault) => return Err(fault),
     };
-    let made = export_text(counting, &count.election, &count.counted, watch.carried());
+    let made = export_text(counting.alloc, &count, watch.carried());
     drop(count);
     match made {
         Ok(text) => write_out(writer, text.as_slice(), AppFault::Write),

@@ -2,14 +2,11 @@
 //! elects.
 
 ghost use Rattle.std.specs.Prelude.{◌≡◌, ◌++◌, IfOk, OnOk};
-ghost use Rattle.pb_reasons.specs.Counted.{IsCounted};
-ghost use Rattle.pb_commands.specs.Closed.{CountRefuses, WritesOf};
+ghost use Rattle.pb_commands.specs.Closed.{CountRefuses, Gives};
 ghost use Rattle.pb_commands.specs.Ends.{Runs, known};
-ghost use Rattle.pb_commands.specs.Tabled.{IsTableOf};
-ghost use Rattle.pb_commands.specs.Tables.{table_of};
+ghost use Rattle.pb_commands.specs.Tables.{IsTableOf, table_of};
 
-use crate::counted_election::count_inputs;
-use crate::counting::Counting;
+use crate::counting::{Counting, count_inputs};
 use crate::inputs::Inputs;
 use crate::projects_table::put_projects;
 use crate::report::whole;
@@ -17,12 +14,11 @@ use crate::ruled_projects_table::put_ruled_projects;
 use crate::rules_table::put_rules;
 use crate::table::Table;
 use crate::voters_table::put_voters;
-use pb_core::election::Election;
 use pb_core::gate::Gate;
 use pb_core::no_memory::NoMemory;
 use pb_faults::{AppFault, write_out};
 use pb_read::Heed;
-use pb_reasons::Counted;
+use pb_reasons::CountedElection;
 use pb_rows::RowsWriter;
 use std::alloc::Global;
 use std::io::{Read, Write};
@@ -41,7 +37,7 @@ pub fn run_table<T: Threads + Sync, P: Read + Drop, J: Read + Drop, G: Gate, H: 
     writer: &mut W,
     table: Table,
 ) -> Result<(), AppFault>
-    ensures { Runs (WritesOf (IsTableOf table counting.now.rule.now))
+    ensures { Runs (Gives (IsTableOf table counting.now.rule.now))
         (CountRefuses counting.now.rule.now.options) (P.remaining inputs.file)
         (known J.remaining inputs.journal)
         (H.refused_for watch.new) W.contents writer.old writer.new result }
@@ -50,26 +46,18 @@ pub fn run_table<T: Threads + Sync, P: Read + Drop, J: Read + Drop, G: Gate, H: 
         Ok(count) => count,
         Err(fault) => return Err(fault),
     };
-    // What is true of every election is true of its payments.
-    let _budget = count.election.budget();
-    let made = table_text(counting.alloc, &count.election, &count.counted, table);
+    let made = table_text(counting.alloc, &count, table);
     drop(count);
     let text = made?;
     write_out(writer, text.as_slice(), AppFault::Write)
 }
 
 /// This table of a count.
-fn table_text(
-    alloc: Global,
-    election: &Election,
-    counted: &Counted,
-    table: Table,
-) -> Result<Vec<u8>, NoMemory>
-    requires { IsCounted election.now counted.now }
-    ensures { IfOk result (λ text. text.items ≡ table_of table election.now counted.now) }
+fn table_text(alloc: Global, count: &CountedElection, table: Table) -> Result<Vec<u8>, NoMemory>
+    ensures { IfOk result (λ text. text.items ≡ table_of table count.now.election count.now.counted) }
 {
     let mut rows = RowsWriter::start(alloc);
-    match put_outcome(&mut rows, alloc, election, counted, table) {
+    match put_outcome(&mut rows, alloc, count, table) {
         Ok(()) => whole(rows),
         Err(refused) => {
             drop(rows);
@@ -82,18 +70,16 @@ fn table_text(
 fn put_outcome(
     rows: &mut RowsWriter,
     alloc: Global,
-    election: &Election,
-    counted: &Counted,
+    count: &CountedElection,
     table: Table,
 ) -> Result<(), NoMemory>
-    requires { IsCounted election.now counted.now }
     ensures { OnOk result (rows.new.text
-        ≡ rows.old.text ++ table_of table election.now counted.now) }
+        ≡ rows.old.text ++ table_of table count.now.election count.now.counted) }
 {
     match table {
-        Table::Projects => put_projects(rows, alloc, election, counted),
-        Table::Voters => put_voters(rows, alloc, election, counted),
-        Table::Rules => put_rules(rows, alloc, election, counted),
-        Table::RuledProjects => put_ruled_projects(rows, alloc, election, counted),
+        Table::Projects => put_projects(rows, count),
+        Table::Voters => put_voters(rows, alloc, count),
+        Table::Rules => put_rules(rows, alloc, count),
+        Table::RuledProjects => put_ruled_projects(rows, alloc, count),
     }
 }

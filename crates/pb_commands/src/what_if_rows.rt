@@ -1,29 +1,30 @@
 //! What would have made a project win, as text.
 
 ghost use Rattle.std.specs.Prelude.{◌≡◌, ◌≢◌, ◌↔◌, ◌<◌, ◌≤◌, ◌++◌, ◌∷◌, [], ℕ, Contains, IfErr, IfOk, IfSome};
-ghost use Rattle.std.specs.Prelude.{IsTrue, List, None, OnOk, Some, length, slice_get, string_bytes};
+ghost use Rattle.std.specs.Prelude.{IsTrue, List, None, OnOk, Some, length, map, slice_get};
 ghost use Rattle.pb_core.specs.Election.{most_voters, project_ids};
 ghost use Rattle.pb_rounds.specs.Counted.{IsCountFault};
 ghost use Rattle.pb_rounds.specs.CountFault.{refusal_of};
 ghost use Rattle.pb_rounds.specs.declared.count_fault.CountFault.TheVariants.{NoMemory};
+ghost use Rattle.pb_rows.specs.Tables.{table_text};
 ghost use Rattle.pb_rows.specs.Writing.{text_of_row, text_of_rows};
 ghost use Rattle.pb_commands.specs.WhatIf.{IsWhatIfText, WhatIfRefuses, found_rows, verdict_text};
-ghost use Rattle.pb_commands.specs.WhatIf.{what_if_row, what_if_text};
-ghost use Rattle.pb_commands.specs.Inner.WhatIf.{change_text, most_of, value_text, what_if_columns};
+ghost use Rattle.pb_commands.specs.WhatIf.{what_if_columns};
+ghost use Rattle.pb_commands.specs.Inner.Tables.{row_of};
+ghost use Rattle.pb_commands.specs.Inner.WhatIf.{most_of};
 ghost use Rattle.pb_commands.specs.declared.what_if_rows.Changes.TheVariants.{Searched, One};
 ghost use Rattle.pb_reasons.specs.WhatIf.{CanBe, seen};
 ghost use Rattle.pb_reasons.specs.declared.changes.change.Change.TheVariants.{Cost, Voters};
 
 use crate::counting::Counting;
-use crate::report::{put_row, whole};
-use itoa::Buffer;
+use crate::report::whole;
 use pb_core::election::{Election, MOST_VOTERS};
 use pb_core::gate::Gate;
 use pb_core::money::Money;
 use pb_core::no_memory::NoMemory;
 use pb_reasons::{Change, Found, Question, Recount, Row, Verdict, WhatIf, one_change, what_if};
 use pb_rounds::count_fault::CountFault;
-use pb_rows::RowsWriter;
+use pb_rows::{Field, RowsWriter};
 use std::alloc::Global;
 use std::thread::Threads;
 
@@ -172,70 +173,57 @@ fn place_of(election: &Election, id: &str) -> Option<u32>
 
 /// What a search finds as text: the columns, and the rows, those of the cost first.
 fn found_text(alloc: Global, found: &WhatIf) -> Result<Vec<u8>, NoMemory>
-    ensures { IfOk result (λ text. text.items
-        ≡ what_if_text (found_rows Cost found.now.cost ++ found_rows Voters found.now.voters)) }
+    ensures { IfOk result (λ text. text.items ≡ table_text what_if_columns
+        (found_rows Cost found.now.cost ++ found_rows Voters found.now.voters)) }
 {
-    let mut text = RowsWriter::start(alloc);
-    put_columns(&mut text)?;
-    put_found(alloc, &mut text, Change::Cost, &found.cost)?;
-    put_found(alloc, &mut text, Change::Voters, &found.voters)?;
-    whole(text)
+    let mut rows = RowsWriter::start(alloc);
+    rows.put_row(&["change", "value", "won"])?;
+    put_found(&mut rows, Change::Cost, &found.cost)?;
+    put_found(&mut rows, Change::Voters, &found.voters)?;
+    whole(rows)
 }
 
 /// One row as text, below the columns.
 fn row_text(alloc: Global, change: Change, row: Row) -> Result<Vec<u8>, NoMemory>
-    ensures { IfOk result (λ text. text.items ≡ what_if_text (what_if_row change row ∷ [])) }
+    ensures { IfOk result (λ text. text.items ≡ table_text what_if_columns ((change, row) ∷ [])) }
 {
-    let mut text = RowsWriter::start(alloc);
-    put_columns(&mut text)?;
-    put_one(alloc, &mut text, change, row)?;
-    whole(text)
-}
-
-/// Writes the columns.
-fn put_columns(text: &mut RowsWriter) -> Result<(), NoMemory>
-    ensures { OnOk result (text.new.text ≡ text.old.text ++ text_of_row what_if_columns) }
-{
-    put_row(text, &["change", "value", "won"])
+    let mut rows = RowsWriter::start(alloc);
+    rows.put_row(&["change", "value", "won"])?;
+    put_one(&mut rows, change, row)?;
+    whole(rows)
 }
 
 /// Writes the two rows of one kind of change, or the one where its range is one value.
-fn put_found(
-    alloc: Global,
-    text: &mut RowsWriter,
-    change: Change,
-    found: &Found,
-) -> Result<(), NoMemory>
-    ensures { OnOk result (text.new.text ≡ text.old.text ++ text_of_rows (found_rows change found.now)) }
+fn put_found(rows: &mut RowsWriter, change: Change, found: &Found) -> Result<(), NoMemory>
+    ensures { OnOk result (rows.new.text ≡ rows.old.text
+        ++ text_of_rows (map (row_of what_if_columns) (found_rows change found.now))) }
 {
-    put_one(alloc, text, change, found.first)?;
+    put_one(rows, change, found.first)?;
     if found.first.value == found.second.value {
         return Ok(());
     }
-    put_one(alloc, text, change, found.second)
+    put_one(rows, change, found.second)
 }
 
-/// Writes a row.
-fn put_one(alloc: Global, text: &mut RowsWriter, change: Change, row: Row) -> Result<(), NoMemory>
-    ensures { OnOk result (text.new.text ≡ text.old.text ++ text_of_row (what_if_row change row)) }
+/// Writes a row: a cost as an amount, a number of voters as a number.
+fn put_one(rows: &mut RowsWriter, change: Change, row: Row) -> Result<(), NoMemory>
+    ensures { OnOk result (rows.new.text
+        ≡ rows.old.text ++ text_of_row (row_of what_if_columns (change, row))) }
 {
-    let value = value_text(alloc, change, row.value)?;
-    let fields = [
-        change_text(change),
-        value.as_str(),
-        verdict_text(row.verdict),
-    ];
-    put_row(text, &fields)
-}
-
-/// What is changed, in a word.
-fn change_text(change: Change) -> &'static str
-    ensures { result.now ≡ change_text change }
-{
+    let verdict = Field::Text(verdict_text(row.verdict));
     match change {
-        Change::Cost => "cost",
-        Change::Voters => "voters",
+        Change::Cost => {
+            rows.put_fields(&[
+                Field::Text("cost"),
+                Field::Amount(u128::from(row.value)),
+                verdict,
+            ])?
+        }
+        Change::Voters => {
+            rows.put_fields(&[Field::Text("voters"), Field::Number(row.value), verdict])?
+        }
     }
+    Ok(())
 }
 
 /// What a changed count says, as it is written.
@@ -246,18 +234,5 @@ fn verdict_text(verdict: Verdict) -> &'static str
         Verdict::Lost => "0",
         Verdict::Won => "1",
         Verdict::Refused => "refused",
-    }
-}
-
-/// A cost as an amount, a number of voters as a number.
-fn value_text(alloc: Global, change: Change, value: u64) -> Result<String, NoMemory>
-    ensures { IfOk result (λ text. string_bytes text ≡ value_text change value) }
-{
-    match change {
-        Change::Cost => Money(value).text(alloc),
-        Change::Voters => {
-            let mut digits = Buffer::new();
-            Ok(String::from_str(alloc, digits.format(value))?)
-        }
     }
 }

@@ -152,20 +152,6 @@ impl<A: Allocator> Election<A> {
         false
     }
 
-    /// Whether each place that the ballot approves is one of a project here.
-    pub fn knows(&self, ballot: &Ballot<A>) -> bool
-        ensures { IsTrue result ↔ All (λ place. place < length self.now.projects) ballot.now }
-    {
-        let projects = self.projects.len();
-        let places = ballot.places();
-        for place in places {
-            if *place as usize >= projects {
-                return false;
-            }
-        }
-        true
-    }
-
     /// Adds a project after the others. Where memory is refused the project is given up.
     pub fn add_project(&mut self, project: Project<A>) -> Result<(), NoMemory>
         requires no_voter_yet { self.old.voters ≡ [] }

@@ -11,7 +11,7 @@ use crate::elections::{THREE_VOTERS, amounts, push_amount, read};
 use pb_core::gate::{Gate, NoGate};
 use pb_core::money::Money;
 use pb_price::price::price;
-use pb_price::{PriceFault, Supporters, Tally, price_all, price_in_steps};
+use pb_price::{PriceFault, Supporters, Tally, price_all};
 use std::alloc::Global;
 use std::process::Abort;
 use std::sync::atomic::AtomicU32;
@@ -42,7 +42,7 @@ fn can_price(supporters: &Supporters, rests: &[Money], projects: &[u32]) -> bool
         && rests.iter().all(|rest| *rest <= LARGEST_SHARE)
 }
 
-/// The price of the project at this place by `price` and by `price_in_steps`, which have to agree.
+/// The price of the project at this place, which the tally counts.
 fn priced(
     rt: &impl Abort,
     alloc: Global,
@@ -52,11 +52,9 @@ fn priced(
 ) -> Option<Money> {
     assert!(rt; can_price(supporters, rests, &[]) && place < supporters.projects());
     let mut tally = Tally::new();
-    let sorted = price(alloc, supporters, rests, place, &mut tally);
+    let found = price(alloc, supporters, rests, place, &mut tally);
     same(rt, tally.count(), 1, "the tally");
-    let in_steps = price_in_steps(supporters, rests, place);
-    same(rt, sorted, Ok(in_steps), "in steps");
-    in_steps
+    found.expect(rt, "memory")
 }
 
 /// The project at this place has these supporters and this cost.
@@ -184,29 +182,31 @@ fn draws(rt: &impl Abort, alloc: Global, state: &mut u32, count: u32, limit: u32
     drawn
 }
 
-/// These many parts to each.
-fn rests_of(rt: &impl Abort, alloc: Global, parts: &[u32], part: u64) -> Vec<Money> {
-    assert!(rt; part <= 100_000_000_000_000);
+/// What is left to each, below 20.
+fn rests_of(rt: &impl Abort, alloc: Global, numbers: &[u32]) -> Vec<Money> {
     let mut rests = Vec::new(alloc);
-    for number in parts {
+    for number in numbers {
         rests
-            .push(Money(u64::from(*number % 20) * part))
+            .push(Money(u64::from(*number % 20)))
             .expect(rt, "memory");
     }
     rests
 }
 
-/// The price where these parts of 1 are left is the one found by trial. With as many large parts left, the
-/// sorted rests and the steps still agree.
-fn agrees_with_a_trial(rt: &impl Abort, alloc: Global, cost: u64, support: &[u32], parts: &[u32]) {
+/// The price where this is left is the one found by trial.
+fn agrees_with_a_trial(
+    rt: &impl Abort,
+    alloc: Global,
+    cost: u64,
+    support: &[u32],
+    numbers: &[u32],
+) {
     let supporters = some_support(rt, alloc, cost, support);
-    let small = rests_of(rt, alloc, parts, 1);
-    let found = priced(rt, alloc, &supporters, small.as_slice(), 0);
+    let rests = rests_of(rt, alloc, numbers);
+    let found = priced(rt, alloc, &supporters, rests.as_slice(), 0);
     assert!(rt; 0 < supporters.projects());
-    let wanted = by_trial(cost, supporters.of(0), small.as_slice());
+    let wanted = by_trial(cost, supporters.of(0), rests.as_slice());
     same(rt, found, wanted, "a price by trial");
-    let large = rests_of(rt, alloc, parts, 100_000_000_000_000);
-    priced(rt, alloc, &supporters, large.as_slice(), 0);
 }
 
 /// Elections with one project and a few voters, most of whom support it, and less than 20 left to each.

@@ -3,8 +3,7 @@
 use crate::checks::{holds, same, shows};
 use csv::StringRecord;
 use pb_rows::{
-    Records, RecordsFault, RowsWriter, read_number, read_place_list, read_places, rows_come_back,
-    write_places,
+    Records, RecordsFault, RowsWriter, read_number, read_place_list, rows_come_back, write_places,
 };
 use std::alloc::Global;
 use std::io;
@@ -234,21 +233,21 @@ fn numbers(rt: HostRuntime) {
     }
 }
 
-/// Texts, whether each is a list of places, and whether that list rises.
-const PLACES: &[(&str, bool, bool)] = &[
-    ("", true, true),
-    ("0", true, true),
-    ("0,2,9", true, true),
-    ("4294967295", true, true),
-    ("2,1", true, false),
-    ("7,0,7", true, false),
-    ("1,1", true, false),
-    ("1,", false, false),
-    (",", false, false),
-    ("1,,2", false, false),
-    ("01", false, false),
-    ("1, 2", false, false),
-    ("1;2", false, false),
+/// Texts, and whether each is a list of places.
+const PLACES: &[(&str, bool)] = &[
+    ("", true),
+    ("0", true),
+    ("0,2,9", true),
+    ("4294967295", true),
+    ("2,1", true),
+    ("7,0,7", true),
+    ("1,1", true),
+    ("1,", false),
+    (",", false),
+    ("1,,2", false),
+    ("01", false),
+    ("1, 2", false),
+    ("1;2", false),
 ];
 
 /// The list is written after this text, which it leaves as it is.
@@ -258,21 +257,20 @@ fn written_after(rt: &impl Abort, alloc: Global, before: &str, places: &[u32]) -
     text
 }
 
-/// Whether the text is a list of places, and whether that list rises. A list is written again as it stood.
-fn is_read(rt: &impl Abort, alloc: Global, text: &str, is_list: bool, is_rising: bool) {
+/// Whether the text is a list of places. A list is written again as it stood.
+fn is_read(rt: &impl Abort, alloc: Global, text: &str, is_list: bool) {
     let mut list = Vec::new(alloc);
     same(rt, read_place_list(text, &mut list), Ok(is_list), text);
     if is_list {
         let back = written_after(rt, alloc, "", list.as_slice());
         same(rt, back.as_str(), text, "a list written");
     }
-    same(rt, read_places(text, &mut list), Ok(is_rising), text);
 }
 
 #[test]
 fn places(rt: HostRuntime) {
-    for (text, is_list, is_rising) in PLACES {
-        is_read(&rt, rt.alloc(), text, *is_list, *is_rising);
+    for (text, is_list) in PLACES {
+        is_read(&rt, rt.alloc(), text, *is_list);
     }
     let text = written_after(&rt, rt.alloc(), "places ", &[0, 2, 10]);
     same(&rt, text.as_str(), "places 0,2,10", "after a text");

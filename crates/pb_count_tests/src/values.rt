@@ -1,5 +1,8 @@
 //! Amounts, ids, ballots, elections and requests.
 
+ghost use Rattle.std.specs.Prelude.{◌<◌, All, length};
+ghost use Rattle.std.specs.Bool.{OnTrue};
+
 use crate::checks::{holds, same, shows, tells};
 use crate::elections::{ballot, shown, ten_thousand, voter_id};
 use pb_core::laws::{money_is_what_its_text_names, money_reads_back};
@@ -243,9 +246,20 @@ fn add_project(rt: &impl Abort, election: &mut Election, project: Project) {
     election.add_project(project).expect(rt, "memory");
 }
 
+/// Whether each place that the ballot approves is one of a project.
+fn knows(election: &Election, ballot: &Ballot) -> bool
+    ensures { OnTrue result (All (λ place. place < length election.now.projects) ballot.now) }
+{
+    let projects = election.projects().len();
+    ballot
+        .places()
+        .iter()
+        .all(|place| (*place as usize) < projects)
+}
+
 fn add_voter(rt: &impl Abort, election: &mut Election, voter: Voter) {
     assert!(rt; election.voters().len() < 1_000_000 && !election.has_voter(&voter.id));
-    assert!(rt; election.knows(&voter.ballot));
+    assert!(rt; knows(election, &voter.ballot));
     election.add_voter(voter).expect(rt, "memory");
 }
 
@@ -261,9 +275,6 @@ fn is_shown(rt: &impl Abort, alloc: Global, election: &Election, limit: Option<u
 fn has_a(rt: &impl Abort, alloc: Global, election: &Election) {
     holds(rt, election.has_project("a"), "a");
     holds(rt, !election.has_project("Park"), "no id");
-    let both = ballot(rt, alloc, &[0, 1]);
-    holds(rt, !election.knows(&both), "an unknown place");
-    drop(both);
     is_shown(rt, alloc, election, None, "10000;a,Park,3000;|");
 }
 
@@ -271,7 +282,6 @@ fn has_a(rt: &impl Abort, alloc: Global, election: &Election) {
 fn takes_v1(rt: &impl Abort, alloc: Global, election: &mut Election) {
     let v1 = voter(rt, alloc, "v1", &[0]);
     let name = voter_id(rt, alloc, "v1");
-    holds(rt, election.knows(&v1.ballot), "a known place");
     holds(rt, !election.has_voter(&name), "before v1");
     add_voter(rt, election, v1);
     holds(rt, election.has_voter(&name), "after v1");

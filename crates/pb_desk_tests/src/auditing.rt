@@ -7,7 +7,7 @@ use crate::serving::{Row, asks, has_text};
 use pb_core::answer::Answer;
 use pb_core::devices::FailsAfter;
 use pb_core::election::Election;
-use pb_desk::{AuditFault, AuditRefused, Version, audit, audit_or_hand_back};
+use pb_desk::{AuditFault, AuditRefused, Desk, NoAuditWatch, Version, audit, audit_or_hand_back};
 use std::alloc::Global;
 use std::io::Read;
 use std::process::Abort;
@@ -158,10 +158,15 @@ fn is_as_opened(rt: &impl Abort, alloc: Global, election: &Election) {
     drop(found);
 }
 
+/// The audit of a journal, which hands the election back where it refuses it.
+fn handed_back(alloc: Global, election: Election, text: &str) -> Result<Desk, AuditRefused> {
+    audit_or_hand_back(alloc, election, 10, text.as_bytes(), &mut NoAuditWatch)
+}
+
 #[test]
 fn a_refused_audit_hands_the_election_back(rt: HostRuntime) {
     let election = three_voters(&rt, rt.alloc());
-    let audited = audit_or_hand_back(rt.alloc(), election, 10, WITHDRAWN_TWICE.as_bytes());
+    let audited = handed_back(rt.alloc(), election, WITHDRAWN_TWICE);
     let AuditRefused { fault, election } = audited.err().expect(&rt, "refused");
     same(&rt, fault, AuditFault::WrongAnswer(2), WITHDRAWN_TWICE);
     is_as_opened(&rt, rt.alloc(), &election);
@@ -171,7 +176,7 @@ fn a_refused_audit_hands_the_election_back(rt: HostRuntime) {
 #[test]
 fn a_desk_hands_its_opening_back(rt: HostRuntime) {
     let election = three_voters(&rt, rt.alloc());
-    let audited = audit_or_hand_back(rt.alloc(), election, 10, WITHDRAWN.as_bytes());
+    let audited = handed_back(rt.alloc(), election, WITHDRAWN);
     let desk = audited.expect(&rt, "accepted");
     same(&rt, desk.ballots(), 2, WITHDRAWN);
     let election = desk.into_opening();

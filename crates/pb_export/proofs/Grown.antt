@@ -9,8 +9,7 @@ use Rattle.pb_rows.specs.Writing.{text_of_row, text_of_rows}
 use Rattle.pb_rows.proofs.RowsText.{text_of_rows-nil, text_of_rows-cons, text_of_rows-append}
 use Rattle.pb_read.proofs.ListFacts.{AllByRecursion-append}
 use Rattle.pb_export.specs.Inner.Growing.{Grows}
-use Rattle.pb_export.specs.FileRows.{project_row}
-use Rattle.pb_export.specs.Inner.Parts.{projects_from}
+use Rattle.pb_export.specs.Inner.Parts.{project_row, projects_from}
 
 -- rows of one text, and of two
 pub one_text : (field : List ℕ) → IsUtf8 field → AllText (field ∷ [])

@@ -1,7 +1,7 @@
 -- The lemmas that the proofs of this crate share.
 pub mod Tidy
 pub mod Pieces
-pub mod FurtherKeys
+pub mod KeysBehind
 pub mod Headers
 pub mod Metas
 pub mod Projects

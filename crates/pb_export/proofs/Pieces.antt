@@ -15,7 +15,7 @@ use Rattle.pb_read.proofs.ListFacts.{is_among-Contains}
 use Rattle.pb_read.specs.Inner.Machine.{places_in}
 use Rattle.pb_read.specs.Rows.{is_empty}
 use Rattle.pb_read.specs.Voting.{ballot_of, is_among, names_only, pieces_of}
-use Rattle.pb_export.specs.Export.{has_comma}
+use Rattle.pb_export.specs.Inner.Parts.{has_comma}
 use Rattle.pb_export.proofs.Tidy.{drop-append, plain_text, same_trim, skip-append, trim_same}
 
 -- an id that a vote can name

@@ -12,10 +12,10 @@ use Rattle.pb_rows.specs.Reading.{Fields}
 use Rattle.pb_read.specs.Inner.Fields.{trimmed}
 use Rattle.pb_read.specs.Rows.{head_of, is_blank, rows_of}
 use Rattle.pb_read.specs.StandsFor.{GivesAllButVoters, GivesProject, IsMeta, meta_for}
-use Rattle.pb_export.specs.FileRows.{amount_text, project_row, projects_rows}
+use Rattle.pb_export.specs.FileRows.{amount_text, projects_rows}
+use Rattle.pb_export.specs.Inner.Parts.{is_section_word, project_row, projects_from}
 use Rattle.pb_export.specs.declared.further.Further.{Further}
 use Rattle.pb_export.specs.Inner.Behind.{of_project}
-use Rattle.pb_export.specs.Inner.Parts.{is_section_word, projects_from}
 use Rattle.pb_export.proofs.Headers.{both_fields, project_header}
 use Rattle.pb_export.proofs.Metas.{amount_back}
 

@@ -18,14 +18,14 @@ use Rattle.pb_read.proofs.ListFacts.{AllByRecursion-append, AllByRecursion-left,
 use Rattle.pb_read.specs.Inner.Fields.{trimmed}
 use Rattle.pb_read.specs.Rows.{is_blank, rows_of}
 use Rattle.pb_read.specs.StandsFor.{GivesAll, StandsFor}
-use Rattle.pb_export.specs.Export.{has_comma, has_comma_in_vote, has_section_word}
-use Rattle.pb_export.specs.FileRows.{file_rows, key_rows, meta_rows, projects_rows, votes_rows}
+use Rattle.pb_export.specs.Export.{has_comma_in_vote, has_section_word}
+use Rattle.pb_export.specs.Inner.Parts.{has_comma, is_section_word, key_rows, projects_from, vote_row}
+use Rattle.pb_export.specs.FileRows.{file_rows, meta_rows, projects_rows, votes_rows}
 use Rattle.pb_export.specs.Further.{KeyView}
 use Rattle.pb_export.specs.declared.further.Further.{Further}
 use Rattle.pb_export.specs.Inner.Behind.{of_project, of_voter}
-use Rattle.pb_export.specs.Inner.Parts.{is_section_word, projects_from, vote_row}
 use Rattle.pb_export.proofs.OfFile.{IsOfFile}
-use Rattle.pb_export.proofs.FurtherKeys.{few_keys, key_rows_fields}
+use Rattle.pb_export.proofs.KeysBehind.{few_keys, key_rows_fields}
 use Rattle.pb_export.proofs.Metas.{gives_terms}
 use Rattle.pb_export.proofs.Pieces.{IsPiece}
 use Rattle.pb_export.proofs.Words.{section_words}

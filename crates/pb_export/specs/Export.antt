@@ -21,20 +21,10 @@ is_of_file e =
 abbrev pub has_section_word : ElectionView → Bool
 has_section_word e = list_any (λ id. is_some (head_of (id ∷ []))) (project_ids e ++ voter_ids e)
 
--- an id has a comma (code 44)
-abbrev pub has_comma : List ℕ → Bool
-has_comma id = list_any (λ b. b == 44) id
-
--- a ballot approves a project whose id has one
+-- a ballot approves a project whose id has a comma (code 44)
 abbrev pub has_comma_in_vote : ElectionView → Bool
-has_comma_in_vote e =
-    list_any (λ v. list_any (λ place. has_comma (slice_index_or (project_ids e) place [])) v.ballot) e.voters
-
--- a file can be written of the election
-pub record CanBeWritten (e : ElectionView) : Type 0 where
-  pub words : has_section_word e ≡ false
-  pub commas : has_comma_in_vote e ≡ false
-  pub of_file : is_of_file e ≡ true
+has_comma_in_vote e = list_any
+    (λ v. list_any (λ place. list_any (λ b. b == 44) (slice_index_or (project_ids e) place [])) v.ballot) e.voters
 
 -- what refuses an election
 abbrev pub IsExportFault : ElectionView → ExportFault → Type 0
@@ -42,3 +32,7 @@ IsExportFault e SectionWord = has_section_word e ≡ true
 IsExportFault e CommaInId = (has_section_word e ≡ false) × (has_comma_in_vote e ≡ true)
 IsExportFault e OfNoFile = (has_section_word e ≡ false) × (has_comma_in_vote e ≡ false) × (is_of_file e ≡ false)
 IsExportFault e NoMemory = ⊤
+
+-- a file can be written of the election: nothing refuses it but want of memory
+abbrev pub CanBeWritten : ElectionView → Type 0
+CanBeWritten e = (fault : ExportFault) → IsExportFault e fault → fault ≡ NoMemory

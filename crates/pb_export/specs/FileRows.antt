@@ -6,9 +6,8 @@ use Rattle.std.specs.FinMap as finite
 use Rattle.std.specs.List.{enumerate_from, join_with_byte, list_any, range_with_len}
 use Rattle.std.specs.Option.{option_and_then, option_to_list, unwrap_or}
 use Rattle.std.specs.Str.{trim}
-use Rattle.pb_core.specs.Election.{ElectionView, ProjectView, VoterView, project_ids, terms_of}
+use Rattle.pb_core.specs.Election.{ElectionView, ProjectView, VoterView, project_ids}
 use Rattle.pb_core.specs.MoneyText.{money_text}
-use Rattle.pb_core.specs.declared.terms.Terms.{Terms}
 use Rattle.pb_read.specs.MetaKeys.{key_of, key_text}
 use Rattle.pb_read.specs.Rows.{head_of, is_word}
 use Rattle.pb_read.specs.declared.meta_key.MetaKey.TheVariants.{Budget, VoteType, MaxLength}
@@ -20,39 +19,25 @@ use Rattle.pb_export.specs.declared.further.Further.{Further}
 abbrev pub amount_text : ℕ → List ℕ
 amount_text h = if h % 100 == 0 then decimal (h / 100) else money_text h
 
--- a key that the file has of its own: one that readers take, or one of these
-abbrev pub is_own_key : List ℕ → Bool
-is_own_key name =
-    is_some (key_of name)
-    || list_any (λ word. is_word word name)
-    (codes "num_projects" ∷ codes "num_votes" ∷ codes "rule" ∷ codes "comment" ∷ [])
-
--- a further key with this name may follow in META: it is none of these, and no section's head
+-- a further key with this name may follow in META: it is none that readers take, none of these, which the file
+-- has of its own, and no section's head
 abbrev pub may_follow : List ℕ → Bool
-may_follow name = not (is_own_key name) && not (is_some (head_of (name ∷ [])))
+may_follow name =
+    not (is_some (key_of name) || list_any (λ word. is_word word name)
+    (codes "num_projects" ∷ codes "num_votes" ∷ codes "rule" ∷ codes "comment" ∷ []))
+    && not (is_some (head_of (name ∷ [])))
 
--- the rows of further keys
-abbrev pub key_rows : List KeyView → List Fields
-key_rows keys = map (λ key. key.name ∷ key.value ∷ []) (filter (λ key. may_follow (trim key.name)) keys)
-
--- the rows of the keys that readers take; one says how long a ballot may be, where there is a limit
-abbrev pub terms_rows : Terms → List Fields
-terms_rows terms =
-    (key_text Budget ∷ amount_text terms.budget ∷ []) ∷ (key_text VoteType ∷ codes "approval" ∷ [])
-    ∷ map (λ most. key_text MaxLength ∷ decimal most ∷ []) (option_to_list terms.max_length)
-
--- META: these, and the rule by its word, and in words as a comment
+-- META: the keys that readers take, one of them where there is a limit on a ballot's length; the rule by its
+-- word, and in words as a comment; and the further keys that may follow
 abbrev pub meta_rows : ElectionView → (rule comment : List ℕ) → List KeyView → List Fields
 meta_rows e rule comment keys =
-    ((codes "META" ∷ []) ∷ (codes "key" ∷ codes "value" ∷ []) ∷ terms_rows (terms_of e))
+    ((codes "META" ∷ []) ∷ (codes "key" ∷ codes "value" ∷ []) ∷ (key_text Budget ∷ amount_text e.budget ∷ [])
+    ∷ (key_text VoteType ∷ codes "approval" ∷ [])
+    ∷ map (λ most. key_text MaxLength ∷ decimal most ∷ []) (option_to_list e.max_length))
     ++ (codes "num_projects" ∷ decimal (length e.projects) ∷ [])
     ∷ (codes "num_votes" ∷ decimal (length e.voters) ∷ []) ∷ (codes "rule" ∷ rule ∷ [])
-    ∷ (codes "comment" ∷ comment ∷ []) ∷ key_rows keys
-
--- the row of a project that has this many votes, is elected or not, and has these further fields
-abbrev pub project_row : ProjectView → ℕ → Bool → Fields → Fields
-project_row p votes selected further =
-    p.id ∷ amount_text p.cost ∷ decimal votes ∷ p.name ∷ (if selected then codes "1" else codes "0") ∷ further
+    ∷ (codes "comment" ∷ comment ∷ [])
+    ∷ map (λ key. key.name ∷ key.value ∷ []) (filter (λ key. may_follow (trim key.name)) keys)
 
 -- the fields of a row, if there is one, below further columns of these names; one that it lacks is empty
 abbrev pub below : Fields → Option Fields → Fields
@@ -63,8 +48,9 @@ abbrev pub projects_rows : List ℕ → List Bool → Further → List ProjectVi
 projects_rows votes selected further projects =
     (codes "PROJECTS" ∷ [])
     ∷ (codes "project_id" ∷ codes "cost" ∷ codes "votes" ∷ codes "name" ∷ codes "selected" ∷ further.project_names)
-    ∷ map (λ at. project_row at.1 (slice_index votes at.0) (slice_index_or selected at.0 false)
-    (below further.project_names (slice_get further.projects.items at.0))) (enumerate_from 0 projects)
+    ∷ map (λ at. at.1.id ∷ amount_text at.1.cost ∷ decimal (slice_index votes at.0) ∷ at.1.name
+    ∷ (if slice_index_or selected at.0 false then codes "1" else codes "0")
+    ∷ below further.project_names (slice_get further.projects.items at.0)) (enumerate_from 0 projects)
 
 -- VOTES; a vote is the ids of the approved projects, with `,` between two; further fields are found by the id
 abbrev pub votes_rows : List (List ℕ) → Further → List VoterView → List Fields

@@ -3,10 +3,11 @@
 ghost use Rattle.std.specs.Prelude.{◌≡◌, IfOk};
 
 use crate::further::Further;
-use crate::keys::Key;
+use crate::further_keys::FurtherKey;
 use crate::readable::may_follow;
 use crate::text_row::TextRow;
 use csv::ByteRecord;
+use pb_core::election::Election;
 use pb_core::no_memory::NoMemory;
 use pb_ids::IdTable;
 use pb_read::{Part, ReadFault, Section, Stage, VoteColumns, Watch};
@@ -24,14 +25,14 @@ const NO_PLACE: u32 = u32::MAX;
 
 /// Names that came so far, in small letters of ASCII.
 #[derive(Drop)]
-struct Names {
+struct NamesSoFar {
     alloc: Global,
     came: IdTable,
 }
 
-impl Names {
+impl NamesSoFar {
     /// Only these names came.
-    fn of(alloc: Global, names: &[&str]) -> Result<Names, NoMemory> {
+    fn of(alloc: Global, names: &[&str]) -> Result<NamesSoFar, NoMemory> {
         let mut came = IdTable::new(alloc);
         for name in names {
             if came.insert(alloc, name, 0).is_err() {
@@ -39,7 +40,7 @@ impl Names {
                 return Err(NoMemory);
             }
         }
-        Ok(Names { alloc, came })
+        Ok(NamesSoFar { alloc, came })
     }
 
     /// Whether a name came.
@@ -89,10 +90,8 @@ pub struct Carried {
     alloc: Global,
     /// Whether the further columns of VOTES are kept.
     keeps_voters: bool,
-    /// The section whose head was read last.
-    section: Section,
     /// The names of keys that came so far; none where memory was refused.
-    keys: Option<Names>,
+    keys: Option<NamesSoFar>,
     /// Where the further columns of PROJECTS and of VOTES stand, from 0.
     of_projects: Vec<usize>,
     of_votes: Vec<usize>,
@@ -104,12 +103,11 @@ pub struct Carried {
 impl Carried {
     /// Nothing was seen yet.
     pub fn new(alloc: Global, keeps_voters: bool) -> Carried {
-        let keys = Names::of(alloc, &[]).ok();
+        let keys = NamesSoFar::of(alloc, &[]).ok();
         let is_whole = keys.is_some();
         Carried {
             alloc,
             keeps_voters,
-            section: Section::Meta,
             keys,
             of_projects: Vec::new(alloc),
             of_votes: Vec::new(alloc),
@@ -140,12 +138,8 @@ impl Carried {
     /// Takes a record of this part.
     fn keep(&mut self, record: &ByteRecord, part: Part) -> Result<(), NoMemory> {
         match part {
-            Part::Other => Ok(()),
-            Part::Head(section) => {
-                self.section = section;
-                Ok(())
-            }
-            Part::Names => self.keep_names(record),
+            Part::Other | Part::Head(_) => Ok(()),
+            Part::Names(section) => self.keep_names(record, section),
             Part::Key => self.keep_key(record),
             Part::Project(_) => {
                 let fields = fields_at(self.alloc, record, self.of_projects.as_slice())?;
@@ -156,9 +150,9 @@ impl Carried {
         }
     }
 
-    /// Takes a row of column names.
-    fn keep_names(&mut self, record: &ByteRecord) -> Result<(), NoMemory> {
-        match self.section {
+    /// Takes the row of column names of this section.
+    fn keep_names(&mut self, record: &ByteRecord, section: Section) -> Result<(), NoMemory> {
+        match section {
             Section::Meta => Ok(()),
             Section::Projects => {
                 let places = further_places(self.alloc, record, &OWN_OF_PROJECTS)?;
@@ -201,7 +195,7 @@ impl Carried {
             None if number == NO_PLACE => drop(value),
             None => {
                 let name = String::from_str(self.alloc, name)?;
-                self.further.keys.push(Key { name, value })?
+                self.further.keys.push(FurtherKey { name, value })?
             }
         }
         Ok(())
@@ -222,7 +216,7 @@ impl Carried {
 }
 
 impl Watch for Carried {
-    fn see(&mut self, record: &ByteRecord, _at: u32, part: Part) {
+    fn see(&mut self, record: &ByteRecord, _at: u32, part: Part, _election: &Election) {
         if self.is_whole && self.keep(record, part).is_err() {
             self.is_whole = false;
         }
@@ -230,19 +224,23 @@ impl Watch for Carried {
 
     fn refuse(&mut self, _record: &ByteRecord, _fault: ReadFault, _stage: &Stage) {}
 
-    fn end(&mut self) {}
+    fn end(&mut self, _election: &Election) {}
 }
 
 /// The places of the columns in a row of column names whose names are not these, and did not come before.
 fn further_places(alloc: Global, names: &ByteRecord, own: &[&str]) -> Result<Vec<usize>, NoMemory> {
-    let mut came = Names::of(alloc, own)?;
+    let mut came = NamesSoFar::of(alloc, own)?;
     let places = new_places(alloc, names, &mut came);
     drop(came);
     places
 }
 
 /// The places of the columns in a row of column names whose names did not come before.
-fn new_places(alloc: Global, names: &ByteRecord, came: &mut Names) -> Result<Vec<usize>, NoMemory> {
+fn new_places(
+    alloc: Global,
+    names: &ByteRecord,
+    came: &mut NamesSoFar,
+) -> Result<Vec<usize>, NoMemory> {
     let mut places = Vec::new(alloc);
     for place in 0..names.len() {
         if came.take(text_at(names, place))? {

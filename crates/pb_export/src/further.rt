@@ -1,7 +1,7 @@
 //! What a file has that the count does not use.
 
 use crate::behind::Behind;
-use crate::keys::Keys;
+use crate::further_keys::FurtherKeys;
 use crate::text_row::TextRow;
 use pb_ids::IdTable;
 use std::alloc::Global;
@@ -14,7 +14,7 @@ use std::alloc::Global;
 pub struct Further {
     /// The value of META's `comment`; empty if there is none.
     pub(crate) comment: String,
-    pub(crate) keys: Keys,
+    pub(crate) keys: FurtherKeys,
     /// The names of the further columns of PROJECTS.
     pub(crate) project_names: TextRow,
     /// The fields of each project.
@@ -35,7 +35,7 @@ impl Further {
     pub fn none(alloc: Global) -> Further {
         Further {
             comment: String::new(alloc),
-            keys: Keys::none(alloc),
+            keys: FurtherKeys::none(alloc),
             project_names: TextRow::new(alloc),
             projects: Vec::new(alloc),
             voter_names: TextRow::new(alloc),

@@ -10,15 +10,15 @@ ghost use Rattle.pb_rows.specs.Writing.{text_of_row, text_of_rows};
 ghost use Rattle.pb_export.specs.Export.{CanBeWritten, IsExportFault};
 ghost use Rattle.pb_export.specs.Inner.Behind.{behind};
 ghost use Rattle.pb_export.specs.Inner.Growing.{Grows};
-ghost use Rattle.pb_export.specs.Inner.Parts.{key_row, limit_rows, vote_text};
-ghost use Rattle.pb_export.specs.FileRows.{file_rows, key_rows, meta_rows, project_row, projects_rows};
-ghost use Rattle.pb_export.specs.FileRows.{terms_rows, votes_rows};
+ghost use Rattle.pb_export.specs.Inner.Parts.{key_row, key_rows, limit_rows, project_row, terms_rows, vote_text};
+ghost use Rattle.pb_export.specs.FileRows.{file_rows, meta_rows, projects_rows};
+ghost use Rattle.pb_export.specs.FileRows.{votes_rows};
 
 use crate::amount::amount_text;
 use crate::behind::Behind;
 use crate::export_fault::ExportFault;
 use crate::further::Further;
-use crate::keys::Key;
+use crate::further_keys::FurtherKey;
 use crate::readable::{has_comma_in_vote, has_section_word, is_of_file, may_follow};
 use crate::told::Told;
 use itoa::Buffer;
@@ -130,7 +130,7 @@ fn put_pair(rows: &mut RowsWriter, key: &str, value: &str) -> Result<(), NoMemor
 }
 
 /// Writes further keys of META, but for those that may not follow.
-fn put_keys(rows: &mut RowsWriter, keys: &[Key]) -> Result<(), NoMemory>
+fn put_keys(rows: &mut RowsWriter, keys: &[FurtherKey]) -> Result<(), NoMemory>
     ensures { OnOk result (Grows (key_rows keys.now) rows.old.text rows.new.text) }
 {
     for key in keys {
@@ -140,7 +140,7 @@ fn put_keys(rows: &mut RowsWriter, keys: &[Key]) -> Result<(), NoMemory>
 }
 
 /// Writes a further key of META, if it may follow.
-fn put_key(rows: &mut RowsWriter, key: &Key) -> Result<(), NoMemory>
+fn put_key(rows: &mut RowsWriter, key: &FurtherKey) -> Result<(), NoMemory>
     ensures { OnOk result (Grows (key_row key.now) rows.old.text rows.new.text) }
 {
     if may_follow(key.name.as_str().trim()) {

@@ -1,5 +1,6 @@
 //! Why a run ends without what it was to write.
 
+use crate::run_text::RunText;
 use crate::serving_fault::ServingFault;
 use pb_core::no_memory::NoMemory;
 use pb_desk::{AuditFault, DeskFault};
@@ -38,9 +39,9 @@ pub enum AppFault {
     /// No file would be read back as the election.
     #[error("export: {0}")]
     Export(ExportFault),
-    /// The file with this number on the command line, from 1, could not be opened.
+    /// This text could not be opened.
     #[error("file {0} could not be opened")]
-    Open(u32),
+    Open(RunText),
     /// The writer failed, and some of the text may have gone out; or a durable journal was not written.
     #[error("the writer failed")]
     Write,

@@ -2,10 +2,11 @@
 
 ghost use Rattle.std.specs.Prelude.{◌≡◌, ◌++◌, ◌∷◌, ◌==◌, [], OnOk, codes, decimal, if◌then◌else◌, map};
 ghost use Rattle.std.specs.Io.KnownBytes.{Appends};
-ghost use Rattle.pb_faults.specs.Fault.{line, merged, told, told_at};
+ghost use Rattle.pb_faults.specs.Fault.{line, merged, number_of, told, told_at};
 ghost use Rattle.pb_script.specs.ScriptReading.{fault_of_row};
 
 use crate::fault::AppFault;
+use crate::run_text::RunText;
 use crate::serving_fault::ServingFault;
 use itoa::Buffer;
 use pb_rounds::count_fault::CountFault;
@@ -49,7 +50,7 @@ impl AppFault {
             AppFault::Export(fault) => {
                 write_numbered(writer, "export", fault.number(), fault.name())
             }
-            AppFault::Open(number) => write_of_file(writer, "open", number),
+            AppFault::Open(text) => write_of_text(writer, "open", text),
             AppFault::Write | AppFault::Serving(ServingFault::Output) => {
                 write_fields(writer, &["write"])
             }
@@ -60,9 +61,7 @@ impl AppFault {
             AppFault::Roll(fault) => write_roll(writer, fault),
             AppFault::Serving(ServingFault::Spelling) => write_fields(writer, &["spelling"]),
             AppFault::Serving(ServingFault::Moved) => write_fields(writer, &["moved", "2"]),
-            AppFault::Serving(ServingFault::Locked(number)) => {
-                write_of_file(writer, "locked", number)
-            }
+            AppFault::Serving(ServingFault::Locked(text)) => write_of_text(writer, "locked", text),
         }
     }
 
@@ -132,7 +131,7 @@ fn write_at<W: Write>(
     at: u64,
 ) -> io::Result<()>
     ensures { OnOk result (Appends (W.contents writer.old) (W.contents writer.new)
-        (line (told_at what.now number name.now at).1)) }
+        (line (told_at what.now (number, name.now) at).1)) }
 {
     let mut number_digits = Buffer::new();
     let mut at_digits = Buffer::new();
@@ -162,13 +161,13 @@ fn write_roll<W: Write>(writer: &mut W, fault: RollFault) -> io::Result<()>
     }
 }
 
-/// Writes the line of what befell the file with this number on the command line.
-fn write_of_file<W: Write>(writer: &mut W, what: &str, number: u32) -> io::Result<()>
+/// Writes the line of what befell this text.
+fn write_of_text<W: Write>(writer: &mut W, what: &str, text: RunText) -> io::Result<()>
     ensures { OnOk result (Appends (W.contents writer.old) (W.contents writer.new)
-        (line (what.now ∷ decimal number ∷ []))) }
+        (line (what.now ∷ decimal (number_of text) ∷ []))) }
 {
     let mut digits = Buffer::new();
-    write_fields(writer, &[what, digits.format(number)])
+    write_fields(writer, &[what, digits.format(text.number())])
 }
 
 /// Writes the line of what has this name, in this record.

@@ -1,5 +1,6 @@
 //! Why a journal is not served, or no longer.
 
+use crate::run_text::RunText;
 use thiserror::Error;
 
 /// Why a journal is not served, or no longer.
@@ -11,9 +12,9 @@ pub enum ServingFault {
     /// The journal's name leads to another file than the one that is written, or nowhere.
     #[error("the journal was moved")]
     Moved,
-    /// Another run serves the journal at the path with this number on the command line, from 1.
+    /// Another run serves the journal that this text is, or would replace.
     #[error("another run serves file {0}")]
-    Locked(u32),
+    Locked(RunText),
     /// The answers could not be written. What was served stands.
     #[error("the answers could not be written")]
     Output,

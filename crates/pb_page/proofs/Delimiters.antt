@@ -1,11 +1,15 @@
 -- Pieces of markup, filled.
 use Rattle.std.proofs.Common.{◌≡◌, ℕ, List, [], ◌∷◌, ◌++◌, drop, cond, refl, sym, ◌∙◌, ap, inl, inr}
-use Rattle.std.specs.Prelude.{◌==◌, flat_map, slice_index_or}
+use Rattle.std.specs.Prelude.{◌==◌, filter, flat_map, slice_index_or}
 use Rattle.std.proofs.lemmas.Bool.{cases_Bool, cond-false, cond-true, eqb-true}
 use Rattle.std.proofs.lemmas.List.Elements.{filter-append}
-use Rattle.pb_page.specs.Filling.{Filling, delimiters, filled, page_of}
+use Rattle.pb_page.specs.Filling.{Filling, filled, page_of}
 use Rattle.pb_page.specs.Markup.{is_delimiter, written}
 use Rattle.pb_page.proofs.Texts.{texts_without_delimiter}
+
+-- the delimiters of a page, in their order
+abbrev delimiters : List ℕ → List ℕ
+delimiters page = filter is_delimiter page
 
 -- a text adds no delimiter to what stands after it
 text_adds_none : (text rest : List ℕ) → delimiters (written text ++ rest) ≡ delimiters rest

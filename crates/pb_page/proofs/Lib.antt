@@ -1,6 +1,5 @@
 -- The lemmas that the proofs of this crate share.
 mod Grown
-mod CountIs
 mod RaisePlaces
 mod Rows
 mod Sums

@@ -1,9 +1,9 @@
 -- Pieces of markup, filled with texts.
-use Rattle.std.specs.Prelude.{ℕ, ◌==◌, List, [], ◌∷◌, ◌++◌, decimal, drop, filter, flat_map, if◌then◌else◌}
+use Rattle.std.specs.Prelude.{ℕ, ◌==◌, List, [], ◌∷◌, ◌++◌, decimal, drop, flat_map, if◌then◌else◌}
 use Rattle.std.specs.Prelude.{slice_index_or}
 use Rattle.pb_core.specs.MoneyText.{money_text}
 use Rattle.pb_page.specs.Amount.{shown}
-use Rattle.pb_page.specs.Markup.{is_delimiter, written}
+use Rattle.pb_page.specs.Markup.{written}
 use Rattle.pb_page.specs.declared.markup.value.Value.{Value}
 use Rattle.pb_page.specs.declared.markup.value.Value.TheVariants.{Text, Number, Amount, Shown}
 
@@ -30,7 +30,3 @@ pub record Filling : Type 0 where
 -- a page: its pieces, each filled, one after the other
 abbrev pub page_of : List Filling → List ℕ
 page_of fillings = flat_map (λ f. filled f.piece f.texts) fillings
-
--- the delimiters of a page, in their order
-abbrev pub delimiters : List ℕ → List ℕ
-delimiters page = filter is_delimiter page

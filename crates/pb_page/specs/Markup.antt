@@ -19,14 +19,11 @@ character c =
 abbrev pub written : List ℕ → List ℕ
 written text = flat_map character text
 
--- what is read from here on: outside of a reference, or in one, whose digits so far make this number
+-- what is read from here on: outside of a reference, where `&#60;` is the character 60 and any other is
+-- itself; or in one, whose digits so far make this number
 abbrev pub read_from : Option ℕ → List ℕ → List ℕ
 read_from within [] = []
 read_from None (c ∷ cs) = if c == 38 then read_from (Some 0) cs else c ∷ read_from None cs
 read_from (Some n) (c ∷ cs) =
     if c == 59 then n ∷ read_from None cs
     else (if c == 35 then read_from (Some n) cs else read_from (Some (10 * n + (c - 48))) cs)
-
--- the text that is read where these characters stand: `&#60;` is the character 60, any other is itself
-abbrev pub read_back : List ℕ → List ℕ
-read_back markup = read_from None markup

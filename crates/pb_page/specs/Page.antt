@@ -8,17 +8,17 @@ use Rattle.pb_core.specs.Election.{ElectionView, ProjectView}
 use Rattle.pb_core.specs.MoneyText.{money_text}
 use Rattle.pb_page.specs.Amount.{shown}
 use Rattle.pb_page.specs.Filling.{Filling, page_of}
-use Rattle.pb_page.specs.Sentence.{said}
+use Rattle.pb_page.specs.Sentence.{character_said}
 use Rattle.pb_page.specs.Words.{noun, sentence}
 use Rattle.pb_page.specs.declared.markup.form.Form.{Form}
 use Rattle.pb_price.specs.Supporters.{cost_at, support_of}
 use Rattle.pb_reasons.specs.BesideVotes.{beside_votes}
-use Rattle.pb_reasons.specs.Counted.{CountedView, IsCountBy, winners_of}
+use Rattle.pb_reasons.specs.Counted.{winners_of}
+use Rattle.pb_reasons.specs.CountedElection.{CountedElectionView}
 use Rattle.pb_reasons.specs.RaiseEnd.{IsRaiseEnd}
 use Rattle.pb_reasons.specs.Reasons.{project_reason, voter_reason}
 use Rattle.pb_reasons.specs.Ties.{ties_of}
 use Rattle.pb_reasons.specs.Totals.{totals_of}
-use Rattle.pb_reasons.specs.declared.comparison.Comparison.{Comparison}
 use Rattle.pb_reasons.specs.declared.raise_end.RaiseEnd.{RaiseEnd}
 use Rattle.pb_reasons.specs.declared.raise_end.RaiseEnd.TheVariants.{Plain, Exhausted, Over}
 use Rattle.pb_reasons.specs.declared.rule_row.RuleRow.{RuleRow}
@@ -26,7 +26,6 @@ use Rattle.pb_reasons.specs.declared.project_reason.Ending.{Ending}
 use Rattle.pb_reasons.specs.declared.project_reason.Ending.TheVariants.{Won, Added, Lost}
 use Rattle.pb_reasons.specs.declared.tie.Tie.{Tie}
 use Rattle.pb_rounds.specs.RuleNames.{by_completion, by_measure, completion_name, fills_up, measure_name}
-use Rattle.pb_rounds.specs.declared.measure.Measure.{Measure}
 use Rattle.pb_rounds.specs.declared.rule.Rule.{Rule}
 use Rattle.pb_page.specs.declared.categories.Categories.{Categories}
 use Rattle.pb_page.specs.declared.facts.Facts.{Facts}
@@ -64,7 +63,7 @@ labels l piece keys = filling piece (map (at l) keys)
 
 -- the sentence at a key, with these at its places; and between two pieces
 abbrev pub say : Language → ℕ → List Filling → List Filling
-say l k places = said places (at l k)
+say l k places = map (character_said places) (at l k)
 
 abbrev pub between : (before after : Filling) → Language → ℕ → List Filling → List Filling
 between before after l k places = before ∷ (say l k places ++ after ∷ [])
@@ -103,29 +102,23 @@ blocks form e before (place ∷ winners) = let p = project_at e place in filling
     ∷ blocks form e (before + cost_at (support_of e) place) winners
 
 -- what was voted on, who voted, how many won and what was spent; or that no project won, with the numbers for
--- programs
-abbrev pub summary : Language → List ℕ → ElectionView → CountedView → List Filling
-summary l title e c = let totals = totals_of e c in let won = length (winners_of c) in
-    let left = amount l.costs (codes "left") (e.budget - totals.spent) in
-    filling HEAD.now (at l key.LANG ∷ at l key.DIR ∷ title ∷ []) ∷ (say l key.VOTED
+-- programs; and the picture of the budget, with what it says to those who can't see it, and what is said below it
+unfoldable pub budget : Facts → CountedElectionView → List Filling
+budget facts x = let l = facts.language in let e = x.election in let totals = totals_of e x.counted in
+    let won = length (winners_of x.counted) in let left = e.budget - totals.spent in
+    (filling HEAD.now (at l key.LANG ∷ at l key.DIR ∷ facts.title.now ∷ []) ∷ (say l key.VOTED
     (number (codes "voters") (length e.voters) ∷ number (codes "projects") (length e.projects)
     ∷ amount l.costs (codes "budget") e.budget ∷ noun_at l key.PEOPLE (length e.voters)
     ∷ noun_at l key.TOPICS (length e.projects) ∷ []) ++ (filling LEAD_NEXT.now [] ∷ (if won == 0
     then filling NOTHING.now (decimal won ∷ money_text totals.spent ∷ money_text totals.surplus ∷ [])
-    ∷ say l key.NONE_WON (left ∷ [])
-    else say l key.WON (number (codes "won") won ∷ amount l.costs (codes "spent") totals.spent ∷ left
-    ∷ noun_at l key.WINNERS won ∷ []))))
-
--- that, and the picture of the budget, with what it says to those who can't see it, and what is said below it
-unfoldable pub budget : Language → List ℕ → ElectionView → CountedView → List Filling
-budget l title e c = let totals = totals_of e c in let left = e.budget - totals.spent in summary l title e c
+    ∷ say l key.NONE_WON (amount l.costs (codes "left") left ∷ [])
+    else say l key.WON (number (codes "won") won ∷ amount l.costs (codes "spent") totals.spent
+    ∷ amount l.costs (codes "left") left ∷ noun_at l key.WINNERS won ∷ [])))))
     ++ (between (labels l BUDGET_OPENING.now (key.BUDGET_HEADING ∷ [])) (filling BLOCKS_OPENING.now []) l key.PICTURE
     (text (shown l.costs e.budget) ∷ text (shown l.costs totals.spent) ∷ text (shown l.costs left) ∷ [])
-    ++ (blocks l.costs e 0 (winners_of c)
-    ++ between (filling BLOCKS_CLOSING.now []) (filling BUDGET_CLOSING.now []) l
-    (if length (winners_of c) == 0 then key.BUDGET_NONE else key.BUDGET_CAPTION)
-    (amount l.costs (codes "spent") totals.spent ∷ amount l.costs (codes "left") left
-    ∷ amount l.amounts (codes "surplus") totals.surplus ∷ [])))
+    ++ (blocks l.costs e 0 (winners_of x.counted) ++ between (filling BLOCKS_CLOSING.now []) (filling BUDGET_CLOSING.now []) l
+    (if won == 0 then key.BUDGET_NONE else key.BUDGET_CAPTION) (amount l.costs (codes "spent") totals.spent
+    ∷ amount l.costs (codes "left") left ∷ amount l.amounts (codes "surplus") totals.surplus ∷ [])))
 
 -- the number of a project's category, as many as there are where it is in none; and the text of a category
 abbrev pub category_of : Categories → (place : ℕ) → ℕ
@@ -134,60 +127,60 @@ category_of g place = slice_index_or g.of_project.now place (length g.names.now)
 abbrev pub category_name : Categories → ℕ → List ℕ
 category_name g k = option_map_or (λ text. text.now) (slice_get g.names.now k) []
 
--- the ends of a project's row and of the head of its table: where there are categories, a column for them
+-- the end of a project's row, and a table of projects, by its head and its rows: where there are categories,
+-- with a column for them
 abbrev pub row_end : Facts → (place : ℕ) → List Filling
 row_end facts place = option_map_or (λ g. filling ROW_CATEGORY.now (at facts.language key.CATEGORY
     ∷ category_name g (category_of g place) ∷ []) ∷ []) facts.categories [] ++ filling ROW_CLOSING.now [] ∷ []
 
-abbrev pub head_end : Facts → List Filling
-head_end facts = option_map_or (λ g. labels facts.language HEAD_CATEGORY.now (key.CATEGORY ∷ []) ∷ []) facts.categories []
-    ++ filling HEAD_CLOSING.now [] ∷ []
+abbrev pub table : Facts → (opening keys : List ℕ) → (rows : List Filling) → List Filling
+table facts opening keys rows = let l = facts.language in labels l opening keys ∷ ((option_map_or
+    (λ g. labels l HEAD_CATEGORY.now (key.CATEGORY ∷ []) ∷ []) facts.categories [] ++ filling HEAD_CLOSING.now [] ∷ [])
+    ++ (rows ++ filling TABLE_CLOSING.now [] ∷ []))
+
+-- what the rows of a project share: its id, name, bar, cost and votes
+abbrev pub cells : Language → ProjectView → (bar votes : ℕ) → List (List ℕ)
+cells l p bar votes = p.id ∷ p.name ∷ decimal bar ∷ at l key.COST ∷ money_text p.cost ∷ shown l.costs p.cost
+    ∷ at l key.VOTES ∷ decimal votes ∷ []
 
 -- the row of a winner, elected or added; what did not win has none
 abbrev pub won_row : Facts → (whole place : ℕ) → ProjectView → (votes : ℕ) → Ending → List Filling
 won_row facts whole place p votes (Won w) = let l = facts.language in filling WINNER.now
-    (p.id ∷ at l key.ROUND ∷ decimal w.round ∷ p.id ∷ p.name ∷ decimal (width p.cost whole)
-    ∷ at l key.COST ∷ money_text p.cost ∷ shown l.costs p.cost ∷ at l key.VOTES ∷ decimal votes
-    ∷ at l key.PRICE ∷ money_text w.price ∷ shown l.amounts w.price ∷ at l key.IN_FULL ∷ decimal w.in_full ∷ []) ∷ row_end facts place
+    (p.id ∷ at l key.ROUND ∷ decimal w.round ∷ (cells l p (width p.cost whole) votes ++ (at l key.PRICE
+    ∷ money_text w.price ∷ shown l.amounts w.price ∷ at l key.IN_FULL ∷ decimal w.in_full ∷ []))) ∷ row_end facts place
 won_row facts whole place p votes (Added a) = let l = facts.language in filling ADDED.now
-    (p.id ∷ at l key.NUMBER ∷ decimal a.number ∷ p.id ∷ p.name ∷ decimal (width p.cost whole)
-    ∷ at l key.COST ∷ money_text p.cost ∷ shown l.costs p.cost ∷ at l key.VOTES ∷ decimal votes ∷ []) ∷ row_end facts place
+    (p.id ∷ at l key.NUMBER ∷ decimal a.number ∷ cells l p (width p.cost whole) votes) ∷ row_end facts place
 won_row facts whole place p votes (Lost lost) = []
 
 -- the row of a project that did not win; what won has none
 abbrev pub lost_row : Facts → (place : ℕ) → ProjectView → (votes : ℕ) → Ending → List Filling
 lost_row facts place p votes (Lost lost) = let l = facts.language in between (filling OTHER.now
-    (p.id ∷ p.name ∷ decimal (width lost.left p.cost) ∷ at l key.COST ∷ money_text p.cost ∷ shown l.costs p.cost
-    ∷ at l key.VOTES ∷ decimal votes ∷ at l key.LEFT ∷ money_text lost.left ∷ shown l.amounts lost.left ∷ at l key.MISSING
-    ∷ money_text lost.missing ∷ [])) (filling OTHER_CLOSING.now []) l key.SHORT (text (shown l.amounts lost.missing) ∷ [])
-    ++ row_end facts place
+    (cells l p (width lost.left p.cost) votes ++ (at l key.LEFT ∷ money_text lost.left ∷ shown l.amounts lost.left
+    ∷ at l key.MISSING ∷ money_text lost.missing ∷ []))) (filling OTHER_CLOSING.now []) l key.SHORT
+    (text (shown l.amounts lost.missing) ∷ []) ++ row_end facts place
 lost_row facts place p votes won = []
 
 -- one of these rows, of the project at this place
-abbrev pub row_of : (ℕ → ProjectView → ℕ → Ending → List Filling) → ElectionView → CountedView → ℕ → List Filling
-row_of row e c place = let r = project_reason e c place in row place (project_at e place) r.votes r.ending
+abbrev pub row_of : (ℕ → ProjectView → ℕ → Ending → List Filling) → CountedElectionView → ℕ → List Filling
+row_of row x place = let r = project_reason x.election x.counted place in row place (project_at x.election place) r.votes r.ending
 
 -- the elected, in order of election; the added, in their order; and the other projects, in the order of the
 -- file: each behind a heading, a caption and the heads of the columns
-unfoldable pub winners : Facts → ElectionView → CountedView → List Filling
-winners facts e c = let l = facts.language in if length c.outcome.elected == 0
-    then labels l NONE_WON.now (key.WINNERS_HEADING ∷ (if fills_up c.fill_up then key.NO_ELECTED else key.NO_WINNERS) ∷ []) ∷ []
-    else labels l WINNERS_OPENING.now (key.WINNERS_HEADING ∷ key.WINNERS_CAPTION
-    ∷ key.ROUND ∷ key.PROJECT ∷ key.COST ∷ key.VOTES ∷ key.PRICE ∷ key.IN_FULL ∷ [])
-    ∷ (head_end facts ++ (flat_map (λ w. row_of (won_row facts e.budget) e c w.place) c.outcome.elected
-    ++ filling TABLE_CLOSING.now [] ∷ []))
+unfoldable pub winners : Facts → CountedElectionView → List Filling
+winners facts x = let elected = x.counted.outcome.elected in if length elected == 0 then labels facts.language NONE_WON.now
+    (key.WINNERS_HEADING ∷ (if fills_up x.rule.fill_up then key.NO_ELECTED else key.NO_WINNERS) ∷ []) ∷ []
+    else table facts WINNERS_OPENING.now (key.WINNERS_HEADING ∷ key.WINNERS_CAPTION ∷ key.ROUND ∷ key.PROJECT ∷ key.COST
+    ∷ key.VOTES ∷ key.PRICE ∷ key.IN_FULL ∷ []) (flat_map (λ w. row_of (won_row facts x.election.budget) x w.place) elected)
 
-unfoldable pub added : Facts → ElectionView → CountedView → List Filling
-added facts e c = let l = facts.language in if length c.added == 0 then [] else labels l ADDED_OPENING.now (key.ADDED_HEADING ∷ key.ADDED_CAPTION
-    ∷ key.NUMBER ∷ key.PROJECT ∷ key.COST ∷ key.VOTES ∷ [])
-    ∷ (head_end facts ++ (flat_map (row_of (won_row facts e.budget) e c) c.added ++ filling TABLE_CLOSING.now [] ∷ []))
+unfoldable pub added : Facts → CountedElectionView → List Filling
+added facts x = if length x.counted.added == 0 then [] else table facts ADDED_OPENING.now (key.ADDED_HEADING ∷ key.ADDED_CAPTION
+    ∷ key.NUMBER ∷ key.PROJECT ∷ key.COST ∷ key.VOTES ∷ []) (flat_map (row_of (won_row facts x.election.budget) x) x.counted.added)
 
-unfoldable pub others : Facts → ElectionView → CountedView → List Filling
-others facts e c = let l = facts.language in if length (winners_of c) == length e.projects
-    then labels l NONE_LOST.now (key.OTHERS_HEADING ∷ key.NO_OTHERS ∷ []) ∷ [] else labels l OTHERS_OPENING.now
+unfoldable pub others : Facts → CountedElectionView → List Filling
+others facts x = if length (winners_of x.counted) == length x.election.projects
+    then labels facts.language NONE_LOST.now (key.OTHERS_HEADING ∷ key.NO_OTHERS ∷ []) ∷ [] else table facts OTHERS_OPENING.now
     (key.OTHERS_HEADING ∷ key.OTHERS_CAPTION ∷ key.PROJECT ∷ key.COST ∷ key.VOTES ∷ key.LEFT ∷ key.MISSING ∷ [])
-    ∷ (head_end facts ++ (flat_map (row_of (lost_row facts) e c) (range_with_len 0 (length e.projects))
-    ++ filling TABLE_CLOSING.now [] ∷ []))
+    (flat_map (row_of (lost_row facts) x) (range_with_len 0 (length x.election.projects)))
 
 -- the row of a category, by its number: how many of the winners are of it, and what these cost together
 abbrev pub category_row : Language → ElectionView → List ℕ → Categories → ℕ → Filling
@@ -198,15 +191,11 @@ category_row l e winners g k = let name = category_name g k in
     ∷ decimal (length those) ∷ at l key.CATEGORY_COST ∷ money_text cost ∷ shown l.costs cost ∷ [])
 
 -- a row for each category, where there are categories
-unfoldable pub categories : ElectionView → CountedView → Facts → List Filling
-categories e c facts = let l = facts.language in option_map_or (λ g. labels l CATEGORIES_OPENING.now
+unfoldable pub categories : Facts → CountedElectionView → List Filling
+categories facts x = let l = facts.language in option_map_or (λ g. labels l CATEGORIES_OPENING.now
     (key.CATEGORIES_HEADING ∷ key.CATEGORIES_CAPTION ∷ key.CATEGORY ∷ key.CATEGORY_WON ∷ key.CATEGORY_COST ∷ [])
-    ∷ (map (category_row l e (winners_of c) g) (range_with_len 0 (length g.names.now))
+    ∷ (map (category_row l x.election (winners_of x.counted) g) (range_with_len 0 (length g.names.now))
     ++ filling TABLE_CLOSING.now [] ∷ [])) facts.categories []
-
--- how many of each voter's choices won
-abbrev pub won_by_voter : ElectionView → CountedView → List ℕ
-won_by_voter e c = map (λ voter. (voter_reason e c voter).elected) (range_with_len 0 (length e.voters))
 
 -- on how many ballots so many choices won, and so many or more
 abbrev pub exactly : ℕ → List ℕ → ℕ
@@ -221,9 +210,11 @@ abbrev pub ballots_row : Language → (k n ballots : ℕ) → List ℕ → List 
 ballots_row l k n ballots won = if at_least n won == 0 then [] else between (filling VOTERS_ROW.now (decimal n ∷ []))
     (filling VOTERS_ROW_CLOSING.now (decimal (width ballots (length won)) ∷ decimal ballots ∷ [])) l k (text (decimal n) ∷ [])
 
--- how many voters have a winner among their choices, and how many winners each has
-unfoldable pub voters : Language → List ℕ → List Filling
-voters l won = between (labels l VOTERS_OPENING.now (key.VOTERS_HEADING ∷ []))
+-- how many of each voter's choices won: how many voters have a winner among theirs, and how many each has
+unfoldable pub voters : Language → CountedElectionView → List Filling
+voters l x =
+    let won = map (λ voter. (voter_reason x.election x.counted voter).elected) (range_with_len 0 (length x.election.voters)) in
+    between (labels l VOTERS_OPENING.now (key.VOTERS_HEADING ∷ []))
     (labels l VOTERS_TABLE.now (key.VOTERS_CAPTION ∷ key.CHOSEN ∷ key.VOTERS ∷ [])) l key.GOT
     (text (decimal (at_least 1 won)) ∷ number (codes "voters") (length won) ∷ text (decimal (exactly 0 won))
     ∷ noun_at l key.ALL (length won) ∷ noun_at l key.HAVE (at_least 1 won) ∷ noun_at l key.LACK (exactly 0 won) ∷ [])
@@ -235,14 +226,11 @@ abbrev pub compared_row : Language → ℕ → RuleRow → Filling
 compared_row l k r = filling COMPARED_ROW.now (at l k ∷ at l key.COMPARED_WON ∷ decimal r.projects
     ∷ at l key.WITHOUT ∷ decimal r.without ∷ at l key.MORE ∷ decimal r.more_choices ∷ [])
 
-abbrev pub compared : Language → Comparison → List Filling
-compared l rules = labels l COMPARED_OPENING.now (key.COMPARED_HEADING ∷ key.COMPARED_CAPTION
-    ∷ key.COMPARED_RULE ∷ key.COMPARED_WON ∷ key.WITHOUT ∷ key.MORE ∷ [])
-    ∷ compared_row l key.EQUAL_SHARES rules.own ∷ compared_row l key.MOST_VOTES rules.other
-    ∷ filling TABLE_CLOSING.now [] ∷ []
-
-unfoldable pub besides : ElectionView → CountedView → Facts → List Filling
-besides e c facts = if facts.compares then compared facts.language (beside_votes e c) else []
+unfoldable pub besides : Facts → CountedElectionView → List Filling
+besides facts x = let l = facts.language in let rules = beside_votes x.election x.counted in if facts.compares
+    then labels l COMPARED_OPENING.now (key.COMPARED_HEADING ∷ key.COMPARED_CAPTION ∷ key.COMPARED_RULE ∷ key.COMPARED_WON
+    ∷ key.WITHOUT ∷ key.MORE ∷ []) ∷ compared_row l key.EQUAL_SHARES rules.own ∷ compared_row l key.MOST_VOTES rules.other
+    ∷ filling TABLE_CLOSING.now [] ∷ [] else []
 
 -- why the raises ended: what would be elected with one more, and which projects only then
 abbrev pub raises_ended : Language → ElectionView → RaiseEnd → List Filling
@@ -255,59 +243,53 @@ raises_ended l e (Over next) = between (filling ITEM_OPENING.now []) (labels l O
 
 -- how the share came about, which project is elected first, whether shares were raised and why that ended,
 -- and how the rest was filled up
-unfoldable pub rule : Language → ElectionView → Rule → RaiseEnd → (share raised : ℕ) → List Filling
-rule l e r end share raised = let o = r.options in let raises = if raised == 0 then key.UNRAISED else key.RAISED in
+unfoldable pub rule : Language → CountedElectionView → RaiseEnd → List Filling
+rule l x end = let r = x.rule in let o = r.options in let raised = x.counted.outcome.raised in
+    let raises = if raised == 0 then key.UNRAISED else key.RAISED in
     (between (labels l RULE_OPENING.now (key.RULE_HEADING ∷ [])) (labels l RULE_NEXT.now (key.SUPPORTERS ∷ []))
-    l key.SHARE (amount l.amounts (codes "share") share ∷ number (codes "raises") raised ∷ filling NAMELESS.now
-    (money_text o.step ∷ shown l.amounts o.step ∷ []) ∷ noun_at l key.TIMES raised ∷ [])
+    l key.SHARE (amount l.amounts (codes "share") x.counted.outcome.share ∷ number (codes "raises") raised
+    ∷ filling NAMELESS.now (money_text o.step ∷ shown l.amounts o.step ∷ []) ∷ noun_at l key.TIMES raised ∷ [])
     ++ map (λ k. labels l ITEM.now (k ∷ [])) (by_measure o.measure key.BY_VOTES key.BY_COST
-    ∷ by_completion o.completion r.fill_up key.PLAIN raises key.UNUSED raises ∷ [])) ++ (raises_ended l e end
+    ∷ by_completion o.completion r.fill_up key.PLAIN raises key.UNUSED raises ∷ [])) ++ (raises_ended l x.election end
     ++ (labels l ITEM.now (by_completion o.completion r.fill_up key.METHOD_PLAIN key.METHOD_ADD1 key.METHOD_FILLED
     key.METHOD_ADD1 ∷ []) ∷ (if fills_up r.fill_up then labels l ITEM.now (key.FILLED_UP ∷ []) ∷ [] else [])))
 
 -- a tie: its round, the project that it elected, and the other
-unfoldable pub tie : Language → Measure → ElectionView → Tie → List Filling
-tie l m e t = between (filling ITEM_OPENING.now []) (filling ITEM_CLOSING.now []) l (by_measure m key.TIE_BY_VOTES key.TIE_BY_COST)
-    (number (codes "round") t.round ∷ filling CALLED.now (called (project_at e t.winner) ∷ [])
-    ∷ filling CALLED.now (called (project_at e t.other) ∷ []) ∷ [])
+unfoldable pub tie : Language → CountedElectionView → Tie → List Filling
+tie l x t = between (filling ITEM_OPENING.now []) (filling ITEM_CLOSING.now []) l
+    (by_measure x.rule.options.measure key.TIE_BY_VOTES key.TIE_BY_COST) (number (codes "round") t.round
+    ∷ filling CALLED.now (called (project_at x.election t.winner) ∷ [])
+    ∷ filling CALLED.now (called (project_at x.election t.other) ∷ []) ∷ [])
 
--- these ties, behind what heads them; nothing where there are none
-unfoldable pub ties : Language → Measure → ElectionView → List Tie → List Filling
-ties l m e all = if length all == 0 then []
-    else labels l TIES_OPENING.now (key.TIES ∷ []) ∷ (flat_map (tie l m e) all ++ filling LIST_CLOSING.now [] ∷ [])
+-- the ties, behind what heads them; nothing where there are none
+unfoldable pub ties : Language → CountedElectionView → List Filling
+ties l x = let all = ties_of x.rule.options.measure x.election x.counted.outcome in if length all == 0 then []
+    else labels l TIES_OPENING.now (key.TIES ∷ []) ∷ (flat_map (tie l x) all ++ filling LIST_CLOSING.now [] ∷ [])
 
--- the end of the command that recounts, the options in words, and the program that made the page
-abbrev pub made : Language → Facts → List Filling
-made l facts = let o = facts.rule.options in
-    between (filling COMMAND_CLOSING.now (decimal o.step ∷ decimal o.max_raises ∷ [])) (filling MADE_BY_OPENING.now []) l
-    key.OPTIONS (text (measure_name o.measure) ∷ text (completion_name o.completion facts.rule.fill_up)
-    ∷ amount l.amounts (codes "step") o.step ∷ number (codes "limit") o.max_raises ∷ [])
-    ++ (say l key.MADE_BY (text facts.program.now ∷ []) ++ filling CLOSING.now [] ∷ [])
-
--- what was counted, where a page recounts it, the command that does, with its options, and these again in
--- words
-unfoldable pub check : Language → Facts → List Filling
-check l facts = let o = facts.rule.options in
+-- what was counted, where a page recounts it, the command that does, with its options, these again in words,
+-- and the program that made the page
+unfoldable pub check : Facts → Rule → List Filling
+check facts r = let l = facts.language in let o = r.options in
     (labels l CHECK_OPENING.now (key.CHECK_HEADING ∷ key.CHECK_BYTES ∷ [])
     ∷ filling CHECK_FILE.now (facts.file.name.now ∷ facts.file.digest.now ∷ []) ∷ option_map_or
     (λ j. filling CHECK_JOURNAL.now (j.name.now ∷ j.digest.now ∷ []) ∷ []) facts.journal []) ++ (option_map_or
     (λ address. between (filling RECOUNT_OPENING.now []) (labels l RECOUNT_CLOSING.now (key.PROGRAM_TOO ∷ [])) l key.RECOUNT
     (filling RECOUNT_LINK.now (address.now ∷ at l key.LINK ∷ []) ∷ [])) facts.recount (labels l NO_RECOUNT.now (key.PROGRAM ∷ []) ∷ [])
     ++ (filling (option_map_or (λ j. AUDIT.now) facts.journal COUNT.now) []
-    ∷ (by_measure o.measure [] (filling OPTION_COST.now [] ∷ []) ++ (by_completion o.completion facts.rule.fill_up
+    ∷ (by_measure o.measure [] (filling OPTION_COST.now [] ∷ []) ++ (by_completion o.completion r.fill_up
     (filling OPTION_PLAIN.now [] ∷ []) [] (filling OPTION_UTILITARIAN.now [] ∷ []) (filling OPTION_ADD1U.now [] ∷ [])
-    ++ made l facts))))
+    ++ (between (filling COMMAND_CLOSING.now (decimal o.step ∷ decimal o.max_raises ∷ [])) (filling MADE_BY_OPENING.now []) l
+    key.OPTIONS (text (measure_name o.measure) ∷ text (completion_name o.completion r.fill_up)
+    ∷ amount l.amounts (codes "step") o.step ∷ number (codes "limit") o.max_raises ∷ [])
+    ++ (say l key.MADE_BY (text facts.program.now ∷ []) ++ filling CLOSING.now [] ∷ []))))))
 
 -- the parts of the page, one after the other
-unfoldable pub parts : ElectionView → CountedView → Facts → RaiseEnd → List Filling
-parts e c facts end = let l = facts.language in let m = facts.rule.options.measure in
-    budget l facts.title.now e c ++ ((winners facts e c ++ (added facts e c ++ others facts e c)) ++ (categories e c facts
-    ++ (voters l (won_by_voter e c) ++ (besides e c facts
-    ++ (rule l e facts.rule end c.outcome.share c.outcome.raised
-    ++ (ties l m e (ties_of m e c.outcome) ++ check l facts))))))
+unfoldable pub parts : Facts → CountedElectionView → RaiseEnd → List Filling
+parts facts x end = let l = facts.language in
+    budget facts x ++ ((winners facts x ++ (added facts x ++ others facts x)) ++ (categories facts x
+    ++ (voters l x ++ (besides facts x ++ (rule l x end ++ (ties l x ++ check facts x.rule))))))
 
--- the page of a count of this election by the rule of these facts, in their language; it says why the raises
--- of this count ended
-abbrev pub IsPage : ElectionView → Facts → List ℕ → Type 0
-IsPage e facts page = (c : CountedView) × IsCountBy facts.rule e c × (end : RaiseEnd)
-    × IsRaiseEnd e facts.rule.options c.outcome end × (page ≡ page_of (parts e c facts end))
+-- the page of a counted election with these facts, in their language; it says why the raises of the count ended
+abbrev pub IsPage : CountedElectionView → Facts → List ℕ → Type 0
+IsPage x facts page = (end : RaiseEnd) × IsRaiseEnd x.election x.rule.options x.counted.outcome end
+    × (page ≡ page_of (parts facts x end))

@@ -12,7 +12,3 @@ at_place p = record { piece = p.piece.now; texts = map text_of p.values.now }
 abbrev pub character_said : List Filling → ℕ → Filling
 character_said places c = if nat_lt c 32 then slice_index_or places c (record { piece = []; texts = [] })
     else record { piece = codes "~"; texts = (c ∷ []) ∷ [] }
-
--- a sentence, character by character
-abbrev pub said : List Filling → List ℕ → List Filling
-said places sentence = map (character_said places) sentence

@@ -7,7 +7,7 @@ ghost use Rattle.pb_page.specs.Inner.Pieces.{categories_head, category_said, cat
 ghost use Rattle.pb_page.specs.Inner.Pieces.{sum_rows, sums_table};
 ghost use Rattle.pb_page.specs.Page.{categories};
 ghost use Rattle.pb_price.specs.Supporters.{cost_at, support_of};
-ghost use Rattle.pb_reasons.specs.Counted.{IsCounted, winners_of};
+ghost use Rattle.pb_reasons.specs.Counted.{winners_of};
 
 use crate::categories::Categories;
 use crate::facts::Facts;
@@ -21,26 +21,20 @@ use crate::templates::{CATEGORIES_OPENING, CATEGORY, TABLE_CLOSING};
 use pb_core::election::Election;
 use pb_core::money::Money;
 use pb_core::no_memory::NoMemory;
-use pb_reasons::Counted;
+use pb_reasons::CountedElection;
 use std::alloc::Global;
 
 /// The winners of each category and their money, where the facts have categories; otherwise nothing.
 #[tactic(auto, using(crate::proofs::Grown::none), unfolding(crate::specs::Page::categories))]
 pub(crate) fn put_categories(
     page: &mut Vec<u8>,
-    alloc: Global,
-    election: &Election,
-    counted: &Counted,
     facts: &Facts,
+    count: &CountedElection,
 ) -> Result<(), NoMemory>
-    requires { IsCounted election.now counted.now }
-    ensures { OnOk result (Grows page.old.items page.new.items
-        (categories election.now counted.now facts.now)) }
+    ensures { OnOk result (Grows page.old.items page.new.items (categories facts.now count.now)) }
 {
     match &facts.categories {
-        Some(categories) => {
-            put_part(page, alloc, &facts.language, election, counted, categories)
-        }
+        Some(categories) => put_part(page, &facts.language, count, categories),
         None => Ok(()),
     }
 }
@@ -48,41 +42,19 @@ pub(crate) fn put_categories(
 /// The winners of each of these categories, and their money.
 fn put_part(
     page: &mut Vec<u8>,
-    alloc: Global,
     language: &Language,
-    election: &Election,
-    counted: &Counted,
+    count: &CountedElection,
     categories: &Categories,
 ) -> Result<(), NoMemory>
-    requires { IsCounted election.now counted.now }
-    ensures { OnOk result (Grows page.old.items page.new.items
-        (category_table language.now election.now (winners_of counted.now) categories.now)) }
+    ensures { OnOk result (Grows page.old.items page.new.items (category_table language.now
+        count.now.election (winners_of count.now.counted) categories.now)) }
 {
-    let sums = sums_of(alloc, election, counted, categories)?;
+    let election = count.election();
+    let sums = add_up(*page.allocator(), election, categories, count.winners())?;
     let budget = election.budget();
-    let put = put_table(page, alloc, language, budget, categories, sums.as_slice());
+    let put = put_table(page, language, budget, categories, sums.as_slice());
     drop(sums);
     put
-}
-
-/// What each category has of the winners.
-fn sums_of(
-    alloc: Global,
-    election: &Election,
-    counted: &Counted,
-    categories: &Categories,
-) -> Result<Vec<InCategory>, NoMemory>
-    requires { IsCounted election.now counted.now }
-    ensures { IfOk result (λ sums. sums.items ≡
-        map (in_category election.now categories.now (winners_of counted.now))
-        (range_with_len 0 (length categories.now.names.now))) }
-{
-    // What is true of every election is true of the places of its winners.
-    let _budget = election.budget();
-    let winners = counted.winners(alloc)?;
-    let sums = add_up(alloc, election, categories, winners.as_slice());
-    drop(winners);
-    sums
 }
 
 /// What each category has of the winners at these places.
@@ -120,7 +92,6 @@ fn add_up(
 /// Their table, where the categories have this of the winners.
 fn put_table(
     page: &mut Vec<u8>,
-    alloc: Global,
     language: &Language,
     budget: Money,
     categories: &Categories,
@@ -129,18 +100,17 @@ fn put_table(
     ensures { OnOk result (Grows page.old.items page.new.items
         (sums_table language.now budget categories.now sums.now)) }
 {
-    put_head(page, alloc, language)?;
-    put_rows(page, alloc, language, budget, categories, sums)?;
-    put(page, alloc, TABLE_CLOSING, &[])
+    put_head(page, language)?;
+    put_rows(page, language, budget, categories, sums)?;
+    put(page, TABLE_CLOSING, &[])
 }
 
 /// The head of their table.
-fn put_head(page: &mut Vec<u8>, alloc: Global, language: &Language) -> Result<(), NoMemory>
+fn put_head(page: &mut Vec<u8>, language: &Language) -> Result<(), NoMemory>
     ensures { OnOk result (Grows page.old.items page.new.items (categories_head language.now ∷ [])) }
 {
     put(
         page,
-        alloc,
         CATEGORIES_OPENING,
         &[
             Value::Text(language.text(keys::CATEGORIES_HEADING)),
@@ -155,7 +125,6 @@ fn put_head(page: &mut Vec<u8>, alloc: Global, language: &Language) -> Result<()
 /// A row for each category.
 fn put_rows(
     page: &mut Vec<u8>,
-    alloc: Global,
     language: &Language,
     budget: Money,
     categories: &Categories,
@@ -167,7 +136,6 @@ fn put_rows(
     for number in 0..sums.len() {
         put_row(
             page,
-            alloc,
             &*language,
             budget,
             categories.name(number),
@@ -180,7 +148,6 @@ fn put_rows(
 /// The row of a category with this text, which has this of the winners.
 fn put_row<'a>(
     page: &mut Vec<u8>,
-    alloc: Global,
     language: &Language<'a>,
     budget: Money,
     name: &'a str,
@@ -196,7 +163,6 @@ fn put_row<'a>(
     };
     put(
         page,
-        alloc,
         CATEGORY,
         &[
             Value::Text(shown),

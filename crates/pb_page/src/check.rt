@@ -3,11 +3,11 @@
 ghost use Rattle.std.specs.Prelude.{◌≡◌, [], ◌∷◌, OnOk};
 ghost use Rattle.pb_page.specs.Inner.Grown.{Grows};
 ghost use Rattle.pb_page.specs.Inner.Pieces.{command, command_closing, completion_option, journal_source};
-ghost use Rattle.pb_page.specs.Inner.Pieces.{link, measure_option, named, option_places, options_said};
+ghost use Rattle.pb_page.specs.Inner.Pieces.{link, made, measure_option, named, option_places, options_said};
 ghost use Rattle.pb_page.specs.Inner.Pieces.{recount, recounting, sources};
 ghost use Rattle.pb_page.specs.declared.keys.TheConstants as key;
 ghost use Rattle.pb_page.specs.declared.templates.TheConstants.{CHECK_OPENING, RECOUNT_LINK};
-ghost use Rattle.pb_page.specs.Page.{at, check, filling, made, say, text};
+ghost use Rattle.pb_page.specs.Page.{at, check, filling, say, text};
 
 use crate::facts::{Facts, ReadText};
 use crate::keys;
@@ -24,26 +24,20 @@ use pb_rounds::measure::Measure;
 use pb_rounds::options::{Completion, CountOptions};
 use pb_rounds::rule::{FillUp, Rule};
 use pb_rounds::rule_names::{completion_name, measure_name};
-use std::alloc::Global;
 
 /// What was counted, where a page recounts it, and the command that does.
-pub(crate) fn put_check(
-    page: &mut Vec<u8>,
-    alloc: Global,
-    language: &Language,
-    facts: &Facts,
-) -> Result<(), NoMemory>
-    ensures { OnOk result (Grows page.old.items page.new.items (check language.now facts.now)) }
+pub(crate) fn put_check(page: &mut Vec<u8>, facts: &Facts, rule: &Rule) -> Result<(), NoMemory>
+    ensures { OnOk result (Grows page.old.items page.new.items (check facts.now rule.now)) }
 {
-    put_sources(page, alloc, language, facts.file, facts.journal)?;
-    put_link(page, alloc, language, facts.recount)?;
-    put_command(page, alloc, language, facts)
+    let language = &facts.language;
+    put_sources(page, language, facts.file, facts.journal)?;
+    put_link(page, language, facts.recount)?;
+    put_command(page, facts, rule)
 }
 
 /// What was counted.
 fn put_sources(
     page: &mut Vec<u8>,
-    alloc: Global,
     language: &Language,
     file: ReadText<'_>,
     journal: Option<ReadText<'_>>,
@@ -51,20 +45,19 @@ fn put_sources(
     ensures { OnOk result (Grows page.old.items page.new.items
         (sources language.now file.entry journal.entry)) }
 {
-    put_heading(page, alloc, language)?;
-    put_source(page, alloc, CHECK_FILE, file)?;
-    put_journal(page, alloc, journal)
+    put_heading(page, language)?;
+    put_source(page, CHECK_FILE, file)?;
+    put_journal(page, journal)
 }
 
 /// The heading.
-fn put_heading(page: &mut Vec<u8>, alloc: Global, language: &Language) -> Result<(), NoMemory>
+fn put_heading(page: &mut Vec<u8>, language: &Language) -> Result<(), NoMemory>
     ensures { OnOk result (Grows page.old.items page.new.items
         (filling CHECK_OPENING.now (at language.now key.CHECK_HEADING ∷ at language.now key.CHECK_BYTES
         ∷ []) ∷ [])) }
 {
     put(
         page,
-        alloc,
         CHECK_OPENING,
         &[
             Value::Text(language.text(keys::CHECK_HEADING)),
@@ -75,69 +68,48 @@ fn put_heading(page: &mut Vec<u8>, alloc: Global, language: &Language) -> Result
 
 /// The journal, if there is one.
 #[tactic(auto, using(crate::proofs::Grown::none))]
-fn put_journal(
-    page: &mut Vec<u8>,
-    alloc: Global,
-    journal: Option<ReadText<'_>>,
-) -> Result<(), NoMemory>
+fn put_journal(page: &mut Vec<u8>, journal: Option<ReadText<'_>>) -> Result<(), NoMemory>
     ensures { OnOk result (Grows page.old.items page.new.items (journal_source journal.entry)) }
 {
     match journal {
-        Some(journal) => put_source(page, alloc, CHECK_JOURNAL, journal),
+        Some(journal) => put_source(page, CHECK_JOURNAL, journal),
         None => Ok(()),
     }
 }
 
 /// A text that was read.
-fn put_source(
-    page: &mut Vec<u8>,
-    alloc: Global,
-    piece: &'static str,
-    source: ReadText<'_>,
-) -> Result<(), NoMemory>
+fn put_source(page: &mut Vec<u8>, piece: &'static str, source: ReadText<'_>) -> Result<(), NoMemory>
     ensures { OnOk result (Grows page.old.items page.new.items (named piece.now source.entry ∷ [])) }
 {
     put(
         page,
-        alloc,
         piece,
         &[Value::Text(source.name), Value::Text(source.digest)],
     )
 }
 
 /// Where a page recounts them, if one does.
-fn put_link(
-    page: &mut Vec<u8>,
-    alloc: Global,
-    language: &Language,
-    address: Option<&str>,
-) -> Result<(), NoMemory>
+fn put_link(page: &mut Vec<u8>, language: &Language, address: Option<&str>) -> Result<(), NoMemory>
     ensures { OnOk result (Grows page.old.items page.new.items (link language.now address.entry)) }
 {
     match address {
-        Some(address) => put_recount(page, alloc, language, address),
-        None => put_command_head(page, alloc, language, NO_RECOUNT, keys::PROGRAM),
+        Some(address) => put_recount(page, language, address),
+        None => put_command_head(page, language, NO_RECOUNT, keys::PROGRAM),
     }
 }
 
 /// Where a page recounts them.
-fn put_recount(
-    page: &mut Vec<u8>,
-    alloc: Global,
-    language: &Language,
-    address: &str,
-) -> Result<(), NoMemory>
+fn put_recount(page: &mut Vec<u8>, language: &Language, address: &str) -> Result<(), NoMemory>
     ensures { OnOk result (Grows page.old.items page.new.items (recount language.now address.now)) }
 {
-    put(page, alloc, RECOUNT_OPENING, &[])?;
-    say_recount(page, alloc, language, address)?;
-    put_command_head(page, alloc, language, RECOUNT_CLOSING, keys::PROGRAM_TOO)
+    put(page, RECOUNT_OPENING, &[])?;
+    say_recount(page, language, address)?;
+    put_command_head(page, language, RECOUNT_CLOSING, keys::PROGRAM_TOO)
 }
 
 /// What is said of that page, with a link to it.
 fn say_recount<'a>(
     page: &mut Vec<u8>,
-    alloc: Global,
     language: &Language<'a>,
     address: &'a str,
 ) -> Result<(), NoMemory>
@@ -147,7 +119,6 @@ fn say_recount<'a>(
     let link = [Value::Text(address), Value::Text(language.text(keys::LINK))];
     say(
         page,
-        alloc,
         language,
         keys::RECOUNT,
         &[Place {
@@ -160,7 +131,6 @@ fn say_recount<'a>(
 /// What is said above the command.
 fn put_command_head(
     page: &mut Vec<u8>,
-    alloc: Global,
     language: &Language,
     piece: &'static str,
     key: u16,
@@ -168,47 +138,37 @@ fn put_command_head(
     ensures { OnOk result (Grows page.old.items page.new.items
         (filling piece.now (at language.now key ∷ []) ∷ [])) }
 {
-    put(page, alloc, piece, &[Value::Text(language.text(key))])
+    put(page, piece, &[Value::Text(language.text(key))])
 }
 
 /// The command that recounts them, and what is said below it.
-fn put_command(
-    page: &mut Vec<u8>,
-    alloc: Global,
-    language: &Language,
-    facts: &Facts,
-) -> Result<(), NoMemory>
-    ensures { OnOk result (Grows page.old.items page.new.items (command language.now facts.now)) }
+fn put_command(page: &mut Vec<u8>, facts: &Facts, rule: &Rule) -> Result<(), NoMemory>
+    ensures { OnOk result (Grows page.old.items page.new.items (command facts.now rule.now)) }
 {
-    put_program(page, alloc, facts.journal)?;
-    let rule = &facts.rule;
-    put_measure(page, alloc, rule.options.measure)?;
-    put_completion(page, alloc, rule.options.completion, rule.fill_up)?;
-    put_made(page, alloc, language, facts)
+    put_program(page, facts.journal)?;
+    put_measure(page, rule.options.measure)?;
+    put_completion(page, rule.options.completion, rule.fill_up)?;
+    put_made(page, facts, rule)
 }
 
 /// The command that recounts them, up to its options.
-fn put_program(
-    page: &mut Vec<u8>,
-    alloc: Global,
-    journal: Option<ReadText<'_>>,
-) -> Result<(), NoMemory>
+fn put_program(page: &mut Vec<u8>, journal: Option<ReadText<'_>>) -> Result<(), NoMemory>
     ensures { OnOk result (Grows page.old.items page.new.items (recounting journal.entry)) }
 {
     match journal {
-        Some(_) => put(page, alloc, AUDIT, &[]),
-        None => put(page, alloc, COUNT, &[]),
+        Some(_) => put(page, AUDIT, &[]),
+        None => put(page, COUNT, &[]),
     }
 }
 
 /// The option for a measure.
 #[tactic(auto, using(crate::proofs::Grown::none))]
-fn put_measure(page: &mut Vec<u8>, alloc: Global, measure: Measure) -> Result<(), NoMemory>
+fn put_measure(page: &mut Vec<u8>, measure: Measure) -> Result<(), NoMemory>
     ensures { OnOk result (Grows page.old.items page.new.items (measure_option measure)) }
 {
     match measure {
         Measure::Votes => Ok(()),
-        Measure::Cost => put(page, alloc, OPTION_COST, &[]),
+        Measure::Cost => put(page, OPTION_COST, &[]),
     }
 }
 
@@ -216,59 +176,44 @@ fn put_measure(page: &mut Vec<u8>, alloc: Global, measure: Measure) -> Result<()
 #[tactic(auto, using(crate::proofs::Grown::none))]
 fn put_completion(
     page: &mut Vec<u8>,
-    alloc: Global,
     completion: Completion,
     fill_up: FillUp,
 ) -> Result<(), NoMemory>
     ensures { OnOk result (Grows page.old.items page.new.items (completion_option completion fill_up)) }
 {
     match (completion, fill_up) {
-        (Completion::Plain, FillUp::Nothing) => put(page, alloc, OPTION_PLAIN, &[]),
+        (Completion::Plain, FillUp::Nothing) => put(page, OPTION_PLAIN, &[]),
         (Completion::Add1, FillUp::Nothing) => Ok(()),
-        (Completion::Plain, FillUp::MostVotes) => put(page, alloc, OPTION_UTILITARIAN, &[]),
-        (Completion::Add1, FillUp::MostVotes) => put(page, alloc, OPTION_ADD1U, &[]),
+        (Completion::Plain, FillUp::MostVotes) => put(page, OPTION_UTILITARIAN, &[]),
+        (Completion::Add1, FillUp::MostVotes) => put(page, OPTION_ADD1U, &[]),
     }
 }
 
 /// The options in words, the program that made the page, and its end.
-fn put_made(
-    page: &mut Vec<u8>,
-    alloc: Global,
-    language: &Language,
-    facts: &Facts,
-) -> Result<(), NoMemory>
-    ensures { OnOk result (Grows page.old.items page.new.items (made language.now facts.now)) }
+fn put_made(page: &mut Vec<u8>, facts: &Facts, rule: &Rule) -> Result<(), NoMemory>
+    ensures { OnOk result (Grows page.old.items page.new.items (made facts.now rule.now)) }
 {
-    put_options(page, alloc, language, &facts.rule)?;
-    say_made_by(page, alloc, language, facts.program)?;
-    put(page, alloc, CLOSING, &[])
+    let language = &facts.language;
+    put_options(page, language, rule)?;
+    say_made_by(page, language, facts.program)?;
+    put(page, CLOSING, &[])
 }
 
 /// The end of the command, and the options in words.
-fn put_options(
-    page: &mut Vec<u8>,
-    alloc: Global,
-    language: &Language,
-    rule: &Rule,
-) -> Result<(), NoMemory>
+fn put_options(page: &mut Vec<u8>, language: &Language, rule: &Rule) -> Result<(), NoMemory>
     ensures { OnOk result (Grows page.old.items page.new.items (options_said language.now rule.now)) }
 {
-    put_command_closing(page, alloc, &rule.options)?;
-    say_options(page, alloc, language, rule)?;
-    put(page, alloc, MADE_BY_OPENING, &[])
+    put_command_closing(page, &rule.options)?;
+    say_options(page, language, rule)?;
+    put(page, MADE_BY_OPENING, &[])
 }
 
 /// The end of the command.
-fn put_command_closing(
-    page: &mut Vec<u8>,
-    alloc: Global,
-    options: &CountOptions,
-) -> Result<(), NoMemory>
+fn put_command_closing(page: &mut Vec<u8>, options: &CountOptions) -> Result<(), NoMemory>
     ensures { OnOk result (Grows page.old.items page.new.items (command_closing options.now ∷ [])) }
 {
     put(
         page,
-        alloc,
         COMMAND_CLOSING,
         &[
             Value::Number(options.step.0),
@@ -278,12 +223,7 @@ fn put_command_closing(
 }
 
 /// The options in words.
-fn say_options(
-    page: &mut Vec<u8>,
-    alloc: Global,
-    language: &Language,
-    rule: &Rule,
-) -> Result<(), NoMemory>
+fn say_options(page: &mut Vec<u8>, language: &Language, rule: &Rule) -> Result<(), NoMemory>
     ensures { OnOk result (Grows page.old.items page.new.items
         (say language.now key.OPTIONS (option_places language.now rule.now))) }
 {
@@ -299,7 +239,6 @@ fn say_options(
     ];
     say(
         page,
-        alloc,
         language,
         keys::OPTIONS,
         &[
@@ -326,7 +265,6 @@ fn say_options(
 /// Which program made the page.
 fn say_made_by<'a>(
     page: &mut Vec<u8>,
-    alloc: Global,
     language: &Language<'a>,
     program: &'a str,
 ) -> Result<(), NoMemory>
@@ -336,7 +274,6 @@ fn say_made_by<'a>(
     let program = [Value::Text(program)];
     say(
         page,
-        alloc,
         language,
         keys::MADE_BY,
         &[Place {

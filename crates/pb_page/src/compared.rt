@@ -2,8 +2,8 @@
 
 ghost use Rattle.std.specs.Prelude.{◌≡◌, [], ◌∷◌, OnOk};
 ghost use Rattle.pb_page.specs.Inner.Grown.{Grows};
-ghost use Rattle.pb_page.specs.Inner.Pieces.{compared_head};
-ghost use Rattle.pb_page.specs.Page.{besides, compared, compared_row};
+ghost use Rattle.pb_page.specs.Inner.Pieces.{compared, compared_head};
+ghost use Rattle.pb_page.specs.Page.{besides, compared_row};
 
 use crate::facts::Facts;
 use crate::keys;
@@ -11,51 +11,41 @@ use crate::language::Language;
 use crate::markup::Value;
 use crate::put::put;
 use crate::templates::{COMPARED_OPENING, COMPARED_ROW, TABLE_CLOSING};
-use pb_core::election::Election;
 use pb_core::no_memory::NoMemory;
-use pb_reasons::{Comparison, Counted, RuleRow, compare_with_votes};
-use std::alloc::Global;
+use pb_reasons::{Comparison, CountedElection, RuleRow, compare_with_votes};
 
 /// Both rules, where the facts ask for them; otherwise nothing.
 #[tactic(auto, using(crate::proofs::Grown::none), unfolding(crate::specs::Page::besides))]
 pub(crate) fn put_besides(
     page: &mut Vec<u8>,
-    alloc: Global,
-    election: &Election,
-    counted: &Counted,
     facts: &Facts,
+    count: &CountedElection,
 ) -> Result<(), NoMemory>
-    ensures { OnOk result (Grows page.old.items page.new.items (besides election.now counted.now facts.now)) }
+    ensures { OnOk result (Grows page.old.items page.new.items (besides facts.now count.now)) }
 {
     if !facts.compares {
         return Ok(());
     }
-    let rules = compare_with_votes(alloc, election, counted)?;
-    put_compared(page, alloc, &facts.language, &rules)
+    let rules = compare_with_votes(*page.allocator(), count)?;
+    put_compared(page, &facts.language, &rules)
 }
 
 /// Both rules: a row for each.
-fn put_compared(
-    page: &mut Vec<u8>,
-    alloc: Global,
-    language: &Language,
-    rules: &Comparison,
-) -> Result<(), NoMemory>
+fn put_compared(page: &mut Vec<u8>, language: &Language, rules: &Comparison) -> Result<(), NoMemory>
     ensures { OnOk result (Grows page.old.items page.new.items (compared language.now rules.now)) }
 {
-    put_head(page, alloc, language)?;
-    put_row(page, alloc, language, keys::EQUAL_SHARES, &rules.own)?;
-    put_row(page, alloc, language, keys::MOST_VOTES, &rules.other)?;
-    put(page, alloc, TABLE_CLOSING, &[])
+    put_head(page, language)?;
+    put_row(page, language, keys::EQUAL_SHARES, &rules.own)?;
+    put_row(page, language, keys::MOST_VOTES, &rules.other)?;
+    put(page, TABLE_CLOSING, &[])
 }
 
 /// The head of their table.
-fn put_head(page: &mut Vec<u8>, alloc: Global, language: &Language) -> Result<(), NoMemory>
+fn put_head(page: &mut Vec<u8>, language: &Language) -> Result<(), NoMemory>
     ensures { OnOk result (Grows page.old.items page.new.items (compared_head language.now ∷ [])) }
 {
     put(
         page,
-        alloc,
         COMPARED_OPENING,
         &[
             Value::Text(language.text(keys::COMPARED_HEADING)),
@@ -71,7 +61,6 @@ fn put_head(page: &mut Vec<u8>, alloc: Global, language: &Language) -> Result<()
 /// The row of a rule.
 fn put_row(
     page: &mut Vec<u8>,
-    alloc: Global,
     language: &Language,
     rule: u16,
     row: &RuleRow,
@@ -81,7 +70,6 @@ fn put_row(
 {
     put(
         page,
-        alloc,
         COMPARED_ROW,
         &[
             Value::Text(language.text(rule)),

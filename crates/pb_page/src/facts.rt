@@ -2,7 +2,6 @@
 
 use crate::categories::Categories;
 use crate::language::Language;
-use pb_rounds::rule::Rule;
 
 /// A text that was read.
 #[derive(Clone, Copy)]
@@ -24,8 +23,6 @@ pub struct Facts<'a> {
     pub journal: Option<ReadText<'a>>,
     /// Where a page lies that recounts in a browser, if one does.
     pub recount: Option<&'a str>,
-    /// By which rule it was counted.
-    pub rule: Rule,
     /// The page also has the comparison with most votes first.
     pub compares: bool,
     /// The categories of the projects, if they have any.

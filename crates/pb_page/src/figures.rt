@@ -2,11 +2,9 @@
 
 ghost use Rattle.std.specs.Prelude.{◌≡◌};
 ghost use Rattle.pb_page.specs.Inner.Pieces.{figures_of};
-ghost use Rattle.pb_reasons.specs.Counted.{IsCounted};
 
-use pb_core::election::Election;
 use pb_core::money::Money;
-use pb_reasons::{Counted, Totals};
+use pb_reasons::CountedElection;
 
 /// The numbers of the whole.
 #[derive(Clone, Copy)]
@@ -24,17 +22,17 @@ pub struct Figures {
 }
 
 impl Figures {
-    /// Those of what a count of this election comes to.
-    pub(crate) fn of(election: &Election, counted: &Counted) -> Figures
-        requires { IsCounted election.now counted.now }
-        ensures { result ≡ figures_of election.now counted.now }
+    /// Those of a counted election.
+    pub(crate) fn of(count: &CountedElection) -> Figures
+        ensures { result ≡ figures_of count.now }
     {
-        let totals = Totals::of(election, counted);
+        let election = count.election();
+        let totals = count.totals();
         let budget = election.budget();
         Figures {
             voters: election.voters().len() as u64,
             projects: election.projects().len() as u64,
-            won: (counted.elected().len() + counted.added().len()) as u64,
+            won: count.winners().len() as u64,
             budget,
             spent: totals.spent,
             left: Money(budget.0.saturating_sub(totals.spent.0)),

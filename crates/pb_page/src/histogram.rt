@@ -2,31 +2,32 @@
 
 ghost use Rattle.std.specs.Prelude.{◌≡◌, ◌<◌, ◌^◌, IfOk, length, map};
 ghost use Rattle.std.specs.List.{range_with_len};
-ghost use Rattle.pb_page.specs.Page.{at_least, exactly, won_by_voter};
+ghost use Rattle.pb_page.specs.Page.{at_least, exactly};
+ghost use Rattle.pb_page.specs.Inner.Pieces.{won_by_voter};
 ghost use Rattle.pb_price.specs.Supporters.{ballot_at};
 ghost use Rattle.pb_reasons.specs.Comparison.{choices_of};
-ghost use Rattle.pb_reasons.specs.Counted.{IsCounted};
 
 use pb_core::election::Election;
 use pb_core::no_memory::NoMemory;
-use pb_reasons::{Counted, Winners};
+use pb_reasons::{CountedElection, Winners};
 use std::alloc::Global;
 
+/// A row of the histogram.
+#[derive(Clone, Copy)]
+pub struct BallotsRow {
+    /// The key of what is said of so many winners.
+    pub said: u16,
+    /// So many winners.
+    pub number: u32,
+    /// On this many ballots.
+    pub ballots: u64,
+}
+
 /// How many of each voter's choices won, voters in the order of the file.
-pub(crate) fn won_by_voter(
-    alloc: Global,
-    election: &Election,
-    counted: &Counted,
-) -> Result<Vec<u32>, NoMemory>
-    requires { IsCounted election.now counted.now }
-    ensures { IfOk result (λ won. won.items ≡ won_by_voter election.now counted.now) }
+pub(crate) fn won_by_voter(alloc: Global, count: &CountedElection) -> Result<Vec<u32>, NoMemory>
+    ensures { IfOk result (λ won. won.items ≡ won_by_voter count.now) }
 {
-    // What is true of every election is true of its winners.
-    let _budget = election.budget();
-    let places = counted.winners(alloc)?;
-    let won = choices_among(alloc, election, places.as_slice());
-    drop(places);
-    won
+    choices_among(alloc, count.election(), count.winners())
 }
 
 /// How many of each voter's choices are among these places, voters in the order of the file.

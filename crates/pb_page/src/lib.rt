@@ -19,6 +19,7 @@ mod made;
 pub mod markup;
 mod others;
 mod own_category;
+mod project_row;
 mod put;
 mod raises_ended;
 mod rule;

@@ -9,26 +9,19 @@ ghost use Rattle.pb_page.specs.Page.{filling, say};
 use crate::language::Language;
 use crate::markup::{Place, Value, fill};
 use pb_core::no_memory::NoMemory;
-use std::alloc::Global;
 
 /// Puts a piece after a page, filled with these values.
-pub(crate) fn put(
-    page: &mut Vec<u8>,
-    alloc: Global,
-    piece: &'static str,
-    values: &[Value],
-) -> Result<(), NoMemory>
+pub(crate) fn put(page: &mut Vec<u8>, piece: &'static str, values: &[Value]) -> Result<(), NoMemory>
     ensures { OnOk result (Grows page.old.items page.new.items
         (filling piece.now (map text_of values.now) ∷ [])) }
 {
-    fill(page, alloc, piece, values)?;
+    fill(page, piece, values)?;
     Ok(())
 }
 
 /// Puts the sentence at a key after a page, with this at its places.
 pub(crate) fn say(
     page: &mut Vec<u8>,
-    alloc: Global,
     language: &Language,
     key: u16,
     places: &[Place],
@@ -36,6 +29,6 @@ pub(crate) fn say(
     ensures { OnOk result (Grows page.old.items page.new.items
         (say language.now key (map at_place places.now))) }
 {
-    crate::markup::say(page, alloc, language.text(key), places)?;
+    crate::markup::say(page, language.text(key), places)?;
     Ok(())
 }

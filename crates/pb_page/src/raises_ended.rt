@@ -18,13 +18,11 @@ use pb_core::money::Money;
 use pb_core::no_memory::NoMemory;
 use pb_core::project::Project;
 use pb_reasons::{NextRaise, RaiseEnd};
-use std::alloc::Global;
 
 /// Why the raises ended; nothing where the count has none.
 #[tactic(auto, using(crate::proofs::Grown::none))]
 pub(crate) fn put_end(
     page: &mut Vec<u8>,
-    alloc: Global,
     language: &Language,
     election: &Election,
     end: &RaiseEnd,
@@ -35,15 +33,14 @@ pub(crate) fn put_end(
 {
     match end {
         RaiseEnd::Plain => Ok(()),
-        RaiseEnd::Exhausted => put_item(page, alloc, language, keys::EXHAUSTED),
-        RaiseEnd::Over(next) => put_over(page, alloc, language, election, next),
+        RaiseEnd::Exhausted => put_item(page, language, keys::EXHAUSTED),
+        RaiseEnd::Over(next) => put_over(page, language, election, next),
     }
 }
 
 /// What one raise more would elect.
 fn put_over(
     page: &mut Vec<u8>,
-    alloc: Global,
     language: &Language,
     election: &Election,
     next: &NextRaise,
@@ -52,30 +49,28 @@ fn put_over(
     ensures { OnOk result (Grows page.old.items page.new.items
         (raises_ended language.now election.now (RaiseEnd.Over next.now))) }
 {
-    put_sentence(page, alloc, language, next.share, next.cost)?;
-    put_projects(page, alloc, language, election, next.only_then.as_slice())?;
-    put(page, alloc, LIST_CLOSING, &[])
+    put_sentence(page, language, next.share, next.cost)?;
+    put_projects(page, language, election, next.only_then.as_slice())?;
+    put(page, LIST_CLOSING, &[])
 }
 
 /// That it would cost more than the budget, and the head of the list of projects.
 fn put_sentence(
     page: &mut Vec<u8>,
-    alloc: Global,
     language: &Language,
     share: Money,
     cost: Money,
 ) -> Result<(), NoMemory>
     ensures { OnOk result (Grows page.old.items page.new.items (over_said language.now share cost)) }
 {
-    put(page, alloc, ITEM_OPENING, &[])?;
-    say_over(page, alloc, language, share, cost)?;
-    put_head(page, alloc, language)
+    put(page, ITEM_OPENING, &[])?;
+    say_over(page, language, share, cost)?;
+    put_head(page, language)
 }
 
 /// That it would cost more than the budget.
 fn say_over(
     page: &mut Vec<u8>,
-    alloc: Global,
     language: &Language,
     share: Money,
     cost: Money,
@@ -94,7 +89,6 @@ fn say_over(
     ];
     say(
         page,
-        alloc,
         language,
         keys::OVER,
         &[
@@ -111,13 +105,12 @@ fn say_over(
 }
 
 /// The head of the list of projects.
-fn put_head(page: &mut Vec<u8>, alloc: Global, language: &Language) -> Result<(), NoMemory>
+fn put_head(page: &mut Vec<u8>, language: &Language) -> Result<(), NoMemory>
     ensures { OnOk result (Grows page.old.items page.new.items
         (filling ONLY_THEN_OPENING.now (at language.now key.ONLY_THEN ∷ []) ∷ [])) }
 {
     put(
         page,
-        alloc,
         ONLY_THEN_OPENING,
         &[Value::Text(language.text(keys::ONLY_THEN))],
     )
@@ -126,7 +119,6 @@ fn put_head(page: &mut Vec<u8>, alloc: Global, language: &Language) -> Result<()
 /// The projects at these places.
 fn put_projects(
     page: &mut Vec<u8>,
-    alloc: Global,
     language: &Language,
     election: &Election,
     places: &[u32],
@@ -138,7 +130,7 @@ fn put_projects(
     let projects = election.projects();
     for place in places {
         let project = &projects[*place as usize];
-        put_project(page, alloc, &*language, project)?;
+        put_project(page, &*language, project)?;
     }
     Ok(())
 }
@@ -146,7 +138,6 @@ fn put_projects(
 /// A project of the list.
 fn put_project<'a>(
     page: &mut Vec<u8>,
-    alloc: Global,
     language: &Language<'a>,
     project: &'a Project,
 ) -> Result<(), NoMemory>
@@ -154,7 +145,6 @@ fn put_project<'a>(
 {
     put(
         page,
-        alloc,
         ONLY_THEN,
         &[
             Value::Text(project.id()),

@@ -10,62 +10,67 @@ ghost use Rattle.pb_page.specs.Page.{amount, at, filling, noun_at, number, rule,
 ghost use Rattle.pb_page.specs.declared.keys.TheConstants as key;
 ghost use Rattle.pb_page.specs.declared.templates.TheConstants.{NAMELESS, RULE_NEXT, RULE_OPENING};
 
-use crate::facts::Facts;
 use crate::keys;
 use crate::language::Language;
 use crate::markup::{Place, Value};
 use crate::put::{put, say};
 use crate::raises_ended::put_end;
 use crate::templates::{AMOUNT, ITEM, NAMELESS, NUMBER, RULE_NEXT, RULE_OPENING, TEXT};
-use pb_core::election::Election;
 use pb_core::money::Money;
 use pb_core::no_memory::NoMemory;
-use pb_reasons::{Counted, RaiseEnd};
+use pb_reasons::{CountedElection, RaiseEnd};
 use pb_rounds::measure::Measure;
 use pb_rounds::options::Completion;
+use pb_rounds::outcome::Outcome;
 use pb_rounds::rule::{FillUp, Rule};
-use std::alloc::Global;
 
-/// How it was counted, by the rule of these facts, and why the raises ended.
+/// How it was counted, and why the raises ended.
 pub(crate) fn put_rule(
     page: &mut Vec<u8>,
-    alloc: Global,
-    election: &Election,
-    facts: &Facts,
-    counted: &Counted,
+    language: &Language,
+    count: &CountedElection,
     end: &RaiseEnd,
 ) -> Result<(), NoMemory>
-    requires { KnowsPlaces election.now end.now }
-    ensures { OnOk result (Grows page.old.items page.new.items
-        (rule facts.now.language election.now facts.now.rule end.now counted.now.outcome.share
-        counted.now.outcome.raised)) }
+    requires { KnowsPlaces count.now.election end.now }
+    ensures { OnOk result (Grows page.old.items page.new.items (rule language.now count.now end.now)) }
 {
-    let language = &facts.language;
-    put_counted(page, alloc, language, &facts.rule, counted)?;
-    put_end(page, alloc, language, election, end)?;
-    put_last(page, alloc, language, &facts.rule)
+    put_counted(page, language, count)?;
+    put_end(page, language, count.election(), end)?;
+    put_last(page, language, &count.rule())
 }
 
 /// How the rounds were held.
 fn put_counted(
     page: &mut Vec<u8>,
-    alloc: Global,
     language: &Language,
-    rule: &Rule,
-    counted: &Counted,
+    count: &CountedElection,
 ) -> Result<(), NoMemory>
-    ensures { OnOk result (Grows page.old.items page.new.items
-        (rounds_said language.now rule.now counted.now.outcome.share counted.now.outcome.raised)) }
+    ensures { OnOk result (Grows page.old.items page.new.items (rounds_said language.now count.now.rule
+        count.now.counted.outcome.share count.now.counted.outcome.raised)) }
 {
-    let share = counted.share();
-    let raised = counted.raised();
-    put_rounds(page, alloc, language, rule, share, raised)
+    let outcome = count.outcome();
+    let share = share_of(outcome);
+    let raised = raised_by(outcome);
+    put_rounds(page, language, &count.rule(), share, raised)
+}
+
+/// Everyone's share in this outcome.
+fn share_of(outcome: &Outcome) -> Money
+    ensures { result ≡ outcome.now.share }
+{
+    outcome.share
+}
+
+/// How many raises led to this outcome.
+fn raised_by(outcome: &Outcome) -> u32
+    ensures { result ≡ outcome.now.raised }
+{
+    outcome.raised
 }
 
 /// The sentences on the rounds of a count with this share, after so many raises.
 fn put_rounds(
     page: &mut Vec<u8>,
-    alloc: Global,
     language: &Language,
     rule: &Rule,
     share: Money,
@@ -74,28 +79,22 @@ fn put_rounds(
     ensures { OnOk result (Grows page.old.items page.new.items
         (rounds_said language.now rule.now share raised)) }
 {
-    put_share(page, alloc, language, rule.options.step, share, raised)?;
-    put_order(page, alloc, language, rule.options.measure)?;
-    put_item(page, alloc, language, raises_key(rule, raised))
+    put_share(page, language, rule.options.step, share, raised)?;
+    put_order(page, language, rule.options.measure)?;
+    put_item(page, language, raises_key(rule, raised))
 }
 
 /// What the rule is called, and how what was left was filled up.
-fn put_last(
-    page: &mut Vec<u8>,
-    alloc: Global,
-    language: &Language,
-    rule: &Rule,
-) -> Result<(), NoMemory>
+fn put_last(page: &mut Vec<u8>, language: &Language, rule: &Rule) -> Result<(), NoMemory>
     ensures { OnOk result (Grows page.old.items page.new.items (method_said language.now rule.now)) }
 {
-    put_item(page, alloc, language, method_key(rule))?;
-    put_filled_up(page, alloc, language, rule.fill_up)
+    put_item(page, language, method_key(rule))?;
+    put_filled_up(page, language, rule.fill_up)
 }
 
 /// How the share came about, and who can be paid.
 fn put_share(
     page: &mut Vec<u8>,
-    alloc: Global,
     language: &Language,
     step: Money,
     share: Money,
@@ -103,19 +102,18 @@ fn put_share(
 ) -> Result<(), NoMemory>
     ensures { OnOk result (Grows page.old.items page.new.items (share_rule language.now step share raised)) }
 {
-    put_heading(page, alloc, language)?;
-    say_share(page, alloc, language, step, share, u64::from(raised))?;
-    put_supporters(page, alloc, language)
+    put_heading(page, language)?;
+    say_share(page, language, step, share, u64::from(raised))?;
+    put_supporters(page, language)
 }
 
 /// The heading.
-fn put_heading(page: &mut Vec<u8>, alloc: Global, language: &Language) -> Result<(), NoMemory>
+fn put_heading(page: &mut Vec<u8>, language: &Language) -> Result<(), NoMemory>
     ensures { OnOk result (Grows page.old.items page.new.items
         (filling RULE_OPENING.now (at language.now key.RULE_HEADING ∷ []) ∷ [])) }
 {
     put(
         page,
-        alloc,
         RULE_OPENING,
         &[Value::Text(language.text(keys::RULE_HEADING))],
     )
@@ -124,7 +122,6 @@ fn put_heading(page: &mut Vec<u8>, alloc: Global, language: &Language) -> Result
 /// How the share came about.
 fn say_share(
     page: &mut Vec<u8>,
-    alloc: Global,
     language: &Language,
     step: Money,
     share: Money,
@@ -147,7 +144,6 @@ fn say_share(
     ];
     say(
         page,
-        alloc,
         language,
         keys::SHARE,
         &[
@@ -172,42 +168,31 @@ fn say_share(
 }
 
 /// Who can be paid.
-fn put_supporters(page: &mut Vec<u8>, alloc: Global, language: &Language) -> Result<(), NoMemory>
+fn put_supporters(page: &mut Vec<u8>, language: &Language) -> Result<(), NoMemory>
     ensures { OnOk result (Grows page.old.items page.new.items
         (filling RULE_NEXT.now (at language.now key.SUPPORTERS ∷ []) ∷ [])) }
 {
     put(
         page,
-        alloc,
         RULE_NEXT,
         &[Value::Text(language.text(keys::SUPPORTERS))],
     )
 }
 
 /// A sentence of the list.
-pub(crate) fn put_item(
-    page: &mut Vec<u8>,
-    alloc: Global,
-    language: &Language,
-    key: u16,
-) -> Result<(), NoMemory>
+pub(crate) fn put_item(page: &mut Vec<u8>, language: &Language, key: u16) -> Result<(), NoMemory>
     ensures { OnOk result (Grows page.old.items page.new.items (item language.now key ∷ [])) }
 {
-    put(page, alloc, ITEM, &[Value::Text(language.text(key))])
+    put(page, ITEM, &[Value::Text(language.text(key))])
 }
 
 /// Which project is elected first.
-fn put_order(
-    page: &mut Vec<u8>,
-    alloc: Global,
-    language: &Language,
-    measure: Measure,
-) -> Result<(), NoMemory>
+fn put_order(page: &mut Vec<u8>, language: &Language, measure: Measure) -> Result<(), NoMemory>
     ensures { OnOk result (Grows page.old.items page.new.items (order language.now measure ∷ [])) }
 {
     match measure {
-        Measure::Votes => put_item(page, alloc, language, keys::BY_VOTES),
-        Measure::Cost => put_item(page, alloc, language, keys::BY_COST),
+        Measure::Votes => put_item(page, language, keys::BY_VOTES),
+        Measure::Cost => put_item(page, language, keys::BY_COST),
     }
 }
 
@@ -241,16 +226,11 @@ fn method_key(rule: &Rule) -> u16
 
 /// How what was left was filled up, where it was.
 #[tactic(auto, using(crate::proofs::Grown::none))]
-fn put_filled_up(
-    page: &mut Vec<u8>,
-    alloc: Global,
-    language: &Language,
-    fill_up: FillUp,
-) -> Result<(), NoMemory>
+fn put_filled_up(page: &mut Vec<u8>, language: &Language, fill_up: FillUp) -> Result<(), NoMemory>
     ensures { OnOk result (Grows page.old.items page.new.items (filled_up language.now fill_up)) }
 {
     if fill_up.fills_up() {
-        put_item(page, alloc, language, keys::FILLED_UP)
+        put_item(page, language, keys::FILLED_UP)
     } else {
         Ok(())
     }

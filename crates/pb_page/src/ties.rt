@@ -2,14 +2,11 @@
 
 ghost use Rattle.std.specs.Prelude.{◌≡◌, [], ◌∷◌, OnOk, flat_map};
 ghost use Rattle.pb_page.specs.Inner.Grown.{Grows};
-ghost use Rattle.pb_page.specs.Inner.Pieces.{tie_list, tie_said};
+ghost use Rattle.pb_page.specs.Inner.Pieces.{tie_called, tie_list, tie_said, ties_told};
 ghost use Rattle.pb_rounds.specs.RuleNames.{by_measure};
 ghost use Rattle.pb_page.specs.Page.{at, called, filling, project_at, tie, ties};
 ghost use Rattle.pb_page.specs.declared.keys.TheConstants as key;
 ghost use Rattle.pb_page.specs.declared.templates.TheConstants.{TIES_OPENING};
-ghost use Rattle.pb_price.specs.Supporters.{support_of};
-ghost use Rattle.pb_reasons.specs.Counted.{IsCounted};
-ghost use Rattle.pb_reasons.specs.Ties.{ties_of};
 
 use crate::forms::called;
 use crate::keys;
@@ -19,76 +16,61 @@ use crate::put::{put, say};
 use crate::templates::{CALLED, ITEM_CLOSING, ITEM_OPENING, LIST_CLOSING, NUMBER, TIES_OPENING};
 use pb_core::election::Election;
 use pb_core::no_memory::NoMemory;
-use pb_price::supporters::Supporters;
-use pb_reasons::{Counted, Tie, ties_of};
+use pb_reasons::{CountedElection, Tie, ties_of};
 use pb_rounds::measure::Measure;
-use std::alloc::Global;
 
-/// The ties of a count by this measure, with these supporters of its projects; nothing where there are none.
+/// The ties of a count; nothing where there are none.
 pub(crate) fn put_ties(
     page: &mut Vec<u8>,
-    alloc: Global,
     language: &Language,
-    measure: Measure,
-    election: &Election,
-    supporters: &Supporters,
-    counted: &Counted,
+    count: &CountedElection,
 ) -> Result<(), NoMemory>
-    requires counted { IsCounted election.now counted.now }
-    requires supporters { supporters.now ≡ support_of election.now }
-    ensures { OnOk result (Grows page.old.items page.new.items
-        (ties language.now measure election.now (ties_of measure election.now counted.now.outcome))) }
+    ensures { OnOk result (Grows page.old.items page.new.items (ties language.now count.now)) }
 {
-    let told = ties_of(alloc, election, supporters, measure, counted)?;
-    let put = put_list(page, alloc, language, measure, election, told.as_slice());
+    let told = ties_of(*page.allocator(), count)?;
+    let put = put_list(page, language, count, told.as_slice());
     drop(told);
     put
 }
 
 /// These ties.
-#[tactic(auto, using(crate::proofs::Grown::none), unfolding(crate::specs::Page::ties))]
+#[tactic(auto, using(crate::proofs::Grown::none))]
 fn put_list(
     page: &mut Vec<u8>,
-    alloc: Global,
     language: &Language,
-    measure: Measure,
-    election: &Election,
+    count: &CountedElection,
     told: &[Tie],
 ) -> Result<(), NoMemory>
-    ensures { OnOk result (Grows page.old.items page.new.items
-        (ties language.now measure election.now told.now)) }
+    ensures { OnOk result (Grows page.old.items page.new.items (ties_told language.now count.now told.now)) }
 {
     if told.is_empty() {
         return Ok(());
     }
-    put_some(page, alloc, language, measure, election, told)
+    put_some(page, language, count, told)
 }
 
 /// These, of which there are some.
 fn put_some(
     page: &mut Vec<u8>,
-    alloc: Global,
     language: &Language,
-    measure: Measure,
-    election: &Election,
+    count: &CountedElection,
     told: &[Tie],
 ) -> Result<(), NoMemory>
     ensures { OnOk result (Grows page.old.items page.new.items
-        (tie_list language.now measure election.now told.now)) }
+        (tie_list language.now count.now told.now)) }
 {
-    put_heading(page, alloc, language)?;
-    put_each(page, alloc, language, measure, election, told)?;
-    put(page, alloc, LIST_CLOSING, &[])
+    put_heading(page, language)?;
+    put_each(page, language, count, told)?;
+    put(page, LIST_CLOSING, &[])
 }
 
 /// What heads them.
-fn put_heading(page: &mut Vec<u8>, alloc: Global, language: &Language) -> Result<(), NoMemory>
+fn put_heading(page: &mut Vec<u8>, language: &Language) -> Result<(), NoMemory>
     ensures { OnOk result (Grows page.old.items page.new.items
         (filling TIES_OPENING.now (at language.now key.TIES ∷ []) ∷ [])) }
 {
     put(
         page,
-        alloc,
         TIES_OPENING,
         &[Value::Text(language.text(keys::TIES))],
     )
@@ -97,17 +79,15 @@ fn put_heading(page: &mut Vec<u8>, alloc: Global, language: &Language) -> Result
 /// One after the other.
 fn put_each(
     page: &mut Vec<u8>,
-    alloc: Global,
     language: &Language,
-    measure: Measure,
-    election: &Election,
+    count: &CountedElection,
     told: &[Tie],
 ) -> Result<(), NoMemory>
     ensures { OnOk result (Grows page.old.items page.new.items
-        (flat_map (tie language.now measure election.now) told.now)) }
+        (flat_map (tie language.now count.now) told.now)) }
 {
     for tie in told {
-        put_tie(page, alloc, language, measure, election, tie)?;
+        put_tie(page, language, count, tie)?;
     }
     Ok(())
 }
@@ -115,43 +95,46 @@ fn put_each(
 /// A tie.
 fn put_tie(
     page: &mut Vec<u8>,
-    alloc: Global,
     language: &Language,
-    measure: Measure,
-    election: &Election,
+    count: &CountedElection,
+    told: &Tie,
+) -> Result<(), NoMemory>
+    ensures { OnOk result (Grows page.old.items page.new.items (tie language.now count.now told.now)) }
+{
+    put(page, ITEM_OPENING, &[])?;
+    say_tie(page, language, count, told)?;
+    put(page, ITEM_CLOSING, &[])
+}
+
+/// What is said of a tie.
+fn say_tie(
+    page: &mut Vec<u8>,
+    language: &Language,
+    count: &CountedElection,
     told: &Tie,
 ) -> Result<(), NoMemory>
     ensures { OnOk result (Grows page.old.items page.new.items
-        (tie language.now measure election.now told.now)) }
+        (tie_said language.now count.now told.now)) }
 {
+    let election = count.election();
     let winner = called_at(election, told.winner);
     let other = called_at(election, told.other);
-    put(page, alloc, ITEM_OPENING, &[])?;
-    say_tie(
-        page,
-        alloc,
-        language,
-        measure,
-        told.round as u64,
-        winner,
-        other,
-    )?;
-    put(page, alloc, ITEM_CLOSING, &[])
+    let key = key_of(count.rule().options.measure);
+    say_called(page, language, key, told.round as u64, (winner, other))
 }
 
-/// What is said of a tie between projects that are called so.
-fn say_tie<'a>(
+/// What is said of a tie of this round, between projects that are called so.
+fn say_called<'a>(
     page: &mut Vec<u8>,
-    alloc: Global,
     language: &Language,
-    measure: Measure,
+    key: u16,
     round: u64,
-    winner: &'a str,
-    other: &'a str,
+    names: (&'a str, &'a str),
 ) -> Result<(), NoMemory>
     ensures { OnOk result (Grows page.old.items page.new.items
-        (tie_said language.now measure round winner.now other.now)) }
+        (tie_called language.now key round names.entry.0.now names.entry.1.now)) }
 {
+    let (winner, other) = names;
     let values: &[Value] = &[
         Value::Text("round"),
         Value::Number(round),
@@ -160,9 +143,8 @@ fn say_tie<'a>(
     ];
     say(
         page,
-        alloc,
         language,
-        key_of(measure),
+        key,
         &[
             Place {
                 piece: NUMBER,

@@ -10,6 +10,7 @@ ghost use Rattle.pb_page.specs.declared.keys.TheConstants as key;
 ghost use Rattle.pb_page.specs.declared.style.TheConstants.{HEAD};
 ghost use Rattle.pb_page.specs.declared.templates.TheConstants.{BUDGET_OPENING};
 ghost use Rattle.pb_price.specs.Supporters.{cost_at, support_of};
+ghost use Rattle.pb_reasons.specs.Counted.{winners_of};
 
 use crate::figures::Figures;
 use crate::forms::{called, width};
@@ -26,12 +27,11 @@ use pb_core::election::Election;
 use pb_core::money::Money;
 use pb_core::no_memory::NoMemory;
 use pb_core::project::Project;
-use std::alloc::Global;
+use pb_reasons::CountedElection;
 
 /// What the page is about, who voted, what was spent, how many won.
 pub(crate) fn put_summary(
     page: &mut Vec<u8>,
-    alloc: Global,
     language: &Language,
     title: &str,
     figures: &Figures,
@@ -39,25 +39,19 @@ pub(crate) fn put_summary(
     ensures { OnOk result (Grows page.old.items page.new.items
         (whole_said language.now title.now figures.now)) }
 {
-    put_head(page, alloc, language, title)?;
-    put_voted(page, alloc, language, figures)?;
-    put(page, alloc, LEAD_NEXT, &[])?;
-    put_result(page, alloc, language, figures)
+    put_head(page, language, title)?;
+    put_voted(page, language, figures)?;
+    put(page, LEAD_NEXT, &[])?;
+    put_result(page, language, figures)
 }
 
 /// What the page is about.
-fn put_head(
-    page: &mut Vec<u8>,
-    alloc: Global,
-    language: &Language,
-    title: &str,
-) -> Result<(), NoMemory>
+fn put_head(page: &mut Vec<u8>, language: &Language, title: &str) -> Result<(), NoMemory>
     ensures { OnOk result (Grows page.old.items page.new.items
         (filling HEAD.now (at language.now key.LANG ∷ at language.now key.DIR ∷ title.now ∷ []) ∷ [])) }
 {
     put(
         page,
-        alloc,
         HEAD,
         &[
             Value::Text(language.text(keys::LANG)),
@@ -68,12 +62,7 @@ fn put_head(
 }
 
 /// Who voted, on what.
-fn put_voted(
-    page: &mut Vec<u8>,
-    alloc: Global,
-    language: &Language,
-    figures: &Figures,
-) -> Result<(), NoMemory>
+fn put_voted(page: &mut Vec<u8>, language: &Language, figures: &Figures) -> Result<(), NoMemory>
     ensures { OnOk result (Grows page.old.items page.new.items (say language.now key.VOTED
         (number (codes "voters") figures.now.voters ∷ number (codes "projects") figures.now.projects
         ∷ amount language.now.costs (codes "budget") figures.now.budget
@@ -93,7 +82,6 @@ fn put_voted(
     ];
     say(
         page,
-        alloc,
         language,
         keys::VOTED,
         &[
@@ -122,41 +110,30 @@ fn put_voted(
 }
 
 /// How many won, and what was spent; or that no project won.
-fn put_result(
-    page: &mut Vec<u8>,
-    alloc: Global,
-    language: &Language,
-    figures: &Figures,
-) -> Result<(), NoMemory>
+fn put_result(page: &mut Vec<u8>, language: &Language, figures: &Figures) -> Result<(), NoMemory>
     ensures { OnOk result (Grows page.old.items page.new.items (result_said language.now figures.now)) }
 {
     if figures.won == 0 {
-        put_none(page, alloc, language, figures)
+        put_none(page, language, figures)
     } else {
-        put_won(page, alloc, language, figures)
+        put_won(page, language, figures)
     }
 }
 
 /// That no project won.
-fn put_none(
-    page: &mut Vec<u8>,
-    alloc: Global,
-    language: &Language,
-    figures: &Figures,
-) -> Result<(), NoMemory>
+fn put_none(page: &mut Vec<u8>, language: &Language, figures: &Figures) -> Result<(), NoMemory>
     ensures { OnOk result (Grows page.old.items page.new.items (none_said language.now figures.now)) }
 {
-    put_nothing(page, alloc, figures)?;
-    say_left(page, alloc, language, figures.left)
+    put_nothing(page, figures)?;
+    say_left(page, language, figures.left)
 }
 
 /// What programs read where no project won.
-fn put_nothing(page: &mut Vec<u8>, alloc: Global, figures: &Figures) -> Result<(), NoMemory>
+fn put_nothing(page: &mut Vec<u8>, figures: &Figures) -> Result<(), NoMemory>
     ensures { OnOk result (Grows page.old.items page.new.items (nothing figures.now ∷ [])) }
 {
     put(
         page,
-        alloc,
         NOTHING,
         &[
             Value::Number(figures.won),
@@ -167,12 +144,7 @@ fn put_nothing(page: &mut Vec<u8>, alloc: Global, figures: &Figures) -> Result<(
 }
 
 /// What is left where no project won.
-fn say_left(
-    page: &mut Vec<u8>,
-    alloc: Global,
-    language: &Language,
-    left: Money,
-) -> Result<(), NoMemory>
+fn say_left(page: &mut Vec<u8>, language: &Language, left: Money) -> Result<(), NoMemory>
     ensures { OnOk result (Grows page.old.items page.new.items (say language.now key.NONE_WON
         (amount language.now.costs (codes "left") left ∷ []))) }
 {
@@ -183,7 +155,6 @@ fn say_left(
     ];
     say(
         page,
-        alloc,
         language,
         keys::NONE_WON,
         &[Place {
@@ -194,12 +165,7 @@ fn say_left(
 }
 
 /// How many won, and what was spent.
-fn put_won(
-    page: &mut Vec<u8>,
-    alloc: Global,
-    language: &Language,
-    figures: &Figures,
-) -> Result<(), NoMemory>
+fn put_won(page: &mut Vec<u8>, language: &Language, figures: &Figures) -> Result<(), NoMemory>
     ensures { OnOk result (Grows page.old.items page.new.items (say language.now key.WON
         (number (codes "won") figures.now.won ∷ amount language.now.costs (codes "spent") figures.now.spent
         ∷ amount language.now.costs (codes "left") figures.now.left
@@ -218,7 +184,6 @@ fn put_won(
     ];
     say(
         page,
-        alloc,
         language,
         keys::WON,
         &[
@@ -245,25 +210,23 @@ fn put_won(
 /// The head of the picture of the budget.
 pub(crate) fn put_picture(
     page: &mut Vec<u8>,
-    alloc: Global,
     language: &Language,
     figures: &Figures,
 ) -> Result<(), NoMemory>
     ensures { OnOk result (Grows page.old.items page.new.items (picture language.now figures.now)) }
 {
-    put_heading(page, alloc, language)?;
-    put_description(page, alloc, language, figures)?;
-    put(page, alloc, BLOCKS_OPENING, &[])
+    put_heading(page, language)?;
+    put_description(page, language, figures)?;
+    put(page, BLOCKS_OPENING, &[])
 }
 
 /// The heading above it.
-fn put_heading(page: &mut Vec<u8>, alloc: Global, language: &Language) -> Result<(), NoMemory>
+fn put_heading(page: &mut Vec<u8>, language: &Language) -> Result<(), NoMemory>
     ensures { OnOk result (Grows page.old.items page.new.items
         (filling BUDGET_OPENING.now (at language.now key.BUDGET_HEADING ∷ []) ∷ [])) }
 {
     put(
         page,
-        alloc,
         BUDGET_OPENING,
         &[Value::Text(language.text(keys::BUDGET_HEADING))],
     )
@@ -272,7 +235,6 @@ fn put_heading(page: &mut Vec<u8>, alloc: Global, language: &Language) -> Result
 /// What it says to those who can't see it.
 fn put_description(
     page: &mut Vec<u8>,
-    alloc: Global,
     language: &Language,
     figures: &Figures,
 ) -> Result<(), NoMemory>
@@ -288,7 +250,6 @@ fn put_description(
     ];
     say(
         page,
-        alloc,
         language,
         keys::PICTURE,
         &[
@@ -311,24 +272,18 @@ fn put_description(
 /// What is said below the picture.
 pub(crate) fn put_caption(
     page: &mut Vec<u8>,
-    alloc: Global,
     language: &Language,
     figures: &Figures,
 ) -> Result<(), NoMemory>
     ensures { OnOk result (Grows page.old.items page.new.items (caption language.now figures.now)) }
 {
-    put(page, alloc, BLOCKS_CLOSING, &[])?;
-    put_spent(page, alloc, language, figures)?;
-    put(page, alloc, BUDGET_CLOSING, &[])
+    put(page, BLOCKS_CLOSING, &[])?;
+    put_spent(page, language, figures)?;
+    put(page, BUDGET_CLOSING, &[])
 }
 
 /// What was spent, left, and paid beyond the costs; or that there is nothing to see.
-fn put_spent(
-    page: &mut Vec<u8>,
-    alloc: Global,
-    language: &Language,
-    figures: &Figures,
-) -> Result<(), NoMemory>
+fn put_spent(page: &mut Vec<u8>, language: &Language, figures: &Figures) -> Result<(), NoMemory>
     ensures { OnOk result (Grows page.old.items page.new.items (say language.now (caption_key figures.now)
         (amount language.now.costs (codes "spent") figures.now.spent ∷ amount language.now.costs
         (codes "left") figures.now.left
@@ -347,7 +302,6 @@ fn put_spent(
     ];
     say(
         page,
-        alloc,
         language,
         caption_key(figures),
         &[
@@ -378,10 +332,21 @@ fn caption_key(figures: &Figures) -> u16
     }
 }
 
-/// A block for each of the winners at these places, one beside the other.
+/// A block for each of the winners, one beside the other.
 pub(crate) fn put_blocks(
     page: &mut Vec<u8>,
-    alloc: Global,
+    costs: &Form,
+    count: &CountedElection,
+) -> Result<(), NoMemory>
+    ensures { OnOk result (Grows page.old.items page.new.items
+        (blocks costs.now count.now.election 0 (winners_of count.now.counted))) }
+{
+    put_blocks_at(page, costs, count.election(), count.winners())
+}
+
+/// A block for each of the winners at these places.
+fn put_blocks_at(
+    page: &mut Vec<u8>,
     costs: &Form,
     election: &Election,
     winners: &[u32],
@@ -396,7 +361,7 @@ pub(crate) fn put_blocks(
     let mut before = 0;
     for place in winners {
         let project = &projects[*place as usize];
-        put_block(page, alloc, &*costs, project, before, budget)?;
+        put_block(page, &*costs, project, before, budget)?;
         let cost = project.cost();
         before += cost.0;
     }
@@ -406,7 +371,6 @@ pub(crate) fn put_blocks(
 /// The block of a project, behind those that cost so much before it.
 fn put_block<'a>(
     page: &mut Vec<u8>,
-    alloc: Global,
     costs: &Form<'a>,
     project: &'a Project,
     before: u64,
@@ -417,7 +381,6 @@ fn put_block<'a>(
 {
     put(
         page,
-        alloc,
         BUDGET_PART,
         &[
             Value::Number(width(before, budget.0)),

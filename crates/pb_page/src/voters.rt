@@ -3,14 +3,13 @@
 ghost use Rattle.std.specs.Prelude.{[], ◌∷◌, ◌<◌, ◌^◌, OnOk, decimal, flat_map, length};
 ghost use Rattle.std.specs.List.{range_with_len};
 ghost use Rattle.pb_page.specs.Inner.Grown.{Grows};
-ghost use Rattle.pb_page.specs.Inner.Pieces.{exact_row, got, got_said, row_closing, shown_row, voters_table};
-ghost use Rattle.pb_page.specs.Page.{at, ballots_row, filling, say, text, voters, won_by_voter};
+ghost use Rattle.pb_page.specs.Inner.Pieces.{exact_row, got, got_said, histogram, row_closing, shown_row, voters_table};
+ghost use Rattle.pb_page.specs.Page.{at, ballots_row, filling, say, text, voters};
 ghost use Rattle.pb_page.specs.declared.keys.TheConstants as key;
 ghost use Rattle.pb_page.specs.declared.templates.TheConstants.{VOTERS_OPENING};
-ghost use Rattle.pb_reasons.specs.Counted.{IsCounted};
 
 use crate::forms::width;
-use crate::histogram::{at_least, exactly, won_by_voter};
+use crate::histogram::{BallotsRow, at_least, exactly, won_by_voter};
 use crate::keys;
 use crate::language::Language;
 use crate::markup::{Place, Value};
@@ -18,10 +17,8 @@ use crate::put::{put, say};
 use crate::templates::{
     NUMBER, TABLE_CLOSING, TEXT, VOTERS_OPENING, VOTERS_ROW, VOTERS_ROW_CLOSING, VOTERS_TABLE,
 };
-use pb_core::election::Election;
 use pb_core::no_memory::NoMemory;
-use pb_reasons::Counted;
-use std::alloc::Global;
+use pb_reasons::CountedElection;
 
 /// So many winners or more are one row.
 const MOST: u32 = 9;
@@ -29,63 +26,54 @@ const MOST: u32 = 9;
 /// How many voters have a winner among their choices, and the histogram of winners a voter.
 pub(crate) fn put_voters(
     page: &mut Vec<u8>,
-    alloc: Global,
     language: &Language,
-    election: &Election,
-    counted: &Counted,
+    count: &CountedElection,
 ) -> Result<(), NoMemory>
-    requires { IsCounted election.now counted.now }
     ensures { OnOk result (Grows page.old.items page.new.items
-        (voters language.now (won_by_voter election.now counted.now))) }
+        (voters language.now count.now)) }
 {
-    let won = won_by_voter(alloc, election, counted)?;
-    let put = put_won(page, alloc, language, won.as_slice());
+    let won = won_by_voter(*page.allocator(), count)?;
+    let put = put_won(page, language, won.as_slice());
     drop(won);
     put
 }
 
 /// How many voters have a winner among their choices, where so many choices of each voter won.
-fn put_won(
-    page: &mut Vec<u8>,
-    alloc: Global,
-    language: &Language,
-    won: &[u32],
-) -> Result<(), NoMemory>
+fn put_won(page: &mut Vec<u8>, language: &Language, won: &[u32]) -> Result<(), NoMemory>
     requires { length won.now < 2 ^ 64 }
-    ensures { OnOk result (Grows page.old.items page.new.items (voters language.now won.now)) }
+    ensures { OnOk result (Grows page.old.items page.new.items (histogram language.now won.now)) }
 {
-    put_got(page, alloc, language, won)?;
-    put_rows(page, alloc, language, won)?;
+    put_got(page, language, won)?;
+    put_rows(page, language, won)?;
     let most = at_least(MOST, won);
-    put_row(page, alloc, language, keys::OR_MORE, MOST, most, won)?;
-    put(page, alloc, TABLE_CLOSING, &[])
+    let last = BallotsRow {
+        said: keys::OR_MORE,
+        number: MOST,
+        ballots: most,
+    };
+    put_row(page, language, last, won)?;
+    put(page, TABLE_CLOSING, &[])
 }
 
 /// How many voters have a winner among their choices, and the head of the histogram.
-fn put_got(
-    page: &mut Vec<u8>,
-    alloc: Global,
-    language: &Language,
-    won: &[u32],
-) -> Result<(), NoMemory>
+fn put_got(page: &mut Vec<u8>, language: &Language, won: &[u32]) -> Result<(), NoMemory>
     requires { length won.now < 2 ^ 64 }
     ensures { OnOk result (Grows page.old.items page.new.items (got language.now won.now)) }
 {
-    put_heading(page, alloc, language)?;
+    put_heading(page, language)?;
     let with = at_least(1, won);
     let without = exactly(0, won);
-    say_got(page, alloc, language, with, won.len() as u64, without)?;
-    put_table_head(page, alloc, language)
+    say_got(page, language, with, won.len() as u64, without)?;
+    put_table_head(page, language)
 }
 
 /// The heading.
-fn put_heading(page: &mut Vec<u8>, alloc: Global, language: &Language) -> Result<(), NoMemory>
+fn put_heading(page: &mut Vec<u8>, language: &Language) -> Result<(), NoMemory>
     ensures { OnOk result (Grows page.old.items page.new.items
         (filling VOTERS_OPENING.now (at language.now key.VOTERS_HEADING ∷ []) ∷ [])) }
 {
     put(
         page,
-        alloc,
         VOTERS_OPENING,
         &[Value::Text(language.text(keys::VOTERS_HEADING))],
     )
@@ -94,7 +82,6 @@ fn put_heading(page: &mut Vec<u8>, alloc: Global, language: &Language) -> Result
 /// How many voters have a winner among their choices.
 fn say_got(
     page: &mut Vec<u8>,
-    alloc: Global,
     language: &Language,
     with: u64,
     voters: u64,
@@ -113,7 +100,6 @@ fn say_got(
     ];
     say(
         page,
-        alloc,
         language,
         keys::GOT,
         &[
@@ -146,12 +132,11 @@ fn say_got(
 }
 
 /// The head of the histogram.
-fn put_table_head(page: &mut Vec<u8>, alloc: Global, language: &Language) -> Result<(), NoMemory>
+fn put_table_head(page: &mut Vec<u8>, language: &Language) -> Result<(), NoMemory>
     ensures { OnOk result (Grows page.old.items page.new.items (voters_table language.now ∷ [])) }
 {
     put(
         page,
-        alloc,
         VOTERS_TABLE,
         &[
             Value::Text(language.text(keys::VOTERS_CAPTION)),
@@ -162,68 +147,60 @@ fn put_table_head(page: &mut Vec<u8>, alloc: Global, language: &Language) -> Res
 }
 
 /// A row for each number of winners below the last.
-fn put_rows(
-    page: &mut Vec<u8>,
-    alloc: Global,
-    language: &Language,
-    won: &[u32],
-) -> Result<(), NoMemory>
+fn put_rows(page: &mut Vec<u8>, language: &Language, won: &[u32]) -> Result<(), NoMemory>
     requires { length won.now < 2 ^ 64 }
     ensures { OnOk result (Grows page.old.items page.new.items
         (flat_map (exact_row language.now won.now) (range_with_len 0 9))) }
 {
     for number in 0..MOST {
         let ballots = exactly(number, won);
-        put_row(page, alloc, language, keys::EXACTLY, number, ballots, won)?;
+        let row = BallotsRow {
+            said: keys::EXACTLY,
+            number,
+            ballots,
+        };
+        put_row(page, language, row, won)?;
     }
     Ok(())
 }
 
-/// The row of so many winners, of which a sentence says how many, on this many ballots, where a ballot has so
-/// many or more.
+/// A row of the histogram, where a ballot has so many winners or more.
 #[tactic(auto, using(crate::proofs::Grown::none))]
 fn put_row(
     page: &mut Vec<u8>,
-    alloc: Global,
     language: &Language,
-    said: u16,
-    number: u32,
-    ballots: u64,
+    row: BallotsRow,
     won: &[u32],
 ) -> Result<(), NoMemory>
     requires { length won.now < 2 ^ 64 }
     ensures { OnOk result (Grows page.old.items page.new.items
-        (ballots_row language.now said number ballots won.now)) }
+        (ballots_row language.now row.said row.number row.ballots won.now)) }
 {
-    if at_least(number, won) == 0 {
+    if at_least(row.number, won) == 0 {
         return Ok(());
     }
-    put_shown_row(page, alloc, language, said, number, ballots, won)
+    put_shown_row(page, language, row, won)
 }
 
 /// The row itself.
 fn put_shown_row(
     page: &mut Vec<u8>,
-    alloc: Global,
     language: &Language,
-    said: u16,
-    number: u32,
-    ballots: u64,
+    row: BallotsRow,
     won: &[u32],
 ) -> Result<(), NoMemory>
     requires { length won.now < 2 ^ 64 }
     ensures { OnOk result (Grows page.old.items page.new.items
-        (shown_row language.now said number ballots won.now)) }
+        (shown_row language.now row.said row.number row.ballots won.now)) }
 {
-    put(page, alloc, VOTERS_ROW, &[Value::Number(u64::from(number))])?;
-    say_number(page, alloc, language, said, number)?;
-    put_ballots(page, alloc, ballots, won)
+    put(page, VOTERS_ROW, &[Value::Number(u64::from(row.number))])?;
+    say_number(page, language, row.said, row.number)?;
+    put_ballots(page, row.ballots, won)
 }
 
 /// What is said of so many winners.
 fn say_number(
     page: &mut Vec<u8>,
-    alloc: Global,
     language: &Language,
     said: u16,
     number: u32,
@@ -234,7 +211,6 @@ fn say_number(
     let shown = [Value::Number(u64::from(number))];
     say(
         page,
-        alloc,
         language,
         said,
         &[Place {
@@ -245,13 +221,12 @@ fn say_number(
 }
 
 /// The rest of a row of this many ballots.
-fn put_ballots(page: &mut Vec<u8>, alloc: Global, ballots: u64, won: &[u32]) -> Result<(), NoMemory>
+fn put_ballots(page: &mut Vec<u8>, ballots: u64, won: &[u32]) -> Result<(), NoMemory>
     requires { length won.now < 2 ^ 64 }
     ensures { OnOk result (Grows page.old.items page.new.items (row_closing ballots won.now ∷ [])) }
 {
     put(
         page,
-        alloc,
         VOTERS_ROW_CLOSING,
         &[
             Value::Number(width(ballots, won.len() as u64)),

@@ -14,45 +14,32 @@ use crate::keys;
 use crate::language::Language;
 use crate::markup::Value;
 use crate::own_category::{put_head_end, put_row_end};
+use crate::project_row::ProjectRow;
 use crate::put::put;
 use crate::templates::{ADDED, NONE_WON, TABLE_CLOSING, WINNER, WINNERS_OPENING};
-use pb_core::election::Election;
-use pb_core::money::Money;
 use pb_core::no_memory::NoMemory;
-use pb_core::project::Project;
-use pb_reasons::{Added, Counted, Ending, ProjectReason, ProjectTeller, Won};
-use pb_rounds::outcome::Elected;
+use pb_reasons::{Added, CountedElection, Ending, Won};
+use pb_rounds::outcome::{Elected, Outcome};
 use pb_rounds::rule::FillUp;
-use std::alloc::Global;
 
 /// The elected, in order of election.
 #[tactic(auto, unfolding(crate::specs::Page::winners))]
 pub(crate) fn put_winners(
     page: &mut Vec<u8>,
-    alloc: Global,
     facts: &Facts,
-    election: &Election,
-    teller: &ProjectTeller,
-    counted: &Counted,
+    count: &CountedElection,
 ) -> Result<(), NoMemory>
-    requires own { teller.now ≡ (election.now, counted.now) }
-    requires known { All (λ w. w.place < length election.now.projects) counted.now.outcome.elected }
-    ensures { OnOk result (Grows page.old.items page.new.items (winners facts.now election.now counted.now)) }
+    ensures { OnOk result (Grows page.old.items page.new.items (winners facts.now count.now)) }
 {
-    let elected = counted.elected();
-    if elected.is_empty() {
-        return put_none(page, alloc, &facts.language, counted.fill_up());
+    let outcome = count.outcome();
+    if outcome.elected.is_empty() {
+        return put_none(page, &facts.language, count.rule().fill_up);
     }
-    put_table(page, alloc, facts, election, teller, elected)
+    put_table(page, facts, count)
 }
 
 /// That there are none.
-fn put_none(
-    page: &mut Vec<u8>,
-    alloc: Global,
-    language: &Language,
-    fill_up: FillUp,
-) -> Result<(), NoMemory>
+fn put_none(page: &mut Vec<u8>, language: &Language, fill_up: FillUp) -> Result<(), NoMemory>
     ensures { OnOk result (Grows page.old.items page.new.items (filling NONE_WON.now
         (at language.now key.WINNERS_HEADING ∷ at language.now
         (if fills_up fill_up then key.NO_ELECTED else key.NO_WINNERS) ∷ []) ∷ [])) }
@@ -64,7 +51,6 @@ fn put_none(
     };
     put(
         page,
-        alloc,
         NONE_WON,
         &[
             Value::Text(language.text(keys::WINNERS_HEADING)),
@@ -74,12 +60,11 @@ fn put_none(
 }
 
 /// The head of their table.
-fn put_table_head(page: &mut Vec<u8>, alloc: Global, language: &Language) -> Result<(), NoMemory>
+fn put_table_head(page: &mut Vec<u8>, language: &Language) -> Result<(), NoMemory>
     ensures { OnOk result (Grows page.old.items page.new.items (winners_head language.now ∷ [])) }
 {
     put(
         page,
-        alloc,
         WINNERS_OPENING,
         &[
             Value::Text(language.text(keys::WINNERS_HEADING)),
@@ -95,130 +80,107 @@ fn put_table_head(page: &mut Vec<u8>, alloc: Global, language: &Language) -> Res
 }
 
 /// Their table.
-fn put_table(
-    page: &mut Vec<u8>,
-    alloc: Global,
-    facts: &Facts,
-    election: &Election,
-    teller: &ProjectTeller,
-    elected: &[Elected],
-) -> Result<(), NoMemory>
-    requires own { teller.now.0 ≡ election.now }
-    requires elected { teller.now.1.outcome.elected ≡ elected.now }
-    requires known { All (λ w. w.place < length election.now.projects) elected.now }
-    ensures { OnOk result (Grows page.old.items page.new.items
-        (winner_table facts.now election.now teller.now.1)) }
+fn put_table(page: &mut Vec<u8>, facts: &Facts, count: &CountedElection) -> Result<(), NoMemory>
+    ensures { OnOk result (Grows page.old.items page.new.items (winner_table facts.now count.now)) }
 {
-    put_table_head(page, alloc, &facts.language)?;
-    put_head_end(page, alloc, facts)?;
-    put_rows(page, alloc, facts, election, teller, elected)?;
-    put(page, alloc, TABLE_CLOSING, &[])
+    let elected = elected_of(count.outcome());
+    put_table_head(page, &facts.language)?;
+    put_head_end(page, facts)?;
+    put_rows(page, facts, count, elected)?;
+    put(page, TABLE_CLOSING, &[])
+}
+
+/// The elected of this outcome.
+fn elected_of(outcome: &Outcome) -> &[Elected]
+    ensures { result.now ≡ outcome.now.elected }
+{
+    outcome.elected.as_slice()
 }
 
 /// A row for each winner.
 fn put_rows(
     page: &mut Vec<u8>,
-    alloc: Global,
     facts: &Facts,
-    election: &Election,
-    teller: &ProjectTeller,
+    count: &CountedElection,
     elected: &[Elected],
 ) -> Result<(), NoMemory>
-    requires own { teller.now.0 ≡ election.now }
-    requires known { All (λ w. w.place < length election.now.projects) elected.now }
+    requires { All (λ w. w.place < length count.now.election.projects) elected.now }
     ensures { OnOk result (Grows page.old.items page.new.items
-        (flat_map (λ w. won_rows facts.now election.now teller.now.1 w.place) elected.now)) }
+        (flat_map (λ w. won_rows facts.now count.now w.place) elected.now)) }
 {
-    let projects = election.projects();
     for winner in elected {
-        let reason = teller.tell(winner.place);
-        let project = &projects[winner.place as usize];
-        put_row(
-            page,
-            alloc,
-            facts,
-            winner.place,
-            project,
-            &reason,
-            election.budget(),
-        )?;
+        put_row(page, facts, count, winner.place)?;
     }
     Ok(())
 }
 
-/// The row of a project, where it won.
-#[tactic(auto, using(crate::proofs::Grown::none))]
+/// The row of the project at this place, where it won.
 pub(crate) fn put_row(
     page: &mut Vec<u8>,
-    alloc: Global,
     facts: &Facts,
+    count: &CountedElection,
     place: u32,
-    project: &Project,
-    reason: &ProjectReason,
-    budget: Money,
+) -> Result<(), NoMemory>
+    requires { place < length count.now.election.projects }
+    ensures { OnOk result (Grows page.old.items page.new.items (won_rows facts.now count.now place)) }
+{
+    let election = count.election();
+    let reason = count.project(place);
+    let row = ProjectRow {
+        place,
+        project: &election.projects()[place as usize],
+        votes: reason.votes,
+        budget: election.budget(),
+    };
+    put_ended(page, facts, &row, &reason.ending)
+}
+
+/// The row of a project that ended so, where it won.
+#[tactic(auto, using(crate::proofs::Grown::none))]
+fn put_ended(
+    page: &mut Vec<u8>,
+    facts: &Facts,
+    row: &ProjectRow<'_>,
+    ending: &Ending,
 ) -> Result<(), NoMemory>
     ensures { OnOk result (Grows page.old.items page.new.items
-        (won_row facts.now budget place project.now reason.now.votes reason.now.ending)) }
+        (won_row facts.now row.now.budget row.now.place row.now.project.now row.now.votes ending.now)) }
 {
-    match &reason.ending {
-        Ending::Won(won) => put_won(
-            page,
-            alloc,
-            facts,
-            place,
-            project,
-            reason.votes,
-            won,
-            budget,
-        ),
-        Ending::Added(added) => put_one_added(
-            page,
-            alloc,
-            facts,
-            place,
-            project,
-            reason.votes,
-            added,
-            budget,
-        ),
+    match ending {
+        Ending::Won(won) => put_won(page, facts, row, won),
+        Ending::Added(added) => put_one_added(page, facts, row, added),
         Ending::Lost(_) => Ok(()),
     }
 }
 
 /// The row of a winner.
-fn put_won<'a>(
+fn put_won(
     page: &mut Vec<u8>,
-    alloc: Global,
-    facts: &Facts<'a>,
-    place: u32,
-    project: &'a Project,
-    votes: u32,
+    facts: &Facts,
+    row: &ProjectRow<'_>,
     won: &Won,
-    budget: Money,
 ) -> Result<(), NoMemory>
     ensures { OnOk result (Grows page.old.items page.new.items
-        (won_row facts.now budget place project.now votes (Ending.Won won.now))) }
+        (won_row facts.now row.now.budget row.now.place row.now.project.now row.now.votes
+        (Ending.Won won.now))) }
 {
-    put_won_cells(page, alloc, &facts.language, project, votes, won, budget)?;
-    put_row_end(page, alloc, facts, place)
+    put_won_cells(page, &facts.language, row, won)?;
+    put_row_end(page, facts, row.place)
 }
 
 /// The row up to its end.
 fn put_won_cells<'a>(
     page: &mut Vec<u8>,
-    alloc: Global,
     language: &Language<'a>,
-    project: &'a Project,
-    votes: u32,
+    row: &ProjectRow<'a>,
     won: &Won,
-    budget: Money,
 ) -> Result<(), NoMemory>
     ensures { OnOk result (Grows page.old.items page.new.items
-        (winner_cells language.now budget project.now votes won.now ∷ [])) }
+        (winner_cells language.now row.now won.now ∷ [])) }
 {
+    let project = row.project;
     put(
         page,
-        alloc,
         WINNER,
         &[
             Value::Text(project.id()),
@@ -226,12 +188,12 @@ fn put_won_cells<'a>(
             Value::Number(u64::from(won.round)),
             Value::Text(project.id()),
             Value::Text(project.name()),
-            Value::Number(width(project.cost().0, budget.0)),
+            Value::Number(width(project.cost().0, row.budget.0)),
             Value::Text(language.text(keys::COST)),
             Value::Amount(project.cost()),
             Value::Shown(project.cost(), language.costs),
             Value::Text(language.text(keys::VOTES)),
-            Value::Number(u64::from(votes)),
+            Value::Number(u64::from(row.votes)),
             Value::Text(language.text(keys::PRICE)),
             Value::Amount(won.price),
             Value::Shown(won.price, language.amounts),
@@ -242,39 +204,33 @@ fn put_won_cells<'a>(
 }
 
 /// The row of an added project.
-fn put_one_added<'a>(
+fn put_one_added(
     page: &mut Vec<u8>,
-    alloc: Global,
-    facts: &Facts<'a>,
-    place: u32,
-    project: &'a Project,
-    votes: u32,
+    facts: &Facts,
+    row: &ProjectRow<'_>,
     added: &Added,
-    budget: Money,
 ) -> Result<(), NoMemory>
     ensures { OnOk result (Grows page.old.items page.new.items
-        (won_row facts.now budget place project.now votes (Ending.Added added.now))) }
+        (won_row facts.now row.now.budget row.now.place row.now.project.now row.now.votes
+        (Ending.Added added.now))) }
 {
-    put_one_added_cells(page, alloc, &facts.language, project, votes, added, budget)?;
-    put_row_end(page, alloc, facts, place)
+    put_one_added_cells(page, &facts.language, row, added)?;
+    put_row_end(page, facts, row.place)
 }
 
 /// The row up to its end.
 fn put_one_added_cells<'a>(
     page: &mut Vec<u8>,
-    alloc: Global,
     language: &Language<'a>,
-    project: &'a Project,
-    votes: u32,
+    row: &ProjectRow<'a>,
     added: &Added,
-    budget: Money,
 ) -> Result<(), NoMemory>
     ensures { OnOk result (Grows page.old.items page.new.items
-        (added_cells language.now budget project.now votes added.now ∷ [])) }
+        (added_cells language.now row.now added.now ∷ [])) }
 {
+    let project = row.project;
     put(
         page,
-        alloc,
         ADDED,
         &[
             Value::Text(project.id()),
@@ -282,12 +238,12 @@ fn put_one_added_cells<'a>(
             Value::Number(added.number),
             Value::Text(project.id()),
             Value::Text(project.name()),
-            Value::Number(width(project.cost().0, budget.0)),
+            Value::Number(width(project.cost().0, row.budget.0)),
             Value::Text(language.text(keys::COST)),
             Value::Amount(project.cost()),
             Value::Shown(project.cost(), language.costs),
             Value::Text(language.text(keys::VOTES)),
-            Value::Number(u64::from(votes)),
+            Value::Number(u64::from(row.votes)),
         ],
     )
 }

@@ -4,7 +4,7 @@ use Rattle.std.proofs.lemmas.Bool.{cases_lt}
 use Rattle.pb_price.specs.Inner.Payment.{IsPriceFor, payers_above}
 use Rattle.pb_price.specs.Price.{paid_at, price_of, total_rest, IsLeastPayment}
 use Rattle.pb_price.proofs.Payments.{collected_below, least_from_price, paid_at-le-total_rest, paid_at_rises, price_of_is_price, short_from_no_price}
-use Rattle.pb_price.proofs.PriceSteps.{above_pays, all_paid, part-le, part-positive, starts_below, steps_below}
+use Rattle.pb_price.proofs.PriceSteps.{above_pays, all_paid, part-le, starts_below, steps_below}
 
 -- no price is below it
 abbrev pub IsBound : List ℕ → List ℕ → ℕ → ℕ → Type 0
@@ -68,11 +68,6 @@ module _ (supporters rests : List ℕ) (cost bound m : ℕ) (same : m ≡ payers
         let nobody : payers_above supporters rests bound ≡ 0 = omega (arith, same, none) in
         absurd (omega (arith, all_paid supporters rests bound nobody, short, enough))
   ]
-
-  pub next_is_above : bound < bound + ((cost - paid_at supporters rests bound) / m + min 1 ((cost - paid_at supporters rests bound) % m))
-  next_is_above =
-      let positive = part-positive (cost - paid_at supporters rests bound) m some_payer (omega (arith, short)) in
-      omega arith
 
   pub next_is_small : bound + ((cost - paid_at supporters rests bound) / m + min 1 ((cost - paid_at supporters rests bound) % m)) ≤ cost
   next_is_small =

@@ -8,5 +8,4 @@ pub mod Payments
 pub mod PriceSteps
 pub mod RestsFall
 pub mod SupporterLists
-pub mod WalkedRests
 pub mod Workers

@@ -18,11 +18,10 @@ struct Collected {
     rests: u128,
 }
 
-/// The price of the project at this place, in hundredths: the answer of `price`, without memory and without
-/// sorting.
+/// The price of the project at this place, in hundredths.
 ///
 /// It starts at the cost divided by the number of supporters, and goes on from bound to bound.
-pub fn price_in_steps<A: Allocator>(
+pub(crate) fn price_in_steps<A: Allocator>(
     supporters: &Supporters<A>,
     rests: &[Money],
     place: u32,

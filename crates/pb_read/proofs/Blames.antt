@@ -1,22 +1,27 @@
 -- When the reader is at fault, and how many records are read.
-use Rattle.std.proofs.Common.{◌≡◌, ◌≤◌, ℕ, Bool, true, false, cond, List, [], ◌∷◌, Option, Some, None, refl, sym, ◌∙◌, subst, arith}
+use Rattle.std.proofs.Common.{◌≡◌, ◌≤◌, ℕ, Bool, true, false, cond, List, [], ◌∷◌, Option, Some, None, refl, ap, sym, ◌∙◌, subst, arith, length, length-append}
 use Rattle.std.specs.Prelude.{find}
 use Rattle.std.proofs.lemmas.Bool.{false≢true}
 use Rattle.std.proofs.lemmas.Option.{same_Some}
-use Rattle.pb_rows.specs.Reading.{Fields}
+use Rattle.pb_rows.specs.Reading.{Fields, IsNext}
 use Rattle.pb_rows.specs.Inner.Reading.{HasReadAtMost}
 use Rattle.pb_rows.specs.declared.fault.RecordsFault.{RecordsFault}
 use Rattle.pb_rows.proofs.RecordsRead.{HasReadAtMost-more}
 use Rattle.pb_read.proofs.ListFacts.{some≢none}
 use Rattle.pb_read.proofs.LowestKind.{never_applies}
 use Rattle.pb_read.specs.Faults.{applies}
+use Rattle.pb_read.specs.Inner.Checking.{Blames, IsRefusal}
 use Rattle.pb_read.specs.Inner.Machine.{Explains, Position, row_fault, row_kinds}
 use Rattle.pb_read.specs.Inner.Progresses.{BlamesReader}
+use Rattle.pb_read.specs.Inner.Showing.{Shows}
+use Rattle.pb_read.specs.Shown.{Sight}
 use Rattle.pb_read.specs.Stages.{Next}
 use Rattle.pb_read.specs.StandsFor.{most_records}
-use Rattle.pb_read.specs.Inner.Tracking.{IsNextRow, Tracks}
+use Rattle.pb_read.specs.declared.check.Verdict.{Verdict}
+use Rattle.pb_read.specs.declared.check.Verdict.TheVariants.{Passes, LeavesOut, Ends, Done}
 use Rattle.pb_read.specs.declared.fault.ReadKind.{ReadKind}
 use Rattle.pb_read.specs.declared.fault.ReadKind.TheVariants as kinds
+use Rattle.pb_read.specs.declared.progress.Stage.{Stage}
 
 found_passes : (test : ReadKind → Bool) (ks : List ReadKind) (kind : ReadKind) → find test ks ≡ Some kind → test kind ≡ true
 found_passes test [] kind found = absurd (some≢none (sym found))
@@ -39,10 +44,28 @@ pub explained_blames : (p : Position) (n : Next) (kind : ReadKind) → Explains 
 explained_blames p n kinds.ReadFailed said = absurd (never_read_failed p n said)
 explained_blames p n _ said = tt
 
--- the records that were read so far, and one more
-pub few_read : (all left after : Option (List Fields)) (count : ℕ) (p : Position) (found : Bool) (row : Fields) → Tracks all left count p → IsNextRow left after found row → count ≤ most_records
-    → HasReadAtMost 2000001 all after
-few_read None left after count p found row tracks next few = tt
-few_read (Some all) None after count p found row tracks next few = absurd tracks
-few_read (Some all) (Some left) after count p found row tracks next few =
-    HasReadAtMost-more 2000001 all tracks.done left after found next.fields tracks.cut (omega (arith, tracks.count_is, few)) next.next
+-- what is refused where nothing stopped the reader
+pub refusal_blames : (stage : Stage) (kind : ReadKind) (verdict : Verdict) → BlamesReader kind None → IsRefusal stage kind verdict → Blames verdict None
+refusal_blames stage kind Passes blames refusal = tt
+refusal_blames stage kind Done blames refusal = tt
+refusal_blames stage kind (LeavesOut other) blames refusal = subst (λ k. BlamesReader k None) (sym refusal.0) blames
+refusal_blames stage kind (Ends other) blames refusal = subst (λ k. BlamesReader k None) (sym refusal.0) blames
+
+pub verdict_blames : (verdict : Verdict) (stopped : Option RecordsFault) → Blames verdict None → Blames verdict stopped
+verdict_blames Passes stopped blames = tt
+verdict_blames Done stopped blames = tt
+verdict_blames (LeavesOut kind) stopped blames = blames_none kind stopped blames
+verdict_blames (Ends kind) stopped blames = blames_none kind stopped blames
+
+-- one record more was read, at most
+pub one_read : (left after : Option (List Fields)) (found : Bool) (fields : Fields) → IsNext left after found fields → HasReadAtMost 1 left after
+one_read None after found fields next = tt
+one_read (Some all) after found fields next = HasReadAtMost-more 1 all [] all after found fields refl (omega arith) next
+
+-- and so many before it
+pub few_read : (all left after : Option (List Fields)) (count : ℕ) (a b : Option (List Sight)) → Shows all left count a b → count ≤ most_records → HasReadAtMost 1 left after → HasReadAtMost 2000001 all after
+few_read None left after count a b shows few one = tt
+few_read (Some all) None after count a b shows few one = absurd shows
+few_read (Some all) (Some left) None count a b shows few one = tt
+few_read (Some all) (Some left) (Some after) count a b shows few one =
+    omega (arith, ap length shows.cut, length-append shows.done left, shows.count_is, few, one)

@@ -4,14 +4,14 @@ use Rattle.std.specs.Prelude.{IfSome}
 use Rattle.std.specs.List.{list_all}
 use Rattle.std.specs.Str.{is_utf8}
 use Rattle.std.proofs.Math.Seq.{drop-append-add, take-append_seam}
-use Rattle.std.proofs.lemmas.Bool.{eqb-false, false≢true, true≢false, false_from_ne_true}
+use Rattle.std.proofs.lemmas.Bool.{eqb-false, true≢false, false_from_ne_true}
 use Rattle.csv.specs.Records.{AllText}
 use Rattle.pb_core.specs.Election.{ElectionView}
 use Rattle.pb_rows.specs.Reading.{Fields, IsNext}
 use Rattle.pb_read.proofs.DraftFacts.{explains}
 use Rattle.pb_read.proofs.GoesOn.{AllText-from_test, test-from_AllText}
 use Rattle.pb_read.proofs.Tracking.{ended, explained, fault_at, tracks_more, tracks_start}
-use Rattle.pb_read.specs.Inner.Checking.{EndsAt, IsGoing, IsRefusal, IsVerdict, Judges, JudgesEnd, JudgesRow, LeadsTo, LeftHas, text_fault, without}
+use Rattle.pb_read.specs.Inner.Checking.{EndsAt, Going, IsGoing, IsRefusal, IsVerdict, Judges, JudgesRow, LeadsTo, LeftHas, StopsAt, text_fault, without}
 use Rattle.pb_read.proofs.Uniqueness.{refused_from_outside}
 use Rattle.pb_read.specs.FirstFault.{IsFaultAt, IsFromOutside}
 use Rattle.pb_read.specs.Listed.{AreListed, IsHandedOut, IsLeftOut, leaves_out}
@@ -19,9 +19,9 @@ use Rattle.pb_read.specs.Rows.{rows_of}
 use Rattle.pb_read.proofs.Alike.{at_just}
 use Rattle.pb_read.specs.Inner.Machine.{Explains, Position, lowest_kind, row_fault, start}
 use Rattle.pb_read.specs.Inner.Fields.{trimmed}
-use Rattle.pb_read.specs.Stages.{IsAt, next_row, the_end}
+use Rattle.pb_read.specs.Stages.{IsAt, next_row}
 use Rattle.pb_read.specs.StandsFor.{StandsFor, most_records}
-use Rattle.pb_read.specs.Inner.Tracking.{HasCome, HasEnded, IsNextRow, Tracks}
+use Rattle.pb_read.specs.Inner.Tracking.{HasCome, IsNextRow, Tracks}
 use Rattle.pb_read.specs.declared.check.Verdict.{Verdict}
 use Rattle.pb_read.specs.declared.check.Verdict.TheVariants.{Passes, LeavesOut, Ends, Done}
 use Rattle.pb_read.specs.declared.fault.ReadFault.{ReadFault}
@@ -172,43 +172,41 @@ listed_last (Some all) (Some left) after done kept faults p q kind going same ju
     subst (λ n. IsLeftOut false going.now kind n) (sym number) (so_here false going.now left going.kept p kind going.tracks judged.1) in
     listed_end 0 all faults (record { kind = kind; at = done + 1 }) going.now (length faults) going.leads (omega arith) (omega (arith, going.done_is)) here (inr so)
 
--- the file has ended
-pub listed_done : (all left after : Option (List Fields)) (done kept : ℕ) (faults : List ReadFault) (p q : Position) → IsGoing all left done faults p → Judges kept left after p q Done → IfSome all (λ records. AreListed 0 records faults)
-listed_done None left after done kept faults p q going judged = tt
-listed_done (Some all) None after done kept faults p q going judged = absurd going.tracks
-listed_done (Some all) (Some left) after done kept faults p q going judged =
-    let come : HasCome going.now [] going.kept p = subst (λ l. HasCome going.now l going.kept p) judged.0 going.tracks in
-    let end : HasEnded (Some going.now) (going.kept + 1) p = record { count = going.kept; at_is = refl; few = going.few; come = come } in
-    listed_all 0 all faults going.now judged.2.0 going.leads (ended (Some going.now) (going.kept + 1) p judged.2.0 end judged.2.1)
+-- reading stops at a record that is left out
+pub stops_left_out : (all left after : Option (List Fields)) (done kept : ℕ) (faults : List ReadFault) (p q : Position) (kind : ReadKind) → IsGoing all left done faults p → done ≡ kept + length faults → Judges kept left after p q (LeavesOut kind) →
+    StopsAt all after faults q (record { kind = kind; at = done + 1 }) true
+stops_left_out all left after done kept faults p q kind going same judged = (
+  λ few. going_leaves all left after done kept faults p q kind going same few judged,
+  λ last. listed_full all left after done kept faults p q kind going same last judged,
+)
 
--- the election that is handed out where the file has ended: the one of the rows that were accepted, where none was left out
-pub handed_done : (all left after : Option (List Fields)) (done kept : ℕ) (faults : List ReadFault) (p q : Position) (election : Option ElectionView) → IsGoing all left done faults p → Judges kept left after p q Done → (faults ≡ [] → election ≡ Some q.1) → (faults ≢ [] → election ≡ None) →
-    IfSome all (λ records. IsHandedOut records faults election)
-handed_done None left after done kept faults p q election going judged whole faulty = tt
-handed_done (Some all) None after done kept faults p q election going judged whole faulty = absurd going.tracks
-handed_done (Some all) (Some left) after done kept [] p q election going judged whole faulty =
+-- the file has ended
+pub stops_done : (all left after : Option (List Fields)) (done kept : ℕ) (faults : List ReadFault) (p q : Position) → IsGoing all left done faults p → Judges kept left after p q Done →
+    IfSome all (λ records. AreListed 0 records faults × (faults ≡ [] → StandsFor records q.1))
+stops_done None left after done kept faults p q going judged = tt
+stops_done (Some all) None after done kept faults p q going judged = absurd going.tracks
+stops_done (Some all) (Some left) after done kept faults p q going judged =
     let come : HasCome going.now [] going.kept p = subst (λ l. HasCome going.now l going.kept p) judged.0 going.tracks in
-    let end : HasEnded (Some going.now) (going.kept + 1) p = record { count = going.kept; at_is = refl; few = going.few; come = come } in
     let same : q.1 ≡ judged.2.0 = ap (λ (x : Position). x.1) (judged.1 ∙ judged.2.1.1) in
-    let stands : StandsFor going.now judged.2.0 = ended (Some going.now) (going.kept + 1) p judged.2.0 end judged.2.1 in
-    subst (λ x. IsHandedOut all [] x) (sym (whole refl ∙ ap (λ e. Some e) same)) (subst (λ x. StandsFor x judged.2.0) (sym going.leads) stands)
-handed_done (Some all) (Some left) after done kept (first ∷ more) p q election going judged whole faulty =
-    subst (λ x. IsHandedOut all (first ∷ more) x) (sym (faulty (λ e. cc))) tt
+    let stands : StandsFor going.now judged.2.0 = ended going.now going.kept p judged.2.0 come going.few judged.2.1 in (
+      listed_all 0 all faults going.now judged.2.0 going.leads stands,
+      λ none.
+          let leads : all ≡ going.now = subst (λ fs. LeadsTo 0 all fs going.now) none going.leads in
+          subst (λ x. StandsFor x q.1) (sym leads) (subst (StandsFor going.now) (sym same) stands),
+    )
+
+-- the election that is handed out there: the one of the rows that were accepted, where none was left out
+pub handed_done : (all : Option (List Fields)) (faults : List ReadFault) (e : ElectionView) (election : Option ElectionView) → IfSome all (λ records. AreListed 0 records faults × (faults ≡ [] → StandsFor records e)) → (faults ≡ [] → election ≡ Some e) → (faults ≢ [] → election ≡ None) →
+    IfSome all (λ records. IsHandedOut records faults election)
+handed_done None faults e election stops whole faulty = tt
+handed_done (Some all) [] e election stops whole faulty = subst (λ x. IsHandedOut all [] x) (sym (whole refl)) (stops.1 refl)
+handed_done (Some all) (first ∷ more) e election stops whole faulty = subst (λ x. IsHandedOut all (first ∷ more) x) (sym (faulty (λ e. cc))) tt
 
 -- none is handed out beside a fault
 pub none_handed : (all : Option (List Fields)) (faults new : List ReadFault) (fault : ReadFault) → new ≡ faults ++ fault ∷ [] → IfSome all (λ records. IsHandedOut records new None)
 none_handed None faults new fault pushed = tt
 none_handed (Some all) [] new fault pushed = subst (λ fs. IsHandedOut all fs None) (sym pushed) tt
 none_handed (Some all) (first ∷ more) new fault pushed = subst (λ fs. IsHandedOut all fs None) (sym pushed) tt
-
--- no more records are kept, and left out, than these
-pub listed_over : (all left : Option (List Fields)) (done : ℕ) (faults : List ReadFault) (p : Position) → IsGoing all left done faults p → length faults < 1000 → done ≡ 2001000 → IfSome all (λ records. AreListed 0 records faults)
-listed_over None left done faults p going few over = tt
-listed_over (Some all) left done faults p going few over = absurd (omega (arith, going.done_is, going.few, few, over))
-
-pub handed_over : (all left : Option (List Fields)) (done : ℕ) (faults : List ReadFault) (p : Position) → IsGoing all left done faults p → length faults < 1000 → done ≡ 2001000 → IfSome all (λ records. IsHandedOut records faults None)
-handed_over None left done faults p going few over = tt
-handed_over (Some all) left done faults p going few over = absurd (omega (arith, going.done_is, going.few, few, over))
 
 -- a kind that was found, and one at which reading ends
 pub ends_at : (kind : ReadKind) (found : Option ReadKind) → Explains kind found → EndsAt kind found
@@ -293,27 +291,6 @@ pub no_text_judged : (kept : ℕ) (left after : Option (List Fields)) (p q : Pos
 no_text_judged kept left after p q verdict found stays refusal =
     refused_judged kept left after p q found.0 (Some kinds.NotText) verdict found.1 (λ rest. no_text_lowest kept p found.0 rest found.2) (refusal_judged q p (Some kinds.NotText) kinds.NotText verdict refl (λ other. stays) refusal)
 
--- the end of the file
-pub end_judged : (kept : ℕ) (left after : Option (List Fields)) (p q : Position) (verdict : Verdict) → (fields : Fields) × IsNext left after false fields → q ≡ p → JudgesEnd p verdict → Judges kept left after p q verdict
-end_judged kept left after p q Passes found stays judged = absurd judged
-end_judged kept left after p q (LeavesOut kind) found stays judged = absurd judged
-end_judged kept None after p q Done found stays judged = (tt, stays, judged)
-end_judged kept (Some []) after p q Done found stays judged = (refl, stays, judged)
-end_judged kept (Some (first ∷ rest)) after p q Done found stays judged = absurd (false≢true found.1.0)
-end_judged kept left after p q (Ends kind) found stays judged = (left_has kind left found.1 judged.0, judged.1)
-  where
-    left_has : (k : ReadKind) (l : Option (List Fields)) → IsNext l after false found.0 → EndsAt k (row_fault p the_end) → LeftHas kept l p k
-    left_has kinds.ReadFailed l next at = tt
-    left_has kinds.NoMemory l next at = tt
-    left_has k None next at = no k
-      where
-        no : (other : ReadKind) → LeftHas kept None p other
-        no kinds.ReadFailed = tt
-        no kinds.NoMemory = tt
-        no other = tt
-    left_has k (Some []) next at = at
-    left_has k (Some (first ∷ rest)) next at = absurd (false≢true next.0)
-
 -- what is listed begins with the first fault
 pub listed_first : (records : List Fields) (fault : ReadFault) (more : List ReadFault) → AreListed 0 records (fault ∷ more) → IsFaultAt records fault.kind fault.at
 listed_first records fault more listed =
@@ -327,3 +304,22 @@ pub one_longer : (faults new : List ReadFault) (fault : ReadFault) → new ≡ f
 one_longer faults new fault pushed =
     let one : List ReadFault = fault ∷ [] in
     ap length pushed ∙ length-append faults one
+
+-- the first stop is at the first fault
+pub first_stop : (all left : Option (List Fields)) (p : Position) (fault : ReadFault) (is_left_out : Bool) → StopsAt all left [] p fault is_left_out → IfSome all (λ records. IsFaultAt records fault.kind fault.at)
+first_stop None left p fault is_left_out stops = tt
+first_stop (Some all) left p fault true stops =
+    let same : fault.at - 0 ≡ fault.at = omega arith in
+    let going : Going all left fault.at (fault ∷ []) p = stops.0 (omega arith) in
+    subst (IsFaultAt all fault.kind) same going.leads.1
+first_stop (Some all) left p fault false stops = listed_first all fault [] stops
+
+-- the file ends before the first stop
+pub first_done : (all : Option (List Fields)) (faults : List ReadFault) (e now : ElectionView) → faults ≡ [] → IfSome all (λ records. AreListed 0 records faults × (faults ≡ [] → StandsFor records now)) → e ≡ now → IfSome all (λ records. StandsFor records e)
+first_done None faults e now none stops same = tt
+first_done (Some all) faults e now none stops same = subst (StandsFor all) (sym same) (stops.1 none)
+
+-- what holds of all records
+pub said_of_all : (P : List Fields → Type 0) → ((records : List Fields) → P records) → (all : Option (List Fields)) → IfSome all P
+said_of_all P holds None = tt
+said_of_all P holds (Some records) = holds records

@@ -19,3 +19,4 @@ pub mod ProgressFacts
 pub mod Tracking
 pub mod Blames
 pub mod Checks
+pub mod Showing

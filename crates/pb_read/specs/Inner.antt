@@ -9,4 +9,5 @@ pub mod MoneyKinds
 pub mod Opening
 pub mod Positions
 pub mod Progresses
+pub mod Showing
 pub mod Tracking

@@ -10,6 +10,7 @@ pub mod MetaRows
 pub mod Oddities
 pub mod Stages
 pub mod Rows
+pub mod Shown
 pub mod StandsFor
 pub mod Voting
 pub mod Inner

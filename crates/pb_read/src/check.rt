@@ -1,11 +1,17 @@
 //! The check of a whole file: it goes on after a faulty row.
 
-ghost use Rattle.std.specs.Prelude.{◌≡◌, ◌≢◌, [], None, Some, IfOk, IfSome, OnOk};
-ghost use Rattle.pb_rows.specs.Reading.{records_of};
-ghost use Rattle.pb_read.specs.Inner.Checking.{GoesOn, IsGoing, IsRefusal, Judges, JudgesEnd, JudgesRow};
+ghost use Rattle.std.specs.Prelude.{◌≡◌, ◌≢◌, ◌≤◌, ◌<◌, ◌+◌, [], true, List, Option, None, Some, length};
+ghost use Rattle.std.specs.Prelude.{IfErr, IfOk, IfSome, MatchResult, OnOk};
+ghost use Rattle.pb_rows.specs.Reading.{Fields, records_of};
+ghost use Rattle.pb_rows.specs.Inner.Reading.{HasReadAtMost};
+ghost use Rattle.pb_read.specs.Inner.Checking.{Blames, GoesOn, IsGoing, IsRefusal, Judges, JudgesEnd, JudgesRow};
+ghost use Rattle.pb_read.specs.Inner.Checking.{Stops};
 ghost use Rattle.pb_read.specs.Listed.{AreListed, IsHandedOut, is_of_row};
-ghost use Rattle.pb_read.specs.Inner.Progresses.{IsReady, place_of};
+ghost use Rattle.pb_read.specs.Shown.{Adds, Sight, sights_to, sights_to_end};
+ghost use Rattle.pb_read.specs.Inner.Showing.{IsShownNext, IsShownRow, Shows};
+ghost use Rattle.pb_read.specs.Inner.Progresses.{BlamesReader, IsReady, place_of};
 ghost use Rattle.pb_read.specs.Inner.Opening.{empty};
+ghost use Rattle.pb_read.specs.declared.fault.ReadFault.{ReadFault};
 ghost use Rattle.pb_read.specs.declared.progress.Stage.TheVariants.{Start};
 
 use crate::fault::{ReadFault, ReadKind};
@@ -23,7 +29,7 @@ use std::io::Read;
 /// The most faults that are listed.
 pub const MOST_FAULTS: usize = 1_000;
 
-/// No file of so many records has fewer than 1,000 that are left out, beside those that are kept.
+/// The most records that are looked at: those that are kept, and the 1,000 whose faults are listed.
 const MOST_CHECKED: u32 = 2_001_000;
 
 /// What a check of a whole file comes to.
@@ -46,26 +52,13 @@ impl Checked {
 }
 
 /// Lists what is wrong with a .pb file: a fault for each row of PROJECTS and VOTES that is refused, up to
-/// 1,000.
+/// 1,000; and hands out the election where there is none: the one that `read_pb` would answer.
 ///
 /// A row that is refused is left out, and the rows after it are read as if it were not there; votes for a
 /// project that was left out are `UnknownProject`. Any other fault ends the reading. After the 1,000th fault
 /// none is listed, and reading goes on for who looks on. Within the rows that are left out the reader is
 /// `read_pb`'s: where there is no fault it would answer an election, and otherwise the first of these. A
 /// reader that fails is the last fault.
-pub fn list_faults<R: Read + Drop, W: Watch>(
-    alloc: Global,
-    reader: R,
-    watch: &mut W,
-) -> Result<Vec<ReadFault>, NoMemory>
-    ensures { IfSome (R.remaining reader) (λ bytes.
-        IfOk result (λ faults. AreListed 0 (records_of bytes) faults.items)) }
-{
-    Ok(check_pb(alloc, reader, watch)?.into_faults())
-}
-
-/// Lists faults as `list_faults` does, and hands out the election where there is no fault: the one that
-/// `read_pb` would answer.
 pub fn check_pb<R: Read + Drop, W: Watch>(
     alloc: Global,
     reader: R,
@@ -75,6 +68,10 @@ pub fn check_pb<R: Read + Drop, W: Watch>(
         IfOk result (λ checked. AreListed 0 (records_of bytes) checked.faults.items)) }
     ensures election { IfSome (R.remaining reader) (λ bytes.
         IfOk result (λ checked. IsHandedOut (records_of bytes) checked.faults.items checked.election)) }
+
+    // Who looks on was shown all records and the end, where there is no fault.
+    ensures shown { IfSome (R.remaining reader) (λ bytes. IfOk result (λ checked. checked.faults.items ≡ [] →
+        Adds (sights_to_end (records_of bytes)) (W.shown watch.old) (W.shown watch.new))) }
 {
     let mut records = Records::new(alloc, reader);
     let checked = check_records(alloc, &mut records, watch);
@@ -93,6 +90,8 @@ fn check_records<R: Read, W: Watch>(
         IfOk result (λ checked. AreListed 0 all checked.faults.items)) }
     ensures election { IfSome records.old.left (λ all.
         IfOk result (λ checked. IsHandedOut all checked.faults.items checked.election)) }
+    ensures shown { IfSome records.old.left (λ all. IfOk result (λ checked. checked.faults.items ≡ [] →
+        Adds (sights_to_end all) (W.shown watch.old) (W.shown watch.new))) }
 {
     let mut faults = Vec::new(alloc);
     let mut check = Check::new(alloc);
@@ -106,6 +105,14 @@ fn check_records<R: Read, W: Watch>(
             Err(refused)
         }
     }
+}
+
+/// A record that is refused, or the end of a file that may not end there.
+#[derive(Clone, Copy)]
+pub(crate) struct Refused {
+    pub(crate) fault: ReadFault,
+    /// Whether it is a row that is left out: reading goes on as if it were not there.
+    is_left_out: bool,
 }
 
 /// What comes of the next record, or of the end.
@@ -134,7 +141,7 @@ pub(crate) struct Check {
 
 impl Check {
     /// Nothing was read yet.
-    fn new(alloc: Global) -> Check
+    pub(crate) fn new(alloc: Global) -> Check
         ensures start { place_of result.progress ≡ (Start, empty) }
         ensures ready { IsReady result.progress }
     {
@@ -159,30 +166,26 @@ impl Check {
         ensures faults { OnOk result (IfSome records.old.left (λ all. AreListed 0 all faults.new.items)) }
         ensures election { IfOk result (λ election.
             IfSome records.old.left (λ all. IsHandedOut all faults.new.items election)) }
+        ensures shown { OnOk result (IfSome records.old.left (λ all. faults.new.items ≡ [] →
+            Adds (sights_to_end all) (W.shown watch.old) (W.shown watch.new))) }
     {
-        for done in 0..MOST_CHECKED {
-            let at = done + 1;
-            let kept = done - faults.len() as u32;
-            match self.next(records, watch, kept, at) {
-                Verdict::Passes => {}
-                Verdict::LeavesOut(kind) => {
-                    faults.push(ReadFault { kind, at })?;
-                    if faults.len() >= MOST_FAULTS {
-                        self.read_on(records, watch, at);
+        let mut kept = 0;
+        for left_out in 0..MOST_FAULTS as u32 {
+            match self.read_to_fault(records, watch, kept, left_out) {
+                Ok(()) => return Ok(self.hand_out(faults)),
+                Err(refused) => {
+                    if refused.fault.kind == ReadKind::NoMemory {
+                        return Err(NoMemory);
+                    }
+                    faults.push(refused.fault)?;
+                    if !refused.is_left_out {
                         return Ok(None);
                     }
-                }
-                Verdict::Ends(ReadKind::NoMemory) => return Err(NoMemory),
-                Verdict::Ends(kind) => {
-                    faults.push(ReadFault { kind, at })?;
-                    return Ok(None);
-                }
-                Verdict::Done => {
-                    watch.end();
-                    return Ok(self.hand_out(faults));
+                    kept = refused.fault.at - left_out - 1;
                 }
             }
         }
+        self.read_on(records, watch, kept + MOST_FAULTS as u32);
         Ok(None)
     }
 
@@ -192,10 +195,17 @@ impl Check {
         ensures faulty { faults.now ≢ [] → result ≡ None }
     {
         if faults.is_empty() {
-            Some(self.progress.draft.take_election())
+            Some(self.take_election())
         } else {
             None
         }
+    }
+
+    /// Hands out the election of the rows that were accepted.
+    pub(crate) fn take_election(&mut self) -> Election
+        ensures { result ≡ self.old.progress.draft.election }
+    {
+        self.progress.draft.take_election()
     }
 
     /// Reads on after this many records, for who looks on.
@@ -206,9 +216,62 @@ impl Check {
             match self.next(records, watch, 0, before + 1) {
                 Verdict::Passes | Verdict::LeavesOut(_) => {}
                 Verdict::Ends(_) => return,
-                Verdict::Done => return watch.end(),
+                Verdict::Done => return watch.end(&self.progress.draft.election),
             }
         }
+    }
+
+    /// Reads on to the next fault, or to the end, after so many records that were kept, and so many that were
+    /// left out.
+    pub(crate) fn read_to_fault<R: Read, W: Watch>(
+        &mut self,
+        records: &mut Records<R>,
+        watch: &mut W,
+        kept: u32,
+        left_out: u32,
+    ) -> Result<(), Refused>
+        requires ready { IsReady self.old.progress }
+        requires kept { kept ≤ 2000000 }
+        requires left_out { left_out < 1000 }
+        ensures ready { IfErr result (λ refused. refused.is_left_out ≡ true → IsReady self.new.progress) }
+        ensures at { IfErr result (λ refused.
+            (left_out < refused.fault.at) × (refused.fault.at ≤ left_out + 2000001)) }
+        ensures stops { (all : Option (List Fields)) → (faults : List ReadFault) → length faults ≡ left_out →
+            IsGoing all records.old.left (kept + left_out) faults (place_of self.old.progress) →
+            Stops all records.new.left faults (place_of self.new.progress) result }
+        ensures shown { (all : Option (List Fields)) → (before : Option (List Sight)) →
+            Shows all records.old.left (kept + left_out) before (W.shown watch.old) →
+            IfSome all (λ records. MatchResult result
+            (λ _. Adds (sights_to_end records) before (W.shown watch.new))
+            (λ refused. Adds (sights_to refused.fault records) before (W.shown watch.new))) }
+        ensures blame { records.old.fault ≡ None →
+            IfErr result (λ refused. BlamesReader refused.fault.kind records.new.fault) }
+        ensures read { kept ≡ 0 → left_out ≡ 0 → HasReadAtMost 2000001 records.old.left records.new.left }
+    {
+        for before in kept..MOST_RECORDS + 1 {
+            let at = before + left_out + 1;
+            let (kind, is_left_out) = match self.next(records, watch, before, at) {
+                Verdict::Passes => continue,
+                Verdict::LeavesOut(kind) => (kind, true),
+                Verdict::Ends(kind) => (kind, false),
+                Verdict::Done => {
+                    watch.end(&self.progress.draft.election);
+                    return Ok(());
+                }
+            };
+            let fault = ReadFault { kind, at };
+            return Err(Refused { fault, is_left_out });
+        }
+        // The record after the most is refused, so none is left to read here.
+        let kind = ReadKind::TooManyRecords;
+        let fault = ReadFault {
+            kind,
+            at: MOST_RECORDS + left_out + 1,
+        };
+        Err(Refused {
+            fault,
+            is_left_out: false,
+        })
     }
 
     /// Reads the next record, number `at`, after so many that were kept, and judges it.
@@ -223,6 +286,11 @@ impl Check {
         ensures judged { Judges kept records.old.left records.new.left
             (place_of self.old.progress) (place_of self.new.progress) result }
         ensures ready { GoesOn result → IsReady self.new.progress }
+        ensures shown { IsShownNext records.old.left records.new.left at
+            (W.shown watch.old) (W.shown watch.new) result }
+        ensures blame { records.old.fault ≡ None → Blames result records.new.fault }
+        ensures goes_on { GoesOn result → records.new.fault ≡ None }
+        ensures read { HasReadAtMost 1 records.old.left records.new.left }
     {
         match self.row.read_any(self.alloc, &mut self.raw, records) {
             Ok(Found::Text) => self.judge(watch, kept, at),
@@ -232,8 +300,16 @@ impl Check {
                 self.refused_by(kind)
             }
             Ok(Found::End) => self.judge_end(watch, at),
-            Err(RecordsFault::NoMemory) => Verdict::Ends(ReadKind::NoMemory),
-            Err(_) => Verdict::Ends(ReadKind::ReadFailed),
+            Err(stopped) => {
+                let kind = match stopped {
+                    RecordsFault::NoMemory => ReadKind::NoMemory,
+                    // No field of a record of bytes has to be text.
+                    RecordsFault::ReadFailed | RecordsFault::NotText => ReadKind::ReadFailed,
+                };
+                self.raw.clear();
+                watch.refuse(&self.raw, ReadFault { kind, at }, &self.progress.stage);
+                Verdict::Ends(kind)
+            }
         }
     }
 
@@ -243,6 +319,8 @@ impl Check {
         ensures judged { JudgesRow kept self.old.row
             (place_of self.old.progress) (place_of self.new.progress) result }
         ensures ready { GoesOn result → IsReady self.new.progress }
+        ensures shown { IsShownRow self.old.row at (W.shown watch.old) (W.shown watch.new) result }
+        ensures blame { Blames result None }
     {
         if kept == MOST_RECORDS {
             let kind = ReadKind::TooManyRecords;
@@ -253,10 +331,9 @@ impl Check {
             );
             return Verdict::Ends(kind);
         }
-        let part = self.progress.part_of(&self.row);
         match self.progress.read(&self.row) {
-            Ok(()) => {
-                watch.see(self.row.bytes(), at, part);
+            Ok(part) => {
+                watch.see(self.row.bytes(), at, part, &self.progress.draft.election);
                 Verdict::Passes
             }
             Err(kind) => {
@@ -272,7 +349,9 @@ impl Check {
 
     /// Judges the end of the file, where record `at` would stand.
     fn judge_end<W: Watch>(&self, watch: &mut W, at: u32) -> Verdict
-        ensures { JudgesEnd (place_of self.now.progress) result }
+        ensures judged { JudgesEnd (place_of self.now.progress) result }
+        ensures shown { IsShownRow [] at (W.shown watch.old) (W.shown watch.new) result }
+        ensures blame { Blames result None }
     {
         match self.progress.may_end() {
             Ok(()) => Verdict::Done,

@@ -18,7 +18,7 @@ mod vote;
 pub mod warning;
 mod watch;
 
-pub use check::{Checked, MOST_FAULTS, check_pb, list_faults};
+pub use check::{Checked, MOST_FAULTS, check_pb};
 pub use columns::{ProjectColumns, VoteColumns};
 pub use fault::{ReadFault, ReadKind};
 pub use laws::{first_listed, max_length_is_what_its_text_names, one_answer};

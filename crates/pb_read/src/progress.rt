@@ -39,19 +39,6 @@ pub enum Stage {
     InVotes(VoteColumns),
 }
 
-impl Stage {
-    /// What a record is that comes at this stage, and is neither blank nor a section's head.
-    fn part(&self) -> Part {
-        match *self {
-            Stage::Start => Part::Other,
-            Stage::Header(_) => Part::Names,
-            Stage::InMeta(_) => Part::Key,
-            Stage::InProjects(columns) => Part::Project(columns),
-            Stage::InVotes(columns) => Part::Vote(columns),
-        }
-    }
-}
-
 /// How far a file was read, and what it gave so far.
 #[derive(Drop)]
 pub(crate) struct Progress {
@@ -71,15 +58,15 @@ impl Progress {
         }
     }
 
-    /// Reads a record, or answers the lowest fault that applies to it.
-    pub(crate) fn read(&mut self, row: &Row) -> Result<(), ReadKind>
+    /// Reads a record, and answers what it is, or the lowest fault that applies to it.
+    pub(crate) fn read(&mut self, row: &Row) -> Result<Part, ReadKind>
         requires { IsReady self.old }
         ensures ok { OnOk result (Advances self.old (next_row row.now) self.new) }
         ensures err { IfErr result (Refuses self.old (next_row row.now)) }
         ensures stays { IfErr result (λ kind. kind ≢ ReadKind.NoMemory → Stays self.old self.new) }
     {
         if row.is_blank() {
-            return Ok(());
+            return Ok(Part::Other);
         }
         match Section::headed_by(row) {
             Some(section) => self.open(section),
@@ -89,7 +76,7 @@ impl Progress {
 
     /// Reads a section's head.
     #[tactic(auto, unfolding(crate::specs::Inner::Machine::row_fault))]
-    fn open(&mut self, section: Section) -> Result<(), ReadKind>
+    fn open(&mut self, section: Section) -> Result<Part, ReadKind>
         requires { IsReady self.old }
         ensures ok { OnOk result (Advances self.old (head section) self.new) }
         ensures err { IfErr result (Refuses self.old (head section)) }
@@ -98,7 +85,7 @@ impl Progress {
         match (self.stage, section) {
             (Stage::Start, Section::Meta) | (Stage::InProjects(_), Section::Votes) => {
                 self.stage = Stage::Header(section);
-                Ok(())
+                Ok(Part::Head(section))
             }
             (Stage::InMeta(meta), Section::Projects) => self.open_projects(meta),
             (Stage::Header(_), _) => Err(ReadKind::NoHeader),
@@ -107,7 +94,7 @@ impl Progress {
     }
 
     /// Reads PROJECTS' head after META.
-    fn open_projects(&mut self, meta: Meta) -> Result<(), ReadKind>
+    fn open_projects(&mut self, meta: Meta) -> Result<Part, ReadKind>
         requires { IsRead meta }
         ensures ok { OnOk result ((meta_checks meta ≡ None)
             × (place_of self.new ≡ (Header Projects, opening (terms_said meta))) × IsReady self.new) }
@@ -121,47 +108,57 @@ impl Progress {
         let draft = Draft::new(self.draft.alloc, terms);
         drop(mem::replace(&mut self.draft, draft));
         self.stage = Stage::Header(Section::Projects);
-        Ok(())
+        Ok(Part::Head(Section::Projects))
     }
 
     /// Reads a row that is no section's head.
     #[tactic(auto, unfolding(crate::specs::Inner::Machine::row_fault))]
-    fn read_plain(&mut self, row: &Row) -> Result<(), ReadKind>
+    fn read_plain(&mut self, row: &Row) -> Result<Part, ReadKind>
         requires { IsReady self.old }
         ensures ok { OnOk result (Advances self.old (plain row.now) self.new) }
         ensures err { IfErr result (Refuses self.old (plain row.now)) }
         ensures stays { IfErr result (λ kind. kind ≢ ReadKind.NoMemory → Stays self.old self.new) }
     {
         match self.stage {
-            Stage::Start => return Err(ReadKind::NoSection),
-            Stage::Header(Section::Meta) => self.stage = Stage::InMeta(Meta::new()),
-            Stage::Header(Section::Projects) => match ProjectColumns::of(row) {
-                Some(columns) => self.stage = Stage::InProjects(columns),
-                None => return Err(ReadKind::MissingColumn),
-            },
-            Stage::Header(Section::Votes) => match VoteColumns::of(row) {
-                Some(columns) => self.stage = Stage::InVotes(columns),
-                None => return Err(ReadKind::MissingColumn),
-            },
+            Stage::Start => Err(ReadKind::NoSection),
+            Stage::Header(section) => self.read_names(section, row),
             Stage::InMeta(mut meta) => {
                 meta.note(row);
                 self.stage = Stage::InMeta(meta);
+                Ok(Part::Key)
             }
-            Stage::InProjects(columns) => return self.draft.add_project(columns, row),
-            Stage::InVotes(columns) => return self.draft.add_voter(columns, row),
+            Stage::InProjects(columns) => match self.draft.add_project(columns, row) {
+                Ok(()) => Ok(Part::Project(columns)),
+                Err(kind) => Err(kind),
+            },
+            Stage::InVotes(columns) => match self.draft.add_voter(columns, row) {
+                Ok(()) => Ok(Part::Vote(columns)),
+                Err(kind) => Err(kind),
+            },
         }
-        Ok(())
     }
 
-    /// What a record is that comes next.
-    pub(crate) fn part_of(&self, row: &Row) -> Part {
-        if row.is_blank() {
-            return Part::Other;
+    /// Reads the row of column names of this section.
+    #[tactic(auto, unfolding(crate::specs::Inner::Machine::row_fault))]
+    fn read_names(&mut self, section: Section, row: &Row) -> Result<Part, ReadKind>
+        requires ready { IsReady self.old }
+        requires due { self.old.stage ≡ Header section }
+        ensures ok { OnOk result (Advances self.old (plain row.now) self.new) }
+        ensures err { IfErr result (Refuses self.old (plain row.now)) }
+        ensures stays { IfErr result (λ kind. kind ≢ ReadKind.NoMemory → Stays self.old self.new) }
+    {
+        match section {
+            Section::Meta => self.stage = Stage::InMeta(Meta::new()),
+            Section::Projects => match ProjectColumns::of(row) {
+                Some(columns) => self.stage = Stage::InProjects(columns),
+                None => return Err(ReadKind::MissingColumn),
+            },
+            Section::Votes => match VoteColumns::of(row) {
+                Some(columns) => self.stage = Stage::InVotes(columns),
+                None => return Err(ReadKind::MissingColumn),
+            },
         }
-        match Section::headed_by(row) {
-            Some(section) => Part::Head(section),
-            None => self.stage.part(),
-        }
+        Ok(Part::Names(section))
     }
 
     /// Whether rows of PROJECTS or of VOTES are read.
@@ -169,17 +166,6 @@ impl Progress {
         ensures { result ≡ is_in_rows self.now.stage }
     {
         matches!(self.stage, Stage::InProjects(_) | Stage::InVotes(_))
-    }
-
-    /// Hands out the election, where the file may end here.
-    pub(crate) fn finish(&mut self) -> Result<Election, ReadKind>
-        ensures end { MatchResult result (EndsWith (place_of self.old)) (Refuses self.old the_end) }
-        ensures no_row { IfErr result (λ kind. leaves_out self.old.stage kind ≡ false) }
-    {
-        match self.may_end() {
-            Ok(()) => Ok(self.draft.take_election()),
-            Err(kind) => Err(kind),
-        }
     }
 
     /// Whether the file may end here, or why not.

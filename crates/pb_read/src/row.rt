@@ -1,14 +1,13 @@
 //! A record of the file as its trimmed fields.
 
-ghost use Rattle.std.specs.Prelude.{◌≡◌, None, Some, IfErr, IfOk, OnErr};
+ghost use Rattle.std.specs.Prelude.{◌≡◌, ◌≢◌, Err, None, Some, IfErr, IfOk, OnOk};
 ghost use Rattle.std.specs.Str.{trim};
 ghost use Rattle.csv.specs.Records.{fields_of};
-ghost use Rattle.pb_rows.specs.Reading.{NextIsNoText};
+ghost use Rattle.pb_rows.specs.Inner.Reading.{HasReadAtMost};
 ghost use Rattle.pb_read.specs.Columns.{column, has_fields};
 ghost use Rattle.pb_read.specs.Inner.Fields.{trimmed};
 ghost use Rattle.pb_read.specs.Rows.{field, is_blank, is_word};
 ghost use Rattle.pb_read.specs.Inner.Checking.{HasFound};
-ghost use Rattle.pb_read.specs.Inner.Tracking.{IsNextRow};
 
 use csv::{ByteRecord, StringRecord};
 use pb_rows::{Records, RecordsFault};
@@ -52,16 +51,6 @@ impl Row {
         }
     }
 
-    /// Reads the next record, and answers whether there was one.
-    pub(crate) fn read<R: Read>(&mut self, records: &mut Records<R>) -> Result<bool, RecordsFault>
-        ensures next { IfOk result (λ found. IsNextRow records.old.left records.new.left found self.new) }
-        ensures not_text { result ≡ Err RecordsFault.NotText → NextIsNoText records.old.left }
-        ensures stops { IfErr result (λ fault. records.new.fault ≡ Some fault) }
-        ensures unknown { OnErr result (records.new.left ≡ None) }
-    {
-        records.read(&mut self.untrimmed)
-    }
-
     /// Reads the next record, which need not be text: into this row where it is, and else into `raw`.
     pub(crate) fn read_any<R: Read>(
         &mut self,
@@ -69,7 +58,11 @@ impl Row {
         raw: &mut ByteRecord,
         records: &mut Records<R>,
     ) -> Result<Found, RecordsFault>
-        ensures { IfOk result (HasFound records.old.left records.new.left self.new) }
+        ensures found { IfOk result (HasFound records.old.left records.new.left self.new) }
+        ensures goes_on { OnOk result (records.new.fault ≡ None) }
+        ensures stops { IfErr result (λ fault. records.new.fault ≡ Some fault) }
+        ensures bytes { records.old.fault ≡ None → result ≢ Err RecordsFault.NotText }
+        ensures read { HasReadAtMost 1 records.old.left records.new.left }
     {
         if !records.read_bytes(raw)? {
             return Ok(Found::End);
@@ -89,7 +82,9 @@ impl Row {
     }
 
     /// The record as it stands in the file.
-    pub(crate) fn bytes(&self) -> &ByteRecord {
+    pub(crate) fn bytes(&self) -> &ByteRecord
+        ensures { trimmed (fields_of result.now) ≡ self.now }
+    {
         self.untrimmed.as_byte_record()
     }
 

@@ -1,6 +1,9 @@
 //! Who looks on while a file is read.
 
-ghost use Rattle.std.specs.Prelude.{◌≡◌, ℕ, List, Option, OnOk};
+ghost use Rattle.std.specs.Prelude.{◌≡◌, [], ◌∷◌, ℕ, List, map, Option, OnOk};
+ghost use Rattle.std.specs.Str.{trim};
+ghost use Rattle.csv.specs.Records.{fields_of};
+ghost use Rattle.pb_read.specs.Shown.{Adds, Sight, ended, refused, seen};
 ghost use Rattle.pb_read.specs.declared.warning.Warning.{Warning};
 
 use crate::columns::{ProjectColumns, VoteColumns};
@@ -9,6 +12,7 @@ use crate::progress::Stage;
 use crate::section::Section;
 use crate::warning::{Warning, WarningRow};
 use csv::ByteRecord;
+use pb_core::election::Election;
 use pb_core::no_memory::NoMemory;
 
 /// What a record of a file is, by where it stands.
@@ -18,8 +22,8 @@ pub enum Part {
     Other,
     /// The head of this section.
     Head(Section),
-    /// A section's row of column names.
-    Names,
+    /// The row of column names of this section.
+    Names(Section),
     /// A row of META: a key and its value.
     Key,
     /// A row of PROJECTS, with the places of its columns.
@@ -30,16 +34,25 @@ pub enum Part {
 
 /// Who looks on while a file is read. It is only shown what the reader reads, so it changes nothing of it.
 pub trait Watch {
+    ghost use Rattle.std.specs.Prelude.{None};
+
+    /// What it was shown, in order, where it says so.
+    ghost shown: { Self → Option (List Sight) } = { λ _. None };
+
     /// Sees the record with this number, from 1, as it stands in the file, and what it is. The reader has
-    /// accepted it.
-    fn see(&mut self, record: &ByteRecord, at: u32, part: Part);
+    /// accepted it: a row of PROJECTS or of VOTES is the last project or voter of the election so far.
+    fn see(&mut self, record: &ByteRecord, at: u32, part: Part, election: &Election)
+        ensures shown { Adds (seen at (map trim (fields_of record.now)) ∷ []) (shown self.old) (shown self.new) };
 
     /// Sees the record that the reader refuses, why, and how far the file was read before it. The record has
-    /// no field where there is none: the file ends, or `read_pb` met a field that is no text.
-    fn refuse(&mut self, record: &ByteRecord, fault: ReadFault, stage: &Stage);
+    /// no field where there is none: the file ends, or its reader failed.
+    fn refuse(&mut self, record: &ByteRecord, fault: ReadFault, stage: &Stage)
+        ensures shown { Adds (refused fault ∷ []) (shown self.old) (shown self.new) };
 
-    /// Learns that the file has ended, and may end there: all of its rows were shown.
-    fn end(&mut self);
+    /// Learns that the file has ended, and may end there: all of its rows were shown, and those that were
+    /// accepted gave this election.
+    fn end(&mut self, election: &Election)
+        ensures shown { Adds (ended ∷ []) (shown self.old) (shown self.new) };
 }
 
 /// Who looks on at a check, and then warns.
@@ -75,11 +88,11 @@ pub trait Heed: Watch {
 pub struct NoWatch;
 
 impl Watch for NoWatch {
-    fn see(&mut self, _record: &ByteRecord, _at: u32, _part: Part) {}
+    fn see(&mut self, _record: &ByteRecord, _at: u32, _part: Part, _election: &Election) {}
 
     fn refuse(&mut self, _record: &ByteRecord, _fault: ReadFault, _stage: &Stage) {}
 
-    fn end(&mut self) {}
+    fn end(&mut self, _election: &Election) {}
 }
 
 impl Heed for NoWatch {

@@ -16,6 +16,7 @@ use Rattle.pb_rounds.specs.Run.{ElectedView}
 use Rattle.pb_rounds.specs.declared.rule.FillUp.{FillUp}
 use Rattle.pb_rounds.specs.declared.rule.FillUp.TheVariants.{Nothing, MostVotes}
 use Rattle.pb_reasons.specs.Counted.{CountedView, IsCountBy, IsCounted, counted}
+use Rattle.pb_reasons.specs.CountedElection.{CountedElectionView, IsCountedElection}
 use Rattle.pb_reasons.specs.Reasons.{ending_of, project_reason, round_of}
 use Rattle.pb_reasons.specs.Inner.Numbers.{AreNumbers}
 use Rattle.pb_reasons.specs.Inner.OfOutcome.{ending_as, ending_with, outcome_ending, outcome_reason}
@@ -29,6 +30,9 @@ pub result_of : (rule : Rule) (e : ElectionView) (c : CountedView) → IsCountBy
 result_of rule e c count =
     let P : CountedView → Type 0 = IsCounted e in
     subst P (sym count.2) (rule.options, count.1, refl)
+
+pub counted_is_result : (c : CountedElectionView) → IsCountedElection c → IsCounted c.election c.counted
+counted_is_result c is = result_of c.rule c.election c.counted (c.counted.outcome, is.is_count, is.is_filled_up)
 
 voted_is_known : (e : ElectionView) (place : ℕ) → 0 < votes_at (support_of e) place → place < length e.projects
 voted_is_known e place voted = elim (cases_lt place (length e.projects)) [

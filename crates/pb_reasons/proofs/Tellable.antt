@@ -2,6 +2,7 @@
 use Rattle.std.proofs.Common.{refl}
 use Rattle.pb_core.specs.Election.{ElectionView, IsElection}
 use Rattle.pb_price.specs.Supporters.{IsSupport, support_of}
+use Rattle.pb_reasons.specs.CountedElection.{CountedElectionView, IsCountedElection}
 use Rattle.pb_reasons.specs.Inner.Told.{CanBeTold}
 use Rattle.pb_rounds.proofs.Counted.{is_computed, settled_run}
 use Rattle.pb_rounds.proofs.Settled.{settled_has_rests, settled_is_paid_in_turn}
@@ -26,3 +27,6 @@ count_can_be_told e options o h counted =
       collected = sums.1;
       price_system = settled_is_paid_in_turn options.measure e support o.share o.raised o run;
     }
+
+pub counted_can_be_told : (c : CountedElectionView) → IsCountedElection c → CanBeTold c.election c.counted.outcome
+counted_can_be_told c is = count_can_be_told c.election c.rule.options c.counted.outcome is.is_election is.is_count

@@ -2,6 +2,7 @@
 pub mod BesideVotes
 pub mod Comparison
 pub mod Counted
+pub mod CountedElection
 pub mod RaiseEnd
 pub mod Reasons
 pub mod Ties

@@ -1,5 +1,5 @@
 -- What those come to together that a count elects and adds.
-use Rattle.std.specs.Prelude.{ℕ, ◌+◌, ◌-◌, List, sum_by}
+use Rattle.std.specs.Prelude.{◌+◌, ◌-◌, sum_by}
 use Rattle.pb_core.specs.Election.{ElectionView}
 use Rattle.pb_price.specs.Supporters.{cost_at, support_of}
 use Rattle.pb_rounds.specs.Count.{spent_on}

@@ -21,7 +21,7 @@ use std::marker::Model;
 
 /// What a count comes to: its outcome, and what is added to that.
 #[derive(Drop)]
-pub struct Counted {
+pub(crate) struct Counted {
     pub(crate) outcome: Outcome,
     fill_up: FillUp,
     pub(crate) added: Vec<u32>,
@@ -38,7 +38,7 @@ impl Model for Counted {
 impl Counted {
     /// The outcome of a count of this election, and what is added to its elected out of what they leave of
     /// the budget.
-    pub fn of(
+    pub(crate) fn of(
         alloc: Global,
         election: &Election,
         outcome: Outcome,
@@ -60,43 +60,15 @@ impl Counted {
         }
     }
 
-    /// Everyone's share of the budget, in hundredths.
-    pub fn share(&self) -> Money
-        ensures { result ≡ self.now.outcome.share }
-    {
-        self.outcome.share
-    }
-
-    /// How many times the share was raised.
-    pub fn raised(&self) -> u32
-        ensures { result ≡ self.now.outcome.raised }
-    {
-        self.outcome.raised
-    }
-
-    /// The elected, in order of election.
-    pub fn elected(&self) -> &[Elected]
-        ensures { result.now ≡ self.now.outcome.elected }
-    {
-        self.outcome.elected.as_slice()
-    }
-
-    /// How what the elected leave of the budget is filled up.
-    pub fn fill_up(&self) -> FillUp
-        ensures { result ≡ self.now.fill_up }
-    {
-        self.fill_up
-    }
-
     /// The projects that are added, by place, in the order in which they are added.
-    pub fn added(&self) -> &[u32]
+    pub(crate) fn added(&self) -> &[u32]
         ensures { result.now ≡ self.now.added }
     {
         self.added.as_slice()
     }
 
     /// The places of the elected, in order of election, and then of the added in theirs.
-    pub fn winners(&self, alloc: Global) -> Result<Vec<u32>, NoMemory>
+    pub(crate) fn winners(&self, alloc: Global) -> Result<Vec<u32>, NoMemory>
         ensures { IfOk result (λ places. places.items ≡ winners_of self.now) }
     {
         let mut places = places_of(alloc, self.outcome.elected.as_slice())?;

@@ -1,10 +1,11 @@
 //! Laws over what a count comes to, each as the contract of a function that does nothing.
 
 ghost use Rattle.std.specs.Prelude.{◌≡◌, ◌≢◌, ◌-◌, ◌<◌, ◌≤◌, ℕ, All, AllPairs, false};
-ghost use Rattle.pb_core.specs.Election.{ElectionView, IsElection};
+ghost use Rattle.pb_core.specs.Election.{ElectionView};
 ghost use Rattle.pb_rounds.specs.MostVotes.{fits, is_taken};
 ghost use Rattle.pb_price.specs.Supporters.{support_of};
-ghost use Rattle.pb_reasons.specs.Counted.{CountedView, IsCounted, is_selected, winners_of};
+ghost use Rattle.pb_reasons.specs.Counted.{CountedView, is_selected, winners_of};
+ghost use Rattle.pb_reasons.specs.CountedElection.{CountedElectionView, IsCountedElection};
 ghost use Rattle.pb_reasons.specs.Ties.{ties_of};
 ghost use Rattle.pb_reasons.specs.Totals.{totals_of};
 ghost use Rattle.pb_reasons.specs.declared.tie.Tie.{Tie};
@@ -18,13 +19,13 @@ ghost use Rattle.pb_rounds.specs.declared.rule.FillUp.TheVariants.{MostVotes};
 /// winners leave of the budget.
 pub fn winners_share_the_budget()
     ensures selected { (c : CountedView) (place : ℕ) → is_selected c place ≡ is_taken (winners_of c) place }
-    ensures once { (e : ElectionView) (c : CountedView) → IsElection e → IsCounted e c
-        → AllPairs (λ place other. place ≢ other) (winners_of c) }
-    ensures paid { (e : ElectionView) (c : CountedView) → IsElection e → IsCounted e c
-        → (totals_of e c).spent ≤ e.budget }
-    ensures none_fits { (e : ElectionView) (c : CountedView) (place : ℕ) → IsElection e → IsCounted e c
-        → c.fill_up ≡ MostVotes
-        → fits (support_of e) (winners_of c) (e.budget - (totals_of e c).spent) place ≡ false }
+    ensures once { (c : CountedElectionView) → IsCountedElection c
+        → AllPairs (λ place other. place ≢ other) (winners_of c.counted) }
+    ensures paid { (c : CountedElectionView) → IsCountedElection c
+        → (totals_of c.election c.counted).spent ≤ c.election.budget }
+    ensures none_fits { (c : CountedElectionView) (place : ℕ) → IsCountedElection c → c.rule.fill_up ≡ MostVotes
+        → fits (support_of c.election) (winners_of c.counted)
+        (c.election.budget - (totals_of c.election c.counted).spent) place ≡ false }
 {}
 
 /// Only the order of the file decided the ties of a count: its winner comes before the other project.

@@ -12,7 +12,8 @@ ghost use Rattle.pb_reasons.specs.RaiseEnd.{IsRaiseEnd};
 ghost use Rattle.pb_reasons.specs.Inner.OfOutcome.{IsOutcome};
 ghost use Rattle.pb_reasons.specs.Inner.Raises.{TellsExhausted};
 
-use crate::counted::{Counted, places_of};
+use crate::counted::places_of;
+use crate::counted_election::CountedElection;
 use crate::room::{leave_room_for_any_project, leave_room_for_any_voter};
 use crate::totals::spent_for;
 use crate::winners::Winners;
@@ -50,23 +51,22 @@ pub enum RaiseEnd {
 }
 
 impl RaiseEnd {
-    /// Why the raises of a count by these options, which came to this, ended. Where it is not exhausted, the
-    /// method is run once more, at the share after one raise more, by as many workers as count.
+    /// Why the raises of a count ended. Where it is not exhausted, the method is run once more, at the share
+    /// after one raise more, by as many workers as count.
     pub fn of<R: Threads + Sync, G: Gate>(
         rt: &R,
         alloc: Global,
-        election: &Election,
-        options: &CountOptions,
-        counted: &Counted,
+        count: &CountedElection,
         gate: &G,
     ) -> Result<RaiseEnd, NoMemory>
-        requires { IsCountOf election.now options.now counted.now.outcome }
-        ensures { IfOk result (IsRaiseEnd election.now options.now counted.now.outcome) }
+        ensures { IfOk result
+            (IsRaiseEnd count.now.election count.now.rule.options count.now.counted.outcome) }
     {
+        let options = count.rule().options;
         match options.completion {
             Completion::Plain => Ok(RaiseEnd::Plain),
             Completion::Add1 => {
-                completed_end(rt, alloc, election, options, &counted.outcome, gate)
+                completed_end(rt, alloc, count.election(), &options, count.outcome(), gate)
             }
         }
     }

@@ -65,6 +65,13 @@ impl Reasons {
         &self.supporters
     }
 
+    /// The round of each project, from 0; as many as there are elected where it has none.
+    pub(crate) fn rounds(&self) -> &[u32]
+        ensures { result.now ≡ self.now.rounds }
+    {
+        self.rounds.as_slice()
+    }
+
     /// Why the project at this place is elected, or is not.
     pub(crate) fn project(
         &self,

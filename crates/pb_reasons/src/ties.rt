@@ -3,17 +3,14 @@
 ghost use Rattle.std.specs.Prelude.{◌≡◌, ◌<◌, ◌≤◌, All, IfOk, flat_map, length, replicate, take};
 ghost use Rattle.std.specs.List.{range_with_len};
 ghost use Rattle.pb_price.specs.Price.{largest_share};
-ghost use Rattle.pb_price.specs.Supporters.{support_of};
-ghost use Rattle.pb_reasons.specs.Counted.{IsCounted};
 ghost use Rattle.pb_reasons.specs.Inner.Rounds.{AreOpeningBounds};
 ghost use Rattle.pb_reasons.specs.Ties.{ties_in, ties_of};
 
-use crate::counted::Counted;
+use crate::counted_election::CountedElection;
 use crate::replay::pay;
 use crate::tie::Tie;
 use crate::tie_queue::opening_queue;
 use crate::tied_round::TiedRound;
-use pb_core::election::Election;
 use pb_core::money::Money;
 use pb_core::no_memory::NoMemory;
 use pb_price::supporters::Supporters;
@@ -21,27 +18,20 @@ use pb_rounds::measure::Measure;
 use pb_rounds::outcome::Elected;
 use std::alloc::Global;
 
-/// The ties of a count by this measure, with these supporters of its projects, that the order of the file
-/// decided, in order of the rounds and then of the file: where a project that is not elected in the end had a
-/// price in a round as good as that of the project that the round elected. The first hundred are told.
+/// The ties of a count that the order of the file decided, in order of the rounds and then of the file: where a
+/// project that is not elected in the end had a price in a round as good as that of the project that the round
+/// elected. The first hundred are told.
 ///
 /// It replays the rounds. In a round it looks only at projects whose last known price, which never falls, is
 /// not already above a tie: a queue has them by that price.
-pub fn ties_of(
-    alloc: Global,
-    election: &Election,
-    supporters: &Supporters,
-    measure: Measure,
-    counted: &Counted,
-) -> Result<Vec<Tie>, NoMemory>
-    requires supporters { supporters.now ≡ support_of election.now }
-    requires counted { IsCounted election.now counted.now }
-    ensures { IfOk result (λ ties. ties.items ≡ ties_of measure election.now counted.now.outcome) }
+pub fn ties_of(alloc: Global, count: &CountedElection) -> Result<Vec<Tie>, NoMemory>
+    ensures { IfOk result (λ ties. ties.items
+        ≡ ties_of count.now.rule.options.measure count.now.election count.now.counted.outcome) }
 {
-    // What is true of every election is true of its outcomes.
-    let _budget = election.budget();
-    let (share, elected) = (counted.share(), counted.elected());
-    replay_ties(alloc, supporters, measure, share, elected)
+    let (rule, outcome) = (count.rule(), count.outcome());
+    let elected = outcome.elected.as_slice();
+    let (supporters, measure) = (count.supporters(), rule.options.measure);
+    replay_ties(alloc, supporters, measure, outcome.share, elected)
 }
 
 /// The ties of a run at this share that elected these.

@@ -24,7 +24,7 @@ pub struct Totals {
 
 impl Totals {
     /// The totals of what a count of this election comes to.
-    pub fn of(election: &Election, counted: &Counted) -> Totals
+    pub(crate) fn of(election: &Election, counted: &Counted) -> Totals
         requires { IsCounted election.now counted.now }
         ensures { result ≡ totals_of election.now counted.now }
     {

@@ -2,17 +2,14 @@
 
 ghost use Rattle.std.specs.Prelude.{◌≡◌, ◌<◌, All, ◌^◌, IfOk, OnOk, count_by, filter, length, map, nat_lt};
 ghost use Rattle.std.specs.Prelude.{slice_index};
-ghost use Rattle.pb_reasons.specs.Counted.{IsCounted};
-ghost use Rattle.pb_reasons.specs.Inner.OfOutcome.{IsOutcome, outcome_voter};
+ghost use Rattle.pb_reasons.specs.Inner.OfOutcome.{outcome_voter};
 ghost use Rattle.pb_reasons.specs.Inner.Told.{CanBeTold};
 ghost use Rattle.pb_reasons.specs.Inner.Turns.{amount_at};
 ghost use Rattle.pb_reasons.specs.Reasons.{voter_payments, voter_reason};
 
-use crate::counted::Counted;
-use crate::numbers::numbers_of;
+use crate::counted_election::CountedElection;
 use crate::payment::Payment;
 use crate::purse::Purse;
-use crate::rounds::rounds_of;
 use crate::voter_reason::VoterReason;
 use pb_core::election::Election;
 use pb_core::money::Money;
@@ -23,105 +20,49 @@ use std::marker::Model;
 
 /// Tells what the ballots of a counted election came to, one voter after the other.
 ///
-/// A contract sees the election and what its count comes to.
+/// A contract sees the counted election.
 #[derive(Drop)]
 pub struct VoterTeller<'a> {
-    filled: Filled<'a>,
+    count: &'a CountedElection,
+    turns: Turns<'a>,
 }
 
 impl<'a> Model for VoterTeller<'a> {
-    ghost use Rattle.pb_core.specs.Election.{ElectionView};
-    ghost use Rattle.pb_reasons.specs.Counted.{CountedView};
+    ghost use Rattle.std.specs.Prelude.{◌≡◌};
+    ghost use Rattle.pb_reasons.specs.CountedElection.{CountedElectionView};
 
-    ghost Value = { ElectionView × CountedView };
+    ghost Value = { CountedElectionView };
 
-    ghost view = { λ t. t.filled };
+    ghost view = { λ t. t.count.now };
+
+    ghost invariant = { λ t. t.turns ≡ (t.count.now.election, t.count.now.counted.outcome) };
 }
 
 impl<'a> VoterTeller<'a> {
-    /// A teller of what a count of this election comes to.
-    pub fn of(
-        alloc: Global,
-        election: &'a Election,
-        counted: &'a Counted,
-    ) -> Result<VoterTeller<'a>, NoMemory>
-        requires { IsCounted election.now counted.now }
-        ensures { IfOk result (λ teller. teller ≡ (election.now, counted.now)) }
+    /// A teller of this counted election.
+    pub fn of(alloc: Global, count: &'a CountedElection) -> Result<VoterTeller<'a>, NoMemory>
+        ensures { IfOk result (λ teller. teller ≡ count.now) }
     {
-        let filled = Filled::of(alloc, election, counted)?;
-        Ok(VoterTeller { filled })
+        let turns = Turns::of(alloc, count)?;
+        Ok(VoterTeller { count, turns })
     }
 
     /// What the ballot of the voter at this position came to; the payments come into the list, in place of
     /// what it held.
     pub fn tell(&mut self, voter: u32, payments: &mut Vec<Payment>) -> Result<VoterReason, NoMemory>
-        requires { voter < length self.old.0.voters }
-        ensures reason { IfOk result (λ reason. reason ≡ voter_reason self.old.0 self.old.1 voter) }
+        requires { voter < length self.old.election.voters }
+        ensures reason { IfOk result (λ reason.
+            reason ≡ voter_reason self.old.election self.old.counted voter) }
         ensures payments { OnOk result
-            (payments.new.items ≡ voter_payments self.old.0 self.old.1.outcome voter) }
+            (payments.new.items ≡ voter_payments self.old.election self.old.counted.outcome voter) }
         ensures same { self.new ≡ self.old }
     {
-        self.filled.tell(voter, payments)
-    }
-}
-
-/// What it takes to tell of voters, and of what was added.
-#[derive(Drop)]
-struct Filled<'a> {
-    kept: Kept<'a>,
-    election: &'a Election,
-    counted: &'a Counted,
-    /// The number of each project among the added ones, from 0; as many as there are where it is none of
-    /// them.
-    numbers: Vec<usize>,
-}
-
-impl<'a> Model for Filled<'a> {
-    ghost use Rattle.std.specs.Prelude.{◌≡◌, length};
-    ghost use Rattle.pb_core.specs.Election.{ElectionView};
-    ghost use Rattle.pb_reasons.specs.Counted.{CountedView};
-    ghost use Rattle.pb_reasons.specs.Inner.Numbers.{AreNumbers};
-
-    ghost Value = { ElectionView × CountedView };
-
-    ghost view = { λ f. (f.election.now, f.counted.now) };
-
-    ghost invariant = { λ f. (f.kept ≡ (f.election.now, f.counted.now.outcome))
-        × AreNumbers (length f.election.now.projects) f.counted.now.added f.numbers.items };
-}
-
-impl<'a> Filled<'a> {
-    fn of(
-        alloc: Global,
-        election: &'a Election,
-        counted: &'a Counted,
-    ) -> Result<Filled<'a>, NoMemory>
-        requires { IsCounted election.now counted.now }
-        ensures { IfOk result (λ filled. filled ≡ (election.now, counted.now)) }
-    {
-        let numbers = numbers_of(alloc, counted.added.as_slice(), election.projects().len())?;
-        let kept = Kept::of(alloc, election, &counted.outcome)?;
-        Ok(Filled {
-            kept,
-            election,
-            counted,
-            numbers,
-        })
-    }
-
-    fn tell(&mut self, voter: u32, payments: &mut Vec<Payment>) -> Result<VoterReason, NoMemory>
-        requires { voter < length self.old.0.voters }
-        ensures reason { IfOk result (λ reason. reason ≡ voter_reason self.old.0 self.old.1 voter) }
-        ensures payments { OnOk result
-            (payments.new.items ≡ voter_payments self.old.0 self.old.1.outcome voter) }
-        ensures same { self.new ≡ self.old }
-    {
-        let reason = self.kept.tell(voter, payments)?;
-        let election = self.election;
-        let counted = self.counted;
-        let owner = &election.voters()[voter as usize];
+        let reason = self.turns.tell(voter, payments)?;
+        let count = self.count;
+        let owner = &count.election().voters()[voter as usize];
         let ballot = owner.ballot.places();
-        let added = count_added(self.numbers.as_slice(), counted.added.len(), ballot);
+        let numbers = count.kept().numbers();
+        let added = count_added(numbers, count.added().len(), ballot);
         Ok(VoterReason {
             votes: reason.votes,
             elected: reason.elected + added,
@@ -147,16 +88,16 @@ fn count_added(numbers: &[usize], added: usize, ballot: &[u32]) -> u32
     count
 }
 
-/// What it takes to tell of the voters of an outcome.
+/// What the voters paid for the elected, one voter's turns after the other's.
 #[derive(Drop)]
-struct Kept<'a> {
+struct Turns<'a> {
     election: &'a Election,
     outcome: &'a Outcome,
-    rounds: Vec<u32>,
+    rounds: &'a [u32],
     purse: Purse,
 }
 
-impl<'a> Model for Kept<'a> {
+impl<'a> Model for Turns<'a> {
     ghost use Rattle.std.specs.Prelude.{◌≡◌, length};
     ghost use Rattle.pb_core.specs.Election.{ElectionView};
     ghost use Rattle.pb_rounds.specs.Outcome.{OutcomeView};
@@ -168,20 +109,19 @@ impl<'a> Model for Kept<'a> {
     ghost view = { λ k. (k.election.now, k.outcome.now) };
 
     ghost invariant = { λ k. CanBeTold k.election.now k.outcome.now
-        × AreRounds (length k.election.now.projects) k.outcome.now.elected k.rounds.items
+        × AreRounds (length k.election.now.projects) k.outcome.now.elected k.rounds.now
         × (length k.purse ≡ length k.outcome.now.elected) };
 }
 
-impl<'a> Kept<'a> {
-    fn of(alloc: Global, election: &'a Election, outcome: &'a Outcome) -> Result<Kept<'a>, NoMemory>
-        requires { IsOutcome election.now outcome.now }
-        ensures { IfOk result (λ kept. kept ≡ (election.now, outcome.now)) }
+impl<'a> Turns<'a> {
+    fn of(alloc: Global, count: &'a CountedElection) -> Result<Turns<'a>, NoMemory>
+        ensures { IfOk result (λ turns. turns ≡ (count.now.election, count.now.counted.outcome)) }
     {
-        let elected = outcome.elected.as_slice();
-        let rounds = rounds_of(alloc, elected, election.projects().len())?;
-        let purse = Purse::with_rounds(alloc, elected.len())?;
-        Ok(Kept {
-            election,
+        let outcome = count.outcome();
+        let rounds = count.kept().rounds();
+        let purse = Purse::with_rounds(alloc, outcome.elected.len())?;
+        Ok(Turns {
+            election: count.election(),
             outcome,
             rounds,
             purse,
@@ -199,7 +139,7 @@ impl<'a> Kept<'a> {
         let owner = &election.voters()[voter as usize];
         let ballot = owner.ballot.places();
         let share = outcome.share;
-        let rounds = self.rounds.as_slice();
+        let rounds = self.rounds;
         self.purse
             .pay(rounds, ballot, share, outcome.elected.as_slice())?;
         let elected = list_payments(rounds, self.purse.amounts(), ballot, payments)?;

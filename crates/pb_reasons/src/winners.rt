@@ -145,7 +145,11 @@ impl<'a> Winners<'a> {
 }
 
 /// Whether each of this many projects is among the winners at these places.
-fn flags_of(alloc: Global, places: &[u32], projects: usize) -> Result<Vec<bool>, NoMemory>
+pub(crate) fn flags_of(
+    alloc: Global,
+    places: &[u32],
+    projects: usize,
+) -> Result<Vec<bool>, NoMemory>
     ensures { IfOk result (λ flags. AreFlags projects places.now flags.items) }
 {
     let mut flags = vec![in alloc; false; projects]?;

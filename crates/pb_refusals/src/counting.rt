@@ -5,7 +5,6 @@ use crate::refusing::Refusing;
 use crate::walk::{Heap, MOST, goes_on, refused};
 use pb_core::gate::NoGate;
 use pb_core::{Election, Money, NoMemory};
-use pb_price::price::price;
 use pb_price::{PriceFault, Supporters, Tally, price_all};
 use pb_read::read_pb;
 use pb_rounds::count::{count, equal_shares};
@@ -24,7 +23,6 @@ const FOUR_VOTERS: &str =
 /// The calls whose allocations are refused. They may start threads.
 enum Call {
     Supporters,
-    Price,
     Prices(u32),
     Shares,
     Count,
@@ -42,7 +40,6 @@ impl Call {
     ) -> Result<bool, NoMemory> {
         match self {
             Call::Supporters => supported(heap, election, nth),
-            Call::Price => priced(rt, heap, election, nth),
             Call::Prices(workers) => all_priced(rt, heap, election, *workers, nth),
             Call::Shares => shared_equally(rt, heap, election, nth),
             Call::Count => counted(rt, heap, election, nth),
@@ -85,46 +82,6 @@ const RESTS: [Money; 4] = [Money(600), Money(600), Money(600), Money(1_000)];
 /// The supporters of the election's projects.
 fn supporters<'a>(rt: &impl Abort, heap: Heap<'a>, election: &Election) -> Supporters<Heap<'a>> {
     Supporters::build(heap, election).expect(rt, "memory")
-}
-
-/// The price of p2.
-fn price_of(
-    rt: &impl Abort,
-    heap: Heap<'_>,
-    supporters: &Supporters<Heap<'_>>,
-    tally: &mut Tally,
-) -> Result<Option<Money>, NoMemory> {
-    assert!(rt; supporters.voters() == 4 && supporters.projects() == 4);
-    price(heap, supporters, &RESTS, 1, tally)
-}
-
-fn priced(
-    rt: &impl Abort,
-    heap: Heap<'_>,
-    election: &Election,
-    nth: u64,
-) -> Result<bool, NoMemory> {
-    let supporters = supporters(rt, heap, election);
-    let mut tally = Tally::new();
-    heap.refuse(nth);
-    let answer = match price_of(rt, heap, &supporters, &mut tally) {
-        Ok(price) => Ok(price == Some(Money(700)) && tally.count() == 1),
-        Err(NoMemory) => priced_again(rt, heap, &supporters, &mut tally),
-    };
-    drop(supporters);
-    answer
-}
-
-/// The tally has not grown, and there is a price when it is asked again.
-fn priced_again(
-    rt: &impl Abort,
-    heap: Heap<'_>,
-    supporters: &Supporters<Heap<'_>>,
-    tally: &mut Tally,
-) -> Result<bool, NoMemory> {
-    let is_as_before = tally.count() == 0;
-    let again = price_of(rt, heap, supporters, tally);
-    refused(is_as_before && again == Ok(Some(Money(700))))
 }
 
 /// The prices of p2 and p4 by this many workers.
@@ -245,7 +202,6 @@ fn counted<R: Threads + Sync>(
 
 const CALLS: &[Call] = &[
     Call::Supporters,
-    Call::Price,
     Call::Prices(1),
     Call::Prices(2),
     Call::Shares,

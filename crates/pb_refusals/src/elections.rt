@@ -1,5 +1,8 @@
 //! Elections that grow: a refused addition leaves them as they were.
 
+ghost use Rattle.std.specs.Prelude.{◌<◌, All, length};
+ghost use Rattle.std.specs.Bool.{OnTrue};
+
 use crate::walk::{Call, Heap, refused, walk};
 use pb_core::{Ballot, Election, Money, NoMemory, Project, Voter, VoterId};
 use std::process::Abort;
@@ -38,6 +41,17 @@ fn add_project<'a>(
     election.add_project(project)
 }
 
+/// Whether each place that the ballot approves is one of a project.
+fn knows<'a>(election: &Election<Heap<'a>>, ballot: &Ballot<Heap<'a>>) -> bool
+    ensures { OnTrue result (All (λ place. place < length election.now.projects) ballot.now) }
+{
+    let projects = election.projects().len();
+    ballot
+        .places()
+        .iter()
+        .all(|place| (*place as usize) < projects)
+}
+
 /// Adds a voter, whom the election can take.
 fn add_voter<'a>(
     rt: &impl Abort,
@@ -45,7 +59,7 @@ fn add_voter<'a>(
     voter: Voter<Heap<'a>>,
 ) -> Result<(), NoMemory> {
     assert!(rt; election.voters().len() < 1_000_000 && !election.has_voter(&voter.id));
-    assert!(rt; election.knows(&voter.ballot));
+    assert!(rt; knows(election, &voter.ballot));
     election.add_voter(voter)
 }
 

@@ -4,7 +4,7 @@ use crate::checks::are;
 use crate::elections::id;
 use crate::walk::{Call, Heap, walk};
 use pb_core::{Ballot, Money, NoMemory, Request, VoterId};
-use pb_rows::{read_places, write_places};
+use pb_rows::{read_place_list, write_places};
 use std::process::Abort;
 
 /// The places 0 to 39 in no order, 7 apart: more than a sort arranges without memory.
@@ -120,7 +120,7 @@ fn copied_request(rt: &impl Abort, heap: Heap<'_>, nth: u64) -> Result<bool, NoM
 fn places_read(heap: Heap<'_>, nth: u64) -> Result<bool, NoMemory> {
     let mut places = Vec::new(heap);
     heap.refuse(nth);
-    Ok(read_places("0,2,9", &mut places)? && are(places.as_slice(), &[0, 2, 9]))
+    Ok(read_place_list("0,2,9", &mut places)? && are(places.as_slice(), &[0, 2, 9]))
 }
 
 fn places_written(heap: Heap<'_>, nth: u64) -> Result<bool, NoMemory> {

@@ -32,15 +32,6 @@ use Rattle.pb_rounds.proofs.QueueRound.{at_most_by_price, at_most_chain, at_most
 
 -- ---- the opening
 
-pub opening_none : (m : Measure) (s : SupportView) (share : ℕ) → IsOpening m s share 0 []
-opening_none m s share = record {
-  known = λ b i. absurd i;
-  priced = λ b i. absurd i;
-  are_keys = λ b i. absurd i;
-  whole = λ place p below e. absurd (omega (arith, below));
-  rises = tt;
-}
-
 -- one place more, without a price and with one
 pub opening_skips : (m : Measure) (s : SupportView) (share n : ℕ) (queue : List KeyView) → IsOpening m s share n queue
     → price_at s (replicate s.voters share) n ≡ None → IsOpening m s share (n + 1) queue
@@ -345,9 +336,6 @@ fewer_by Greater k x xs later =
 looks_put : (k : KeyView) (xs : List KeyView) → looks_left (insert_key key_cmp xs k) ≤ (1 + (largest_money - k.price)) + looks_left xs
 looks_put k [] = omega (arith, sum_by-cons (λ (b : KeyView). 1 + (largest_money - b.price)) k [])
 looks_put k (x ∷ xs) = fewer_by (key_cmp k x) k x xs (looks_put k xs)
-
-pub fewer_without : (head : KeyView) (rest : List KeyView) → looks_left rest < looks_left (head ∷ rest)
-fewer_without head rest = omega (arith, sum_by-cons (λ (b : KeyView). 1 + (largest_money - b.price)) head rest)
 
 pub fewer_with_higher : (head k : KeyView) (rest : List KeyView) → head.price < k.price → k.price ≤ largest_money
     → looks_left (insert_key key_cmp rest k) < looks_left (head ∷ rest)

@@ -1,17 +1,14 @@
 -- How many raises the completion decides on.
 use Rattle.std.proofs.Common.{◌≡◌, ℕ, ◌+◌, ◌-◌, ◌*◌, ◌/◌, ◌<◌, ◌≤◌, length, Option, Some, None, Bool, true, false, refl, sym, subst, ◌∙◌, ap, inl, inr, arith}
-use Rattle.std.specs.Prelude.{IfErr, IsErrAnd, List, Ok, Err, Result, option_map, if◌then◌else◌, MatchOption, ◌==◌}
+use Rattle.std.specs.Prelude.{List, option_map, if◌then◌else◌, MatchOption, ◌==◌}
 use Rattle.std.proofs.Math.Nat.{lt-mul-div-succ}
 use Rattle.std.proofs.lemmas.Option.{none-some, same_Some}
 use Rattle.std.proofs.lemmas.Bool.{cases_Bool, true≢false, or_left, or_right, or_parts, cond-true, cond-false, cases_eq, eq-eqb, ne_eqb, ltb-false}
 use Rattle.pb_core.specs.Election.{ElectionView}
 use Rattle.pb_price.proofs.FirstInRange.{IsFirstInRange, NoneInRange, find-range_with_len, find_from_first}
 use Rattle.pb_price.specs.Supporters.{SupportView, IsSupport, support_of}
-use Rattle.pb_rounds.specs.declared.count_fault.CountFault.{CountFault}
-use Rattle.pb_rounds.specs.declared.count_fault.CountFault.TheVariants.{NoMemory}
 use Rattle.pb_rounds.specs.declared.measure.Measure.{Measure}
 use Rattle.pb_rounds.specs.Count.{spent_on, is_over, is_over_after, is_exhausted_after, is_decisive, first_decisive, add1_of, opening_share, share_after, elected_after, settled_after}
-use Rattle.pb_rounds.specs.Inner.Count.{IsCompletionFault}
 use Rattle.pb_rounds.specs.Outcome.{OutcomeView, Settled, settled}
 use Rattle.pb_rounds.specs.Run.{ElectedView}
 use Rattle.pb_rounds.specs.Inner.PriceSystem.{HasPriceSystem}
@@ -139,9 +136,3 @@ pub settled_priced : (m : Measure) (e : ElectionView) → IsSupport (support_of 
 settled_priced m e h step raises o is =
     rw (ap (λ (x : Settled). x.share) is, ap (λ (x : Settled). x.elected) is, ap (λ (x : Settled). x.rests) is)
     (run_has_price_system m (support_of e) h (share_after e step raises))
-
--- out of memory may come of any completion
-pub no_memory_faults : {T : Type 0} (m : Measure) (e : ElectionView) (step limit : ℕ) (r : Result T CountFault)
-    → IsErrAnd r (λ fault. fault ≡ NoMemory) → IfErr r (IsCompletionFault m e step limit)
-no_memory_faults m e step limit (Ok x) h = tt
-no_memory_faults m e step limit (Err fault) h = subst (IsCompletionFault m e step limit) (sym h) tt

@@ -65,16 +65,6 @@ pub record Bounded (m : Measure) (s : SupportView) (share : ℕ) (queue : List K
   pub progress : Progress m s share 0 left o
   pub bounds : HasBounds m s o.rests left queue
 
-pub bounded_open : (m : Measure) (s : SupportView) (share : ℕ) → share ≤ largest_share → (queue : List KeyView) → IsOpening m s share (length s.costs) queue
-    → (o : OutcomeView) → o ≡ record { share = share; raised = 0; elected = []; rests = replicate s.voters share; priced = [] }
-    → Bounded m s share queue o
-bounded_open m s share small queue opens o o_is =
-    subst (λ (x : OutcomeView). Bounded m s share queue x) (sym o_is) (record {
-      left = range_with_len 0 (length s.costs);
-      progress = progress_open m s share 0 small;
-      bounds = opening_bounds m s share queue opens;
-    })
-
 -- the best was found, and its supporters paid
 module _ (m : Measure) (s : SupportView) (share : ℕ) (left : List ℕ) (o : OutcomeView) (pr : Progress m s share 0 left o) (w : KeyView)
     (best : best_of m s o.rests left ≡ Some w) where

@@ -120,7 +120,3 @@ module _ (m : Measure) (e : ElectionView) (s : SupportView) (same : s ≡ suppor
       (range_with_len 0 (length (support_of e).costs))) elected_is
       (subst (λ n. KeepsElecting m (support_of e) elected (replicate (support_of e).voters n) (range_with_len 0 (length (support_of e).costs))) share_is_after
       (subst (λ (t : SupportView). KeepsElecting m t elected (replicate t.voters share) (range_with_len 0 (length t.costs))) same h))
-
-  pub elects_after : (elected : List ElectedView) → elected ≡ (run_of m s share).elected → elected ≡ elected_after m e step raised
-  elects_after elected h =
-      h ∙ ap (λ (t : SupportView). (run_of m t share).elected) same ∙ ap (λ n. (run_of m (support_of e) n).elected) share_is_after

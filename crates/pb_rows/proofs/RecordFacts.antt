@@ -2,14 +2,14 @@
 use Rattle.std.proofs.Common.{◌≡◌, ◌∙◌, ◌+◌, ◌<◌, ℕ, zero, suc, List, [], ◌∷◌, length, Option, Some, None, Bool, true, false, not, refl, sym, ap, arith, add-one, ◌⊎◌, inl, inr}
 use Rattle.std.specs.Prelude.{option_map}
 use Rattle.csv.specs.Machine.{Read, ends_at_end, field_after, fields_after, is_end, next_record, step}
-use Rattle.csv.specs.Reading.{ExplainsRead, NextIs, ReadRecord, ReadsNext, has_failed, pending_of, source_of, records_from, records_next, stops_reader}
+use Rattle.csv.specs.Reading.{ExplainsRead, NextIs, ReadRecord, ReadsNext, has_failed, pending_of, source_of, records_from, records_next}
 use Rattle.csv.specs.declared.parser.Config.{Config}
 use Rattle.csv.specs.declared.parser.State.{State}
 use Rattle.csv.specs.declared.parser.State.TheVariants as st
 use Rattle.csv.specs.declared.reader.Reader.{Reader}
 use Rattle.pb_rows.specs.Inner.Reading.{IsSetUp, fault_of_kind}
 use Rattle.pb_rows.specs.Reading.{Fields, IsNext, NextIsNoText, left_of, pb_config}
-use Rattle.pb_rows.specs.declared.fault.RecordsFault.TheVariants.{NotText, ReadFailed}
+use Rattle.pb_rows.specs.declared.fault.RecordsFault.TheVariants.{NotText}
 use Rattle.csv.specs.declared.error.ErrorKind.{ErrorKind}
 use Rattle.csv.specs.declared.error.ErrorKind.TheVariants as kind
 use Rattle.csv.specs.Records.{AllText}
@@ -110,16 +110,6 @@ no_text_read remaining old new kind.OutOfMemory is named h = cc named
 no_text_read remaining old new (kind.UnequalLengths pos expected len) is named h = cc named
 no_text_read remaining old new (kind.Serialize text) is named h = cc named
 no_text_read remaining old new (kind.Deserialize pos err) is named h = cc named
-
--- a reader of records of any length fails only where the reader underneath fails
-pub failed_read : {R : Type 0} (remaining : R → Option (List ℕ)) (old new : Reader R) (text : Bool) (why : ErrorKind)
-    → IsSetUp old → fault_of_kind why ≡ ReadFailed → ExplainsRead remaining old new text why → stops_reader why ≡ true
-failed_read remaining old new text (kind.Io e) is named h = refl
-failed_read remaining old new text (kind.Utf8 pos err) is named h = cc named
-failed_read remaining old new text kind.OutOfMemory is named h = cc named
-failed_read remaining old new text (kind.UnequalLengths pos expected len) is named h = cc (is.flexible, h.0)
-failed_read remaining old new text (kind.Serialize why) is named h = absurd h
-failed_read remaining old new text (kind.Deserialize pos err) is named h = absurd h
 
 -- the next record, where an end is remembered
 pub next_until : {R : Type 0} (remaining : R → Option (List ℕ)) (new : Reader R) (left : Option (List Fields)) (found : Bool) (fields : Fields)

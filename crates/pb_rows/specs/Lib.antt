@@ -1,5 +1,6 @@
 -- The words that public contracts reach, a notion a file.
 pub mod Reading
 pub mod Writing
+pub mod Tables
 pub mod Numbers
 pub mod Inner

@@ -1,8 +1,7 @@
 //! Lists of places as text.
 
-ghost use Rattle.std.specs.Prelude.{◌≡◌, ◌≢◌, ◌++◌, ◌↔◌, ℕ, List, true, false, string_bytes};
-ghost use Rattle.std.specs.Prelude.{IsTrue, IfOk, OnErr, OnOk};
-ghost use Rattle.std.specs.List.Sorted.{IsStrictlyIncreasing};
+ghost use Rattle.std.specs.Prelude.{◌≡◌, ◌≢◌, ◌++◌, ℕ, List, true, false, string_bytes};
+ghost use Rattle.std.specs.Prelude.{IfOk, OnErr, OnOk};
 ghost use Rattle.pb_rows.specs.Numbers.{AreNumbers, places_text};
 
 use crate::number::read_number;
@@ -34,30 +33,6 @@ pub fn read_place_list<A: Allocator>(
         places.push(place)?;
     }
     Ok(true)
-}
-
-/// Reads a list of places that rises, none twice, as `read_place_list` does otherwise.
-pub fn read_places<A: Allocator>(text: &str, places: &mut Vec<u32, A>) -> Result<bool, AllocError>
-    ensures listed { IfOk result (λ is_list. is_list ≡ true
-        → text.now ≡ places_text places.new.items) }
-    ensures rising { IfOk result (λ is_list. is_list ≡ true → IsStrictlyIncreasing places.new.items) }
-    ensures other { IfOk result (λ is_list. is_list ≡ false
-        → (list : List ℕ) → AreNumbers list → IsStrictlyIncreasing list
-        → text.now ≢ places_text list) }
-{
-    Ok(read_place_list(text, places)? && is_rising(places))
-}
-
-/// Whether each place is above the one before it.
-fn is_rising(places: &[u32]) -> bool
-    ensures { IsTrue result ↔ IsStrictlyIncreasing places.now }
-{
-    for i in 1..places.len() {
-        if places[i] <= places[i - 1] {
-            return false;
-        }
-    }
-    true
 }
 
 /// Writes the places at the end of `text`, in decimal with `,` between two.

@@ -105,6 +105,7 @@ impl<R: Read> Records<R> {
         ensures stops { IfErr result (λ fault. self.new.fault ≡ Some fault) }
         ensures unknown { OnErr result (self.new.left ≡ None) }
         ensures again { IfSome self.old.fault (λ fault. result ≡ Err fault) }
+        ensures bytes { result ≡ Err RecordsFault.NotText → self.old.fault ≡ Some RecordsFault.NotText }
     {
         if let Some(earlier) = self.fault {
             return Err(earlier);

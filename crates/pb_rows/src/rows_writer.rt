@@ -2,8 +2,10 @@
 
 ghost use Rattle.std.specs.Prelude.{◌≡◌, ◌++◌, [], false, map, true, IfOk, IsErr, OnErr, OnOk};
 ghost use Rattle.pb_rows.specs.Inner.Writing.{IsAtRowStart, written_by};
+ghost use Rattle.pb_rows.specs.Tables.{field_text};
 ghost use Rattle.pb_rows.specs.Writing.{text_of_row};
 
+use crate::field::{Field, set_text};
 use csv::{Writer, WriterBuilder};
 use std::alloc::{AllocError, Global};
 use std::marker::Model;
@@ -17,6 +19,8 @@ use std::marker::Model;
 pub struct RowsWriter {
     writer: Writer<Vec<u8>>,
     is_whole: bool,
+    /// The text of a field, whose memory the next field uses again.
+    field: String,
 }
 
 impl Model for RowsWriter {
@@ -48,6 +52,7 @@ impl RowsWriter {
         RowsWriter {
             writer,
             is_whole: true,
+            field: String::new(alloc),
         }
     }
 
@@ -67,6 +72,23 @@ impl RowsWriter {
         }
         self.is_whole = false;
         write_row(&mut self.writer, fields)?;
+        self.is_whole = true;
+        Ok(())
+    }
+
+    /// Writes a row of these fields, and fails as `put_row` does.
+    pub fn put_fields(&mut self, fields: &[Field]) -> Result<(), AllocError>
+        ensures text { OnOk result (self.new.text
+            ≡ self.old.text ++ text_of_row (map field_text fields.now)) }
+        ensures whole { OnOk result (self.new.is_whole ≡ true) }
+        ensures stops { OnErr result (self.new.is_whole ≡ false) }
+        ensures stopped { self.old.is_whole ≡ false → IsErr result }
+    {
+        if !self.is_whole {
+            return Err(AllocError);
+        }
+        self.is_whole = false;
+        write_fields(&mut self.writer, &mut self.field, fields)?;
         self.is_whole = true;
         Ok(())
     }
@@ -96,6 +118,30 @@ fn write_row(writer: &mut Writer<Vec<u8>>, fields: &[&str]) -> Result<(), AllocE
 {
     for field in fields {
         if let Err(_) = writer.write_field(field.as_bytes()) {
+            return Err(AllocError);
+        }
+    }
+    if let Err(_) = writer.end_record() {
+        return Err(AllocError);
+    }
+    Ok(())
+}
+
+/// Writes one row of fields with a writer that stands at the start of one, and leaves it at the next; what
+/// `text` held is gone.
+fn write_fields(
+    writer: &mut Writer<Vec<u8>>,
+    text: &mut String,
+    fields: &[Field],
+) -> Result<(), AllocError>
+    requires { IsAtRowStart writer.old }
+    ensures next { OnOk result (IsAtRowStart writer.new) }
+    ensures text { OnOk result (written_by writer.new (λ text. text.items)
+        ≡ written_by writer.old (λ text. text.items) ++ text_of_row (map field_text fields.now)) }
+{
+    for field in fields {
+        set_text(text, *field)?;
+        if let Err(_) = writer.write_field(text.as_bytes()) {
             return Err(AllocError);
         }
     }

@@ -12,13 +12,13 @@ use Rattle.csv.specs.Records.{AllText, field_at}
 use Rattle.pb_ids.specs.Inner.Places.{Places, get_inserted, get_none}
 use Rattle.pb_read.specs.Rows.{field}
 use Rattle.pb_read.specs.Voting.{is_among}
-use Rattle.pb_rows.specs.Reading.{Fields, IsNext, NextIsNoText}
+use Rattle.pb_rows.specs.Reading.{Fields, IsNext}
 use Rattle.pb_script.specs.Inner.Roll.{HaveIds, IsFaultAfter, PutsId}
 use Rattle.pb_script.specs.Inner.ScriptReading.{HaveGone}
 use Rattle.pb_script.specs.Roll.{IsNextRollFault, IsRoll, IsRollFault, ids_of}
 use Rattle.pb_script.specs.Script.{most_rows}
 use Rattle.pb_script.specs.declared.roll.RollFault.{RollFault}
-use Rattle.pb_script.specs.declared.roll.RollFault.TheVariants.{ReadFailed, NotText, TooManyIds, NoMemory}
+use Rattle.pb_script.specs.declared.roll.RollFault.TheVariants.{NoMemory}
 
 bytes_eq-sym : (x y : List ℕ) → bytes_eq x y ≡ bytes_eq y x
 bytes_eq-sym x y = by (bytes_eq x y) (bytes_eq y x) refl refl
@@ -182,23 +182,3 @@ roll_memory (Some rows) = ([], rows, refl, (All-nil AllText, omega arith), no_me
 pub error_of_memory : {A : Type 0} (all : Option (List Fields)) (r : Result A RollFault) → IsErrAnd r (λ fault. fault ≡ NoMemory) → IfErr r (λ fault. IfSome all (λ rows. IsRollFault rows fault))
 error_of_memory all (Ok done) is = tt
 error_of_memory all (Err fault) is = let P : RollFault → Type 0 = λ f. IfSome all (λ rows. IsRollFault rows f) in subst P (sym is) (roll_memory all)
-
--- the faults of the next row
-pub after_memory : (left : Option (List Fields)) (rows ids : ℕ) → IfSome left (λ left. IsFaultAfter rows ids left NoMemory)
-after_memory None rows ids = tt
-after_memory (Some left) rows ids = λ before count counted few. no_memory before left
-
-pub after_failing : (left : Option (List Fields)) (rows ids : ℕ) → IfSome left (λ left. IsFaultAfter rows ids left (ReadFailed (rows + 1)))
-after_failing None rows ids = tt
-after_failing (Some left) rows ids = λ before count counted few. ap (λ (n : ℕ). n + 1) (sym count)
-
-pub after_no_text : (left : Option (List Fields)) (rows ids : ℕ) → NextIsNoText left → IfSome left (λ left. IsFaultAfter rows ids left (NotText (rows + 1)))
-after_no_text None rows ids is = tt
-after_no_text (Some []) rows ids is = absurd is
-after_no_text (Some (row ∷ rest)) rows ids is = λ before count counted few. (ap (λ (n : ℕ). n + 1) (sym count), is)
-
-pub after_many : (left after : Option (List Fields)) (rows ids : ℕ) (fields : Fields) → IsNext left after true fields → AllText fields → most_rows ≤ ids → IfSome left (λ left. IsFaultAfter rows ids left (TooManyIds (rows + 1)))
-after_many None after rows ids fields next text many = tt
-after_many (Some []) after rows ids fields next text many = cc next
-after_many (Some (row ∷ rest)) after rows ids fields next text many = λ before count counted few.
-    (ap (λ (n : ℕ). n + 1) (sym count), omega (arith, counted, few, many), subst AllText next.1 text)

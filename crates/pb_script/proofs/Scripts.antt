@@ -9,14 +9,12 @@ use Rattle.std.proofs.lemmas.List.Sums.{count_by-le-length, length-filter}
 use Rattle.pb_core.specs.Request.{RequestView}
 use Rattle.pb_rows.specs.Reading.{Fields, IsNext}
 use Rattle.pb_rows.specs.Inner.Reading.{HasReadAtMost}
-use Rattle.pb_script.specs.Inner.Admission.{Admits, IsAdmitted, Refuses}
+use Rattle.pb_script.specs.Inner.Admission.{Admits, IsAdmitted}
 use Rattle.pb_script.specs.Script.{most_rows}
 use Rattle.pb_desk.specs.Rows.{ScriptRowView}
 use Rattle.pb_script.specs.declared.admission.Admission.{Admission}
-use Rattle.pb_script.specs.declared.admission.RowRefusal.{RowRefusal}
-use Rattle.pb_script.specs.declared.admission.RowRefusal.TheVariants as refusal
 use Rattle.pb_script.specs.Inner.Script.{AreAsked, clerks_within, asked_by}
-use Rattle.pb_script.specs.ScriptReading.{IsFaultOfScript, IsNextScriptFault, fault_of_row}
+use Rattle.pb_script.specs.ScriptReading.{IsFaultOfScript, IsNextScriptFault}
 use Rattle.pb_script.specs.Inner.ScriptReading.{HaveAsked, HaveGone, NoneLeft, SplitsScript, TakesScriptRow}
 use Rattle.pb_script.specs.declared.script_fault.ScriptFault.{ScriptFault}
 use Rattle.pb_script.specs.declared.script_fault.ScriptFault.TheVariants.{NoMemory}
@@ -175,16 +173,3 @@ HaveAsked-few a clerks all left count lists have few = λ k d below.
     let rows = records_are_rows a clerks have.gone have.script have.rows in
     let counted = have.count_is in
     omega (arith, ap length list, length-filter {X = ScriptRowView}, count_by-le-length {X = ScriptRowView})
-
--- the next row is refused
-pub refused_next : (a : Admission) (clerks before : ℕ) (left after : Option (List Fields)) (fields : Fields) (why : RowRefusal) → IsNext left after true fields → before + 1 ≤ most_rows → Refuses a clerks fields why →
-    IfSome left (λ left. IsNextScriptFault a clerks before left (fault_of_row why (before + 1)))
-refused_next a clerks before None after fields why next few refuses = tt
-refused_next a clerks before (Some []) after fields why next few refuses = cc next
-refused_next a clerks before (Some (row ∷ rest)) after fields why next few refuses = by why (subst (λ (r : Fields). Refuses a clerks r why) next.1 refuses)
-  where
-    by : (why : RowRefusal) → Refuses a clerks row why → IsNextScriptFault a clerks before (row ∷ rest) (fault_of_row why (before + 1))
-    by refusal.Bad is = (refusal.Bad, refl, few, is)
-    by refusal.UnknownId is = (refusal.UnknownId, refl, few, is)
-    by refusal.NotOnRoll is = (refusal.NotOnRoll, refl, few, is)
-    by refusal.TooFew is = (refusal.TooFew, refl, few, is)

@@ -10,6 +10,7 @@ mod requests;
 pub mod roll;
 mod script;
 pub mod script_fault;
+pub mod script_run;
 pub mod serve_fault;
 pub mod serve_script;
 
@@ -17,5 +18,6 @@ pub use admission::{Admission, NoNotice, Notice, RowRefusal};
 pub use request_rows::{RequestRow, RequestRows, RowsFault};
 pub use roll::{RollFault, read_roll};
 pub use script_fault::ScriptFault;
+pub use script_run::ScriptRun;
 pub use serve_fault::ServeFault;
 pub use serve_script::ROOM;

@@ -91,14 +91,14 @@ fn text_of(alloc: Global, raw: &mut ByteRecord) -> Option<StringRecord>
     }
 }
 
-/// What this row asks, or why it is refused. It is the row with this number, from 1, and is text.
+/// What this row, which is text, asks, or why it is refused. Who hears of that is told the row's number, from
+/// 1.
 fn judge<N: Notice>(
     alloc: Global,
     row: &StringRecord,
     places: &mut Vec<u32>,
-    number: u64,
     admission: &Admission,
-    notice: &N,
+    told: (u64, &N),
 ) -> Result<RequestRow, NoMemory>
     requires { AllText (fields_of row.now) }
     ensures { IfOk result (IsRequestRow admission.now (fields_of row.now)) }
@@ -106,6 +106,7 @@ fn judge<N: Notice>(
     match read_row(alloc, row, places, MOST_CLERKS, admission)? {
         Ok(said) => Ok(RequestRow::Asks(said.clerk, said.request)),
         Err(why) => {
+            let (number, notice) = told;
             notice.refused(number, why, admission.unknown_in(row, places));
             Ok(RequestRow::Refused(why))
         }
@@ -158,7 +159,7 @@ impl<R: Read> RequestRows<R> {
             // A field is no text.
             return Ok(Some(RequestRow::Refused(RowRefusal::Bad)));
         };
-        let judged = judge(alloc, &row, &mut self.places, count, admission, notice);
+        let judged = judge(alloc, &row, &mut self.places, admission, (count, notice));
         // The next row is read into the same memory.
         drop(mem::replace(&mut self.raw, row.into_byte_record()));
         let judged = judged?;

@@ -1,6 +1,6 @@
 //! The clerks of a script at work: each serves its own requests, side by side with the others.
 
-ghost use Rattle.std.specs.Prelude.{◌≡◌, ◌+◌, ◌<◌, ◌≤◌, [], None, All, length, map, IfErr, IfOk, IfSome};
+ghost use Rattle.std.specs.Prelude.{◌≡◌, ◌+◌, ◌<◌, ◌≤◌, [], All, length, map, IfErr, IfOk, IfSome};
 ghost use Rattle.std.specs.Prelude.{OnOk};
 ghost use Rattle.pb_shared.specs.Inner.Desk.{desk_with};
 ghost use Rattle.pb_core.specs.Request.{asked};
@@ -9,7 +9,6 @@ ghost use Rattle.pb_desk.specs.Rows.{journal_text};
 ghost use Rattle.pb_rows.specs.Reading.{records_of};
 ghost use Rattle.pb_shared.specs.Clerk.{AreClerks, AreNewcomers};
 ghost use Rattle.pb_script.specs.Script.{most_rows};
-ghost use Rattle.pb_script.specs.Admission.{open_to_all};
 ghost use Rattle.pb_script.specs.Served.{IsServeFault, IsServed};
 ghost use Rattle.pb_script.specs.Serving.{program_room};
 ghost use Rattle.pb_script.specs.Inner.Script.{clerks_within};
@@ -17,10 +16,11 @@ ghost use Rattle.pb_script.specs.Inner.Serving.{AppendsFor, AreCounts, HasServed
 ghost use Rattle.pb_script.specs.Inner.Serving.{AreBack, IsServingFault, list_of, opening_of, unshared};
 ghost use Rattle.pb_script.specs.Inner.Serving.{ShutAtEnd};
 
-use crate::admission::{Admission, NoNotice, Notice};
+use crate::admission::Notice;
 use crate::requests::Requests;
 use crate::script::read_script;
 use crate::script_fault::ScriptFault;
+use crate::script_run::ScriptRun;
 use crate::serve_fault::ServeFault;
 use pb_core::election::Election;
 use pb_core::gate::Gate;
@@ -337,7 +337,7 @@ fn tell_answers<N: Notice>(desk: &Desk, notice: &N) {
     }
 }
 
-/// Reads a script for this many clerks, serves its requests on a shared desk of this election, and makes the
+/// Reads a script, serves the requests that are admitted on a shared desk of this election, and makes the
 /// text of its journal.
 ///
 /// Each clerk serves its own rows in their order, by at most 100,000 tries of the lock for each. One who
@@ -346,56 +346,26 @@ fn tell_answers<N: Notice>(desk: &Desk, notice: &N) {
 /// after all of these. Before the first try of a row the gate is called with the clerk's number and the row's
 /// place among the clerk's own rows, from 0.
 ///
-/// The script is refused before the number of clerks, 1 to 64.
-pub fn serve_script<T: Threads + Sync, S: Read + Drop, G: Gate>(
-    rt: &T,
-    alloc: Global,
-    election: Election,
-    script: S,
-    clerks: u32,
-    shuts: bool,
-    gate: &G,
-) -> Result<Vec<u8>, ServeFault>
-    // Where the script's bytes are known, the text is that of a journal that they and the number of clerks
-    // allow,
-    ensures ok { IfOk result (λ text. IfSome (S.remaining script) (λ bytes.
-        IsServed open_to_all election clerks shuts (records_of bytes) text.items)) }
-
-    // and they decide which fault comes.
-    ensures fault { IfErr result (λ fault. IfSome (S.remaining script) (λ bytes.
-        IsServeFault open_to_all clerks (records_of bytes) fault)) }
-{
-    let open = Admission::open();
-    let text = serve_admitted(
-        rt, alloc, election, script, clerks, shuts, gate, &open, &NoNotice,
-    );
-    drop(open);
-    text
-}
-
-/// Serves as `serve_script` does, the requests that are admitted. A row that is refused refuses the script,
-/// and is told to `notice`; once the text is made, so is the answer of each entry.
+/// A row that is refused refuses the script, and is told to `notice`; once the text is made, so is the answer
+/// of each entry. The script is refused before the number of clerks.
 pub fn serve_admitted<T: Threads + Sync, S: Read + Drop, G: Gate, N: Notice>(
     rt: &T,
     alloc: Global,
     election: Election,
     script: S,
-    clerks: u32,
-    shuts: bool,
-    gate: &G,
-    admission: &Admission,
-    notice: &N,
+    run: &ScriptRun<'_, G, N>,
 ) -> Result<Vec<u8>, ServeFault>
     // Where the script's bytes are known, the text is that of a journal that they and the number of clerks
     // allow,
     ensures ok { IfOk result (λ text. IfSome (S.remaining script) (λ bytes.
-        IsServed admission.now election clerks shuts (records_of bytes) text.items)) }
+        IsServed run.now.admission.now election run.now.clerks run.now.shuts
+        (records_of bytes) text.items)) }
 
     // and they decide which fault comes.
     ensures fault { IfErr result (λ fault. IfSome (S.remaining script) (λ bytes.
-        IsServeFault admission.now clerks (records_of bytes) fault)) }
+        IsServeFault run.now.admission.now run.now.clerks (records_of bytes) fault)) }
 {
-    let lists = match read_script(alloc, script, clerks, admission, notice) {
+    let lists = match read_script(alloc, script, run) {
         Ok(lists) => lists,
         Err(fault) => {
             drop(election);
@@ -404,10 +374,10 @@ pub fn serve_admitted<T: Threads + Sync, S: Read + Drop, G: Gate, N: Notice>(
     };
     let work = Work {
         lists: lists.as_slice(),
-        gate,
+        gate: run.gate,
     };
-    let served = serve_all(rt, alloc, election, clerks, &work);
+    let served = serve_all(rt, alloc, election, run.clerks, &work);
     drop(lists);
-    let desk = ended(served?, shuts)?;
-    Ok(written(alloc, desk, notice)?)
+    let desk = ended(served?, run.shuts)?;
+    Ok(written(alloc, desk, run.notice)?)
 }

@@ -67,7 +67,7 @@ module _ {D : Type 0} (moment : D → ℕ) (left_since : D → ℕ → List ℕ 
   kept_first counts_now mid new rest opening added run c left =
       subst (λ (o : OpeningView). StandsWithin o.version mid.desk.journal new.desk.journal c) (sym opening)
       (within_either mid.desk.opening.version mid.desk.journal mid.desk.journal new.desk.journal [] rest c (sym (append-nil mid.desk.journal)) added
-      (run.each c (counts_now new.file.device (moment mid.file.device) c run.later left)))
+      (run.each c (counts_now new.file.device (moment mid.file.device) c run.elapses.later left)))
 
   -- the gate is cut off, or was to be
   pub closes : (old mid : DurableDesk D) (new : D) (more : List EntryView) → mid.desk.opening ≡ old.desk.opening → mid.desk.journal ≡ old.desk.journal ++ more
@@ -84,4 +84,4 @@ module _ {D : Type 0} (moment : D → ℕ) (left_since : D → ℕ → List ℕ 
       → (c : List ℕ) → may_leave new c → StandsWithin mid.desk.opening.version mid.desk.journal mid.desk.journal c
   kept_closing counts_now mid new run c left =
       within mid.desk.opening.version mid.desk.journal mid.desk.journal mid.desk.journal [] [] c (sym (append-nil mid.desk.journal)) (sym (append-nil mid.desk.journal))
-      (run.each c (counts_now new (moment mid.file.device) c run.later left))
+      (run.each c (counts_now new (moment mid.file.device) c run.elapses.later left))

@@ -3,7 +3,7 @@
 ghost use Rattle.std.specs.Prelude.{◌<◌, ◌≤◌, length};
 
 use crate::pace::Pace;
-use pb_durable::place::Place;
+use pb_durable::row_position::RowPosition;
 use std::cell::Cell;
 
 mod handing;
@@ -36,7 +36,7 @@ pub struct Paced<'a, P> {
     pub(crate) start: usize,
     pub(crate) end: usize,
     /// Where the next byte stands.
-    pub(crate) place: Place,
+    pub(crate) place: RowPosition,
     ghost ordered: { start ≤ end },
     ghost in_range: { end ≤ length chunk.items },
     ghost some: { 0 < length chunk.items },

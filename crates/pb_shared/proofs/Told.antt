@@ -9,7 +9,7 @@ use Rattle.pb_core.specs.Request.{EntryView}
 use Rattle.pb_desk.specs.Desk.{DeskView}
 use Rattle.pb_shared.specs.Clerk.{Begins, new_sheet}
 use Rattle.pb_shared.specs.Inner.Rule.{stock, Sitter}
-use Rattle.pb_shared.specs.Steps.{StepRule, is_front_load, is_try}
+use Rattle.pb_shared.specs.Steps.{StepRule, is_step_on}
 use Rattle.pb_shared.specs.Inner.Plays.{has_read, lost, published, tries_lock, publishes, frees, reads, visits, won}
 use Rattle.pb_shared.specs.declared.seat_view.About.{About}
 use Rattle.pb_shared.specs.declared.seat_view.SeatView.{SeatView}
@@ -26,7 +26,7 @@ abbrev word_if : Bool → ℕ → List ℕ
 word_if told word = if told then word ∷ [] else []
 
 -- the rule of a step whose operation is known
-told : (s : Step (Option DeskView)) (x x' : Sheet) (word : ℕ) (tries loads : Bool) → is_try s x ≡ tries → is_front_load s ≡ loads
+told : (s : Step (Option DeskView)) (x x' : Sheet) (word : ℕ) (tries loads : Bool) → is_step_on 0 0 (x.number + 1) s ≡ tries → is_step_on 1 0 0 s ≡ loads
     → Begins x.seen x'.seen → x'.found ≡ x.found ++ word_if tries word → x'.read ≡ x.read ++ word_if loads word → StepRule s x word x'
 told s x x' word tries loads t l seen found read = record {
   seen = seen;
@@ -38,7 +38,7 @@ told s x x' word tries loads t l seen found read = record {
 pub told_lock : (slots word n : ℕ) (m m' : Sitter) → word ≡ m.0.sheet.number + 1 → tries_lock m n m' → StepRule (step slots 0 0 word none) m.0.sheet n m'.0.sheet
 told_lock slots word n m m' its t =
     let x : Sheet = m.0.sheet in
-    let tries : is_try (step slots 0 0 word none) x ≡ true = eq-eqb word (x.number + 1) its in
+    let tries : is_step_on 0 0 (x.number + 1) (step slots 0 0 word none) ≡ true = eq-eqb word (x.number + 1) its in
     dite (ℕ_discrete n 0)
     (λ e.
     let w = t.0 e in

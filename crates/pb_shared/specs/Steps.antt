@@ -6,21 +6,17 @@ use Rattle.pb_shared.specs.Clerk.{Begins}
 use Rattle.pb_shared.specs.declared.seat_view.SeatView.{SeatView}
 use Rattle.pb_shared.specs.declared.seat_view.Sheet.{Sheet}
 
--- the step tries the lock for this clerk: an exchange of word 0, from 0 to the clerk's number and 1
-abbrev pub is_try : Step (Option DeskView) → Sheet → Bool
-is_try s x = (s.word == 0) && ((s.first == 0) && (s.second == x.number + 1))
-
--- the step loads word 1, the front word
-abbrev pub is_front_load : Step (Option DeskView) → Bool
-is_front_load s = (s.word == 1) && ((s.first == 0) && (s.second == 0))
+-- the step is one on this word, with these two numbers
+abbrev pub is_step_on : ℕ → (first second : ℕ) → Step (Option DeskView) → Bool
+is_step_on word first second s = (s.word == word) && ((s.first == first) && (s.second == second))
 
 -- A step that finds this word leaves a clerk with the second sheet who had the first: nothing seen is
--- forgotten; the word goes to those found where the step tries the lock, to those read where it loads the
--- front word
+-- forgotten; the word goes to those found where the step tries the lock, which is an exchange of word 0, from 0
+-- to the clerk's number and 1; and to those read where it loads word 1, the front word
 pub record StepRule (s : Step (Option DeskView)) (x : Sheet) (word : ℕ) (x' : Sheet) : Type 0 where
   pub seen : Begins x.seen x'.seen
-  pub found : x'.found ≡ x.found ++ (if is_try s x then word ∷ [] else [])
-  pub read : x'.read ≡ x.read ++ (if is_front_load s then word ∷ [] else [])
+  pub found : x'.found ≡ x.found ++ (if is_step_on 0 0 (x.number + 1) s then word ∷ [] else [])
+  pub read : x'.read ≡ x.read ++ (if is_step_on 1 0 0 s then word ∷ [] else [])
 
 -- where seats are split or joined: the second view, but with the first's sheet, which keeps what was seen,
 -- found and read; only its number and own entries are the second's

@@ -3,7 +3,6 @@
 use crate::beside::stands_beside;
 use crate::file_id::FileId;
 use crate::journal_start::{LOOKED_AT, begins_as_journal};
-use crate::texts::{journal_of, makes_journal};
 use pb_command_line::{Source, Task};
 use std::alloc::Global;
 use std::fs;
@@ -13,7 +12,7 @@ use std::rt::Files;
 
 /// Why a result does not go to the path that is named for it.
 #[derive(Clone, Copy)]
-pub enum Bar<'a> {
+pub(crate) enum Bar<'a> {
     /// It leads to this text, which the run reads.
     IsRead(Source<'a>),
     /// It leads to what stands beside this journal, which the run reads.
@@ -37,7 +36,7 @@ pub(crate) fn bar_of<'a, R: Files<File = File> + AllocGlobal>(
             return Ok(Some(Bar::IsRead(text)));
         }
     }
-    if let Some(journal) = journal_of(task) {
+    if let Some(journal) = task.journal() {
         if stands_beside(rt, path, &journal)? {
             return Ok(Some(Bar::IsBeside(journal)));
         }
@@ -51,7 +50,7 @@ pub(crate) fn bar_of<'a, R: Files<File = File> + AllocGlobal>(
 /// The text of a task that is read from this file, where one is.
 fn text_of<'a, R: Files>(rt: &R, task: &Task<'a>, target: FileId) -> Result<Option<Source<'a>>> {
     let (file, second) = task.texts();
-    for text in &[Some(file), second, task.roll().map(Source::File)] {
+    for text in &[Some(file), second, task.third().map(Source::File)] {
         if let Some(text) = text {
             if target.has_text(rt, text)? {
                 return Ok(Some(*text));
@@ -73,16 +72,12 @@ fn bar_of_file<'a, R: Files<File = File> + AllocGlobal>(
         drop(file);
         return Ok(Some(Bar::IsServed));
     }
-    if makes_journal(task) {
+    if task.makes_journal() {
         drop(file);
         return Ok(None);
     }
     let is_journal = is_journal(rt.alloc(), file)?;
-    Ok(if is_journal {
-        Some(Bar::IsJournal)
-    } else {
-        None
-    })
+    Ok(is_journal.then_some(Bar::IsJournal))
 }
 
 /// Whether a file begins as a journal does.

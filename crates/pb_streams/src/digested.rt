@@ -8,16 +8,17 @@ use std::mem;
 /// The digits of hexadecimal.
 const DIGITS: &[u8; 16] = b"0123456789abcdef";
 
-/// A reader that leaves the digest of all its bytes, as they were read, in a cell once it is at its end.
+/// A reader that leaves the digest of all its bytes, as they were read, in a cell once it is at its end. It
+/// digests nothing where it has no cell.
 #[derive(Drop)]
 pub struct Digested<'a, P> {
     reader: P,
     hasher: Sha256,
-    digest: &'a Cell<Option<Hex>>,
+    digest: Option<&'a Cell<Option<Hex>>>,
 }
 
 impl<'a, P> Digested<'a, P> {
-    pub fn new(reader: P, digest: &'a Cell<Option<Hex>>) -> Digested<'a, P> {
+    pub fn new(reader: P, digest: Option<&'a Cell<Option<Hex>>>) -> Digested<'a, P> {
         Digested {
             reader,
             hasher: Sha256::new(),
@@ -29,9 +30,12 @@ impl<'a, P> Digested<'a, P> {
 impl<P: Read> Read for Digested<'_, P> {
     fn read(&mut self, buf: &mut [u8]) -> Result<usize> {
         let count = self.reader.read(buf)?;
-        if count == 0 && !buf.is_empty() && self.digest.get().is_none() {
+        let Some(digest) = self.digest else {
+            return Ok(count);
+        };
+        if count == 0 && !buf.is_empty() && digest.get().is_none() {
             let hasher = mem::replace(&mut self.hasher, Sha256::new());
-            self.digest.set(Some(Hex::of(hasher)));
+            digest.set(Some(Hex::of(hasher)));
         }
         if count <= buf.len() {
             self.hasher.update(&buf[..count]);

@@ -1,7 +1,7 @@
 //! The texts that the command line names: standard input, or files.
 
 use pb_command_line::Source;
-use pb_faults::AppFault;
+use pb_faults::{AppFault, RunText};
 use std::io::{Read, Result};
 use std::rt::Files;
 use std::{fs, io};
@@ -22,26 +22,27 @@ impl<R: Files + Input> Read for Given<R> {
     }
 }
 
-/// Opens the text with this number on the command line, from 1.
+/// Opens this text.
 pub fn open<R: Files + Input>(
     rt: &R,
     source: &Source<'_>,
-    number: u32,
+    text: RunText,
 ) -> std::result::Result<Given<R>, AppFault> {
     match source {
         Source::Input => Ok(Given::Input(rt.reader())),
-        Source::File(path) => Ok(Given::File(open_file(rt, path, number)?)),
+        Source::File(path) => Ok(Given::File(open_file(rt, path, text)?)),
     }
 }
 
-/// Opens two texts of the command line, in their order.
+/// Opens a .pb file, and this text behind it.
 pub fn open_both<R: Files + Input>(
     rt: &R,
     first: &Source<'_>,
     second: &Source<'_>,
+    text: RunText,
 ) -> std::result::Result<(Given<R>, Given<R>), AppFault> {
-    let first = open(rt, first, 1)?;
-    match open(rt, second, 2) {
+    let first = open(rt, first, RunText::File)?;
+    match open(rt, second, text) {
         Ok(second) => Ok((first, second)),
         Err(fault) => {
             drop(first);
@@ -50,15 +51,15 @@ pub fn open_both<R: Files + Input>(
     }
 }
 
-/// Opens the file with this number on the command line, from 1.
+/// Opens the file that has this text.
 pub fn open_file<R: Files>(
     rt: &R,
     path: &str,
-    number: u32,
+    text: RunText,
 ) -> std::result::Result<R::File, AppFault> {
     match fs::open(rt, path) {
         Ok(file) => Ok(file),
         Err(error) if error.kind() == io::ErrorKind::OutOfMemory => Err(AppFault::Memory),
-        Err(_) => Err(AppFault::Open(number)),
+        Err(_) => Err(AppFault::Open(text)),
     }
 }

@@ -2,12 +2,17 @@
 
 use crate::bar::{Bar, bar_of};
 use crate::part_file::PartFile;
-use crate::texts::pairs_ids;
-use pb_command_line::{Asked, Task};
-use std::fs;
+use crate::refusal::{End, Refusal};
+use pb_command_line::Asked;
+use pb_faults::{AppFault, RunText, ServingFault};
+use pb_words::for_terminal;
+use pb_words::output_words::{
+    beside_output_words, journal_output_words, read_output_words, served_output_words,
+};
 use std::fs::{File, OpenOptions};
 use std::io::{Error, ErrorKind, Result, Write};
 use std::rt::Files;
+use std::{fs, io};
 
 /// An open file that a result is written to.
 #[derive(Drop)]
@@ -18,48 +23,72 @@ enum Opened {
     Device(File),
 }
 
-/// Why a result is not put in its place.
-#[derive(Clone, Copy)]
-pub enum Unplaced<'a> {
-    /// It would replace what it never does.
-    Barred(Bar<'a>),
-    /// A call on the file has failed.
-    Failed(Error),
-}
-
 /// A writer of a result. A file is opened at the first write: a run that is refused writes nothing, and
-/// leaves no file.
+/// leaves no file. A terminal gets no control character to obey.
 #[derive(Drop)]
 pub struct Output<'a, R> {
     rt: &'a R,
     /// What the run was asked for: its output is the path of the file that gets the result, none is standard
     /// output.
     asked: &'a Asked<'a>,
+    /// Whether the result goes to a terminal.
+    is_terminal: bool,
     opened: Option<Opened>,
     /// Why a write failed.
     pub failure: Option<Error>,
-    /// What the result would replace, and never does.
-    pub bar: Option<Bar<'a>>,
 }
 
 impl<'a, R: Files<File = File> + Print + AllocGlobal> Output<'a, R> {
-    /// The result of what is asked for.
-    pub fn new(rt: &'a R, asked: &'a Asked<'a>) -> Output<'a, R> {
+    /// The result of what is asked for; standard output may be a terminal.
+    pub fn new(rt: &'a R, asked: &'a Asked<'a>, is_terminal: bool) -> Output<'a, R> {
         Output {
             rt,
             asked,
+            is_terminal: is_terminal && asked.output.is_none(),
             opened: None,
             failure: None,
-            bar: None,
         }
     }
 
     /// Looks at what the result would replace.
-    pub fn look(&self) -> std::result::Result<(), Unplaced<'a>> {
+    pub fn look(&mut self) -> std::result::Result<(), Refusal> {
         match self.asked.output {
-            Some(path) => look_at(self.rt, &self.asked.task, path),
+            Some(path) => self.look_at(path),
             None => Ok(()),
         }
+    }
+
+    /// Looks at what a result at this path would replace.
+    fn look_at(&mut self, path: &str) -> std::result::Result<(), Refusal> {
+        match bar_of(self.rt, &self.asked.task, path) {
+            Ok(None) => Ok(()),
+            Ok(Some(bar)) => Err(self.barred(bar)),
+            Err(error) => Err(self.failed(error)),
+        }
+    }
+
+    /// The result would replace what it never does.
+    fn barred(&self, bar: Bar<'_>) -> Refusal {
+        let (alloc, path) = (self.rt.alloc(), self.asked.output.unwrap_or("-"));
+        let words = match bar {
+            Bar::IsRead(text) => read_output_words(alloc, path, text.path()),
+            Bar::IsBeside(journal) => beside_output_words(alloc, path, journal.path()),
+            Bar::IsJournal => journal_output_words(alloc, path),
+            Bar::IsServed => {
+                let fault = AppFault::Serving(ServingFault::Locked(RunText::Output));
+                return Refusal::Told(End::Fault(fault), served_output_words(alloc, path));
+            }
+        };
+        Refusal::Told(End::Arguments, words)
+    }
+
+    /// A call on the file of the result has failed.
+    fn failed(&mut self, error: Error) -> Refusal {
+        if error.kind() == ErrorKind::OutOfMemory {
+            return Refusal::Fault(AppFault::Memory);
+        }
+        self.failure = Some(error);
+        Refusal::Fault(AppFault::Write)
     }
 
     /// Writes some of these bytes to where they go.
@@ -68,7 +97,7 @@ impl<'a, R: Files<File = File> + Print + AllocGlobal> Output<'a, R> {
             return self.rt.write_some(buf);
         };
         if self.opened.is_none() {
-            self.opened = Some(open(self.rt, path, pairs_ids(&self.asked.task))?);
+            self.opened = Some(open(self.rt, path, self.asked.task.pairs_ids())?);
         }
         match &mut self.opened {
             Some(Opened::Part(part)) => part.file.write(buf),
@@ -77,23 +106,46 @@ impl<'a, R: Files<File = File> + Print + AllocGlobal> Output<'a, R> {
         }
     }
 
+    /// Writes a text to a terminal in the place of so many bytes.
+    fn write_shown(&self, text: &str, count: usize) -> Result<usize> {
+        io::writer(self.rt).write_all(text.as_bytes())?;
+        Ok(count)
+    }
+
     /// Puts a whole result in the place of an older one, also an empty one. What it replaces is looked at
     /// before.
-    pub fn finish(&mut self) -> std::result::Result<(), Unplaced<'a>> {
+    pub fn finish(&mut self) -> std::result::Result<(), Refusal> {
         let Some(path) = self.asked.output else {
             return Ok(());
         };
         let opened = match self.opened.take() {
             Some(opened) => Ok(opened),
-            None => open(self.rt, path, pairs_ids(&self.asked.task)),
+            None => open(self.rt, path, self.asked.task.pairs_ids()),
         };
         match opened {
-            Ok(Opened::Part(part)) => put_in_place(self.rt, &self.asked.task, part),
+            Ok(Opened::Part(part)) => self.put_in_place(part),
             Ok(Opened::Device(file)) => {
                 drop(file);
                 Ok(())
             }
-            Err(error) => Err(Unplaced::Failed(error)),
+            Err(error) => Err(self.failed(error)),
+        }
+    }
+
+    /// Sees that a file is on its device, and gives it the name of the one that it replaces, if nothing bars
+    /// it.
+    fn put_in_place(&mut self, part: PartFile<File>) -> std::result::Result<(), Refusal> {
+        let allowed = match part.sync() {
+            Ok(()) => self.look_at(part.target()),
+            Err(error) => Err(self.failed(error)),
+        };
+        if allowed.is_err() {
+            part.give_up(self.rt);
+            return allowed;
+        }
+        match part.place(self.rt) {
+            Ok(()) => Ok(()),
+            Err(error) => Err(self.failed(error)),
         }
     }
 
@@ -109,12 +161,21 @@ impl<'a, R: Files<File = File> + Print + AllocGlobal> Output<'a, R> {
 
 impl<R: Files<File = File> + Print + AllocGlobal> Write for Output<'_, R> {
     fn write(&mut self, buf: &[u8]) -> Result<usize> {
-        match self.write_some(buf) {
+        let shown = if self.is_terminal {
+            for_terminal(self.rt.alloc(), buf)?
+        } else {
+            None
+        };
+        let written = match &shown {
+            Some(text) => self.write_shown(text.as_str(), buf.len()),
+            None => self.write_some(buf),
+        };
+        drop(shown);
+        match written {
             Ok(count) => Ok(count.min(buf.len())),
             Err(error) => {
-                let kind = error.kind();
                 self.failure = Some(error);
-                Err(Error::from(kind))
+                Err(Error::from(error.kind()))
             }
         }
     }
@@ -139,37 +200,4 @@ fn open<R: Files<File = File> + AllocGlobal>(
     };
     let part = PartFile::make(rt, rt.alloc(), target, for_owner)?;
     Ok(Opened::Part(part))
-}
-
-/// Sees that a file is on its device, and gives it the name of the one that it replaces, if nothing bars it.
-fn put_in_place<'a, R: Files<File = File> + AllocGlobal>(
-    rt: &R,
-    task: &Task<'a>,
-    part: PartFile<File>,
-) -> std::result::Result<(), Unplaced<'a>> {
-    let allowed = match part.sync() {
-        Ok(()) => look_at(rt, task, part.target()),
-        Err(error) => Err(Unplaced::Failed(error)),
-    };
-    if allowed.is_err() {
-        part.give_up(rt);
-        return allowed;
-    }
-    match part.place(rt) {
-        Ok(()) => Ok(()),
-        Err(error) => Err(Unplaced::Failed(error)),
-    }
-}
-
-/// Looks at what a result at this path would replace.
-fn look_at<'a, R: Files<File = File> + AllocGlobal>(
-    rt: &R,
-    task: &Task<'a>,
-    path: &str,
-) -> std::result::Result<(), Unplaced<'a>> {
-    match bar_of(rt, task, path) {
-        Ok(None) => Ok(()),
-        Ok(Some(bar)) => Err(Unplaced::Barred(bar)),
-        Err(error) => Err(Unplaced::Failed(error)),
-    }
 }

@@ -4,7 +4,7 @@ use crate::given::{Given, open};
 use pb_command_line::Source;
 use pb_core::gate::Gate;
 use pb_core::money::Money;
-use pb_faults::AppFault;
+use pb_faults::{AppFault, RunText};
 use std::io::{Read, Result};
 use std::rt::{Clock, Files};
 use std::sync::atomic::AtomicU64;
@@ -17,7 +17,8 @@ const PAUSE: u64 = 1_000;
 /// How far reading and counting have come. Nothing is shown of what takes less than a second.
 #[derive(Drop)]
 pub struct Progress<'a, R> {
-    rt: &'a R,
+    /// The machine that the work is on.
+    pub rt: &'a R,
     /// When the work began; none where nothing is shown.
     start: Option<Instant>,
     lines: AtomicU64,
@@ -110,11 +111,11 @@ impl<R: Eprint + Clock, P: Read> Read for Shown<'_, R, P> {
     }
 }
 
-/// Opens the first text of the command line; it is shown how much of it has come.
+/// Opens a .pb file; it is shown how much of it has come.
 pub fn open_shown<'a, R: Files + Input>(
     progress: &'a Progress<'a, R>,
     source: &Source<'_>,
 ) -> std::result::Result<Shown<'a, R, Given<R>>, AppFault> {
-    let file = open(progress.rt, source, 1)?;
+    let file = open(progress.rt, source, RunText::File)?;
     Ok(Shown::new(file, progress))
 }

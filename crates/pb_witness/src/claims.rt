@@ -5,7 +5,6 @@ use crate::mark::Mark;
 use csv::ByteRecord;
 use pb_core::money::Money;
 use pb_core::money_fault::MoneyFault;
-use pb_read::MetaKey;
 
 /// A number that a row of META says.
 #[derive(Clone, Copy)]
@@ -16,14 +15,12 @@ pub struct Claim {
     pub number: Option<u64>,
 }
 
-/// What META says that warnings rest on; of a repeated key the last value counts.
+/// What META says that only warnings rest on; of a repeated key the last value counts.
 #[derive(Clone, Copy)]
 pub struct Claims {
     pub votes: Option<Claim>,
     pub projects: Option<Claim>,
-    pub max_length: Option<u64>,
     pub min_length: Option<u64>,
-    pub budget: Option<u64>,
 }
 
 impl Claims {
@@ -32,47 +29,30 @@ impl Claims {
         Claims {
             votes: None,
             projects: None,
-            max_length: None,
             min_length: None,
-            budget: None,
         }
     }
 
     /// Takes a row of META, which begins here.
     pub fn take(&mut self, row: &ByteRecord, mark: Mark) {
-        let key = text_at(row, 0);
-        let value = text_at(row, 1);
-        let number = whole_number(value);
-        let claim = if value.is_empty() {
-            None
-        } else {
-            Some(Claim {
-                mark,
-                number: claimed_number(value),
-            })
-        };
-        match MetaKey::of(key) {
-            Some(MetaKey::Budget) => {
-                self.budget = match Money::read(value) {
-                    Ok(budget) => Some(budget.0),
-                    Err(_) => None,
-                };
-            }
-            Some(MetaKey::VoteType) => {}
-            Some(MetaKey::MaxLength) => self.max_length = number,
-            None if key.eq_ignore_ascii_case("min_length") => self.min_length = number,
-            None => self.take_beside(key, claim),
-        }
-    }
-
-    /// Takes a row of META with a key that readers pass over.
-    fn take_beside(&mut self, key: &str, claim: Option<Claim>) {
-        if key.eq_ignore_ascii_case("num_votes") {
-            self.votes = claim;
+        let (key, value) = (text_at(row, 0), text_at(row, 1));
+        if key.eq_ignore_ascii_case("min_length") {
+            self.min_length = whole_number(value);
+        } else if key.eq_ignore_ascii_case("num_votes") {
+            self.votes = claim_of(value, mark);
         } else if key.eq_ignore_ascii_case("num_projects") {
-            self.projects = claim;
+            self.projects = claim_of(value, mark);
         }
     }
+}
+
+/// What a value claims whose record begins here; the empty one claims nothing.
+fn claim_of(value: &str, mark: Mark) -> Option<Claim> {
+    if value.is_empty() {
+        return None;
+    }
+    let number = claimed_number(value);
+    Some(Claim { mark, number })
 }
 
 /// The claim, where it is of other than so many.

@@ -2,6 +2,7 @@
 
 use crate::fields::{column_of, text_at};
 use csv::ByteRecord;
+use pb_core::election::Election;
 use pb_core::no_memory::NoMemory;
 use pb_ids::IdTable;
 use pb_read::{Part, ReadFault, Section, Stage, Watch};
@@ -12,8 +13,6 @@ use std::mem;
 #[derive(Drop)]
 pub struct PageNotes {
     alloc: Global,
-    /// The section whose head was read last.
-    section: Section,
     /// The value of META's `currency`; empty if there is none.
     currency: String,
     /// Where the column `category` of PROJECTS stands, from 0.
@@ -33,7 +32,6 @@ impl PageNotes {
     pub fn new(alloc: Global) -> PageNotes {
         PageNotes {
             alloc,
-            section: Section::Meta,
             currency: String::new(alloc),
             column: None,
             categories: Vec::new(alloc),
@@ -83,21 +81,12 @@ impl PageNotes {
     /// Takes a record of this part.
     fn keep(&mut self, record: &ByteRecord, part: Part) -> Result<(), AllocError> {
         match part {
-            Part::Head(section) => self.section = section,
-            Part::Names => self.take_names(record),
+            Part::Names(Section::Projects) => self.column = column_of(record, "category"),
             Part::Key => return self.take_key(record),
             Part::Project(_) => return self.take_project(record),
-            Part::Other | Part::Vote(_) => {}
+            Part::Other | Part::Head(_) | Part::Names(_) | Part::Vote(_) => {}
         }
         Ok(())
-    }
-
-    /// Takes a row of column names.
-    fn take_names(&mut self, record: &ByteRecord) {
-        match self.section {
-            Section::Projects => self.column = column_of(record, "category"),
-            Section::Meta | Section::Votes => {}
-        }
     }
 
     /// Takes a row of META. Of a repeated key the last value counts.
@@ -133,7 +122,7 @@ impl PageNotes {
 }
 
 impl Watch for PageNotes {
-    fn see(&mut self, record: &ByteRecord, _at: u32, part: Part) {
+    fn see(&mut self, record: &ByteRecord, _at: u32, part: Part, _election: &Election) {
         if self.is_whole && self.keep(record, part).is_err() {
             self.is_whole = false;
         }
@@ -141,5 +130,5 @@ impl Watch for PageNotes {
 
     fn refuse(&mut self, _record: &ByteRecord, _fault: ReadFault, _stage: &Stage) {}
 
-    fn end(&mut self) {}
+    fn end(&mut self, _election: &Election) {}
 }

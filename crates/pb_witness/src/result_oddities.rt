@@ -6,26 +6,25 @@ use crate::keys::Keys;
 use crate::mark::Mark;
 use crate::oddities::{Odd, Oddities};
 use csv::ByteRecord;
-use pb_core::money::Money;
+use pb_core::election::Election;
+use pb_core::project::Project;
 use pb_read::{MetaKey, Oddity, Part, ProjectColumns, Stage, VoteColumns};
 
 /// What the records say so far.
-#[derive(Clone, Copy)]
+#[derive(Drop)]
 pub struct ResultOddities {
+    /// What was found.
+    pub found: Oddities,
     pub claims: Claims,
     /// How many rows PROJECTS and VOTES have, those that are left out too.
-    pub projects: u64,
-    pub votes: u64,
+    projects: u64,
+    votes: u64,
     /// How many fields the row of the section's column names has.
     columns: usize,
     /// The rows of META that gave the keys that the count uses.
     keys: Keys,
     /// Where the budget has three digits behind its mark, its row.
     thousands: Option<Mark>,
-    /// How many projects are accepted, what they cost together, and what the last one costs.
-    costs: u64,
-    sum: u64,
-    pub cost: u64,
     /// The last row of PROJECTS, by which it may be a footer.
     last_project: Option<Odd>,
     /// How many ballots approve nothing, and the last row, if it is such a one.
@@ -35,17 +34,15 @@ pub struct ResultOddities {
 
 impl ResultOddities {
     /// Nothing was read yet.
-    pub fn none() -> ResultOddities {
+    pub fn new(found: Oddities) -> ResultOddities {
         ResultOddities {
+            found,
             claims: Claims::none(),
             projects: 0,
             votes: 0,
             columns: 0,
             keys: Keys::none(),
             thousands: None,
-            costs: 0,
-            sum: 0,
-            cost: 0,
             last_project: None,
             empty: 0,
             last_vote: None,
@@ -61,32 +58,32 @@ impl ResultOddities {
         }
     }
 
-    /// Takes a record that is accepted.
-    pub fn take(&mut self, row: &ByteRecord, at: u32, part: Part, out: &mut Oddities) {
+    /// Takes a record that is accepted, which is the last one of the election.
+    pub fn take(&mut self, row: &ByteRecord, at: u32, part: Part, election: &Election) {
         match part {
             Part::Other | Part::Head(_) => {}
-            Part::Names => self.take_names(row, out),
-            Part::Key => self.take_key(row, Mark::of(row, u64::from(at)), out),
-            Part::Project(columns) => self.take_project(row, at, columns, out),
-            Part::Vote(columns) => self.take_vote(row, at, columns, out),
+            Part::Names(_) => self.take_names(row),
+            Part::Key => self.take_key(row, Mark::of(row, u64::from(at))),
+            Part::Project(columns) => self.take_project(row, at, columns),
+            Part::Vote(columns) => self.take_vote(row, at, columns, election),
         }
     }
 
     /// Takes a row of column names; after META its budget is known.
-    fn take_names(&mut self, row: &ByteRecord, out: &mut Oddities) {
+    fn take_names(&mut self, row: &ByteRecord) {
         self.columns = row.len();
         if let Some(mark) = self.thousands {
             self.thousands = None;
-            out.take(Odd::of_key(Oddity::ThousandsMark, mark, 0));
+            self.found.take(Odd::of_key(Oddity::ThousandsMark, mark, 0));
         }
     }
 
-    fn take_key(&mut self, row: &ByteRecord, mark: Mark, out: &mut Oddities) {
+    fn take_key(&mut self, row: &ByteRecord, mark: Mark) {
         self.claims.take(row, mark);
         let key = text_at(row, 0);
         let before = self.keys.take(key, mark);
         if before.is_some() {
-            out.take(Odd {
+            self.found.take(Odd {
                 before,
                 ..Odd::of_key(Oddity::RepeatedKey, mark, 0)
             });
@@ -99,82 +96,75 @@ impl ResultOddities {
         }
     }
 
-    fn take_project(
-        &mut self,
-        row: &ByteRecord,
-        at: u32,
-        columns: ProjectColumns,
-        out: &mut Oddities,
-    ) {
+    fn take_project(&mut self, row: &ByteRecord, at: u32, columns: ProjectColumns) {
         self.projects = self.projects.saturating_add(1);
         let mark = Mark::of(row, u64::from(at));
-        let cost = text_at(row, columns.cost);
-        if has_thousands_mark(cost) {
-            out.take(Odd::of_project(Oddity::ThousandsMark, mark, columns));
+        if has_thousands_mark(text_at(row, columns.cost)) {
+            self.found
+                .take(Odd::of_project(Oddity::ThousandsMark, mark, columns));
         }
-        self.cost = match Money::read(cost) {
-            Ok(amount) => amount.0,
-            Err(_) => 0,
-        };
-        self.costs = self.costs.saturating_add(1);
-        self.sum = self.sum.saturating_add(self.cost);
         self.last_project = Some(Odd::of_project(Oddity::FooterRow, mark, columns));
     }
 
-    fn take_vote(&mut self, row: &ByteRecord, at: u32, columns: VoteColumns, out: &mut Oddities) {
+    fn take_vote(&mut self, row: &ByteRecord, at: u32, columns: VoteColumns, election: &Election) {
         self.votes = self.votes.saturating_add(1);
         if row.len() > self.columns {
             let mark = Mark::of(row, u64::from(at));
             let names = self.columns as u64;
-            out.take(Odd::of_vote(Oddity::SurplusFields, mark, columns, names));
+            self.found
+                .take(Odd::of_vote(Oddity::SurplusFields, mark, columns, names));
         }
         self.last_vote = None;
-        if names_nothing(text_at(row, columns.vote)) {
+        if last_ballot(election).is_empty() {
             let mark = Mark::of(row, u64::from(at));
             self.empty = self.empty.saturating_add(1);
             self.last_vote = Some(Odd::of_vote(Oddity::FooterRow, mark, columns, 0));
         }
     }
 
-    /// Takes the end of the file.
-    pub fn end(&self, out: &mut Oddities) {
-        put_broken(Oddity::VotesMissing, self.claims.votes, self.votes, out);
-        put_broken(
-            Oddity::ProjectsMissing,
-            self.claims.projects,
-            self.projects,
-            out,
-        );
-        let is_sum = self.costs >= 3 && self.cost == self.sum.saturating_sub(self.cost);
+    /// Takes the end of the file, whose accepted rows give this election.
+    pub fn end(&mut self, election: &Election) {
+        let (votes, projects) = (self.claims.votes, self.claims.projects);
+        self.take_broken(Oddity::VotesMissing, votes, self.votes);
+        self.take_broken(Oddity::ProjectsMissing, projects, self.projects);
         match self.last_project {
-            Some(last) if is_sum => out.take(last),
+            Some(last) if last_is_sum(election.projects()) => self.found.take(last),
             _ => {}
         }
         match self.last_vote {
-            Some(last) if self.empty == 1 => out.take(last),
+            Some(last) if self.empty == 1 => self.found.take(last),
             _ => {}
         }
     }
-}
 
-/// Takes a claim of META that is of other than so many.
-fn put_broken(oddity: Oddity, claim: Option<Claim>, count: u64, out: &mut Oddities) {
-    if let Some(Claim { mark, number }) = broken(claim, count) {
-        out.take(Odd {
-            limit: number,
-            ..Odd::of_key(oddity, mark, count)
-        });
-    }
-}
-
-/// Whether a vote names no project.
-fn names_nothing(vote: &str) -> bool {
-    for piece in vote.split(',') {
-        if !piece.trim().is_empty() {
-            return false;
+    /// Takes a claim of META that is of other than so many.
+    fn take_broken(&mut self, oddity: Oddity, claim: Option<Claim>, count: u64) {
+        if let Some(Claim { mark, number }) = broken(claim, count) {
+            self.found.take(Odd {
+                limit: number,
+                ..Odd::of_key(oddity, mark, count)
+            });
         }
     }
-    true
+}
+
+/// The places of the projects that the last ballot approves.
+pub(crate) fn last_ballot(election: &Election) -> &[u32] {
+    match election.voters().last() {
+        Some(voter) => voter.ballot.places(),
+        None => &[],
+    }
+}
+
+/// Whether the last of three projects or more costs as much as all others together.
+fn last_is_sum(projects: &[Project]) -> bool {
+    let mut sum = 0u64;
+    let mut last = 0u64;
+    for project in projects {
+        last = project.cost().0;
+        sum = sum.saturating_add(last);
+    }
+    projects.len() >= 3 && last == sum.saturating_sub(last)
 }
 
 /// Whether exactly three digits stand behind an amount's mark.

@@ -51,7 +51,7 @@ impl Seen {
                 let _ = self.keys.take(text_at(record, 0), mark);
             }
             Part::Project(_) => self.take_head(record, mark),
-            Part::Names => {
+            Part::Names(_) => {
                 self.names = mark;
                 self.columns = record.len();
             }

@@ -104,7 +104,7 @@ fn is_row(line: &str, part: Part, projects: &Firsts) -> bool {
             !field_of(line, columns.voter).is_empty()
                 && is_vote(field_of(line, columns.vote), projects)
         }
-        Part::Other | Part::Head(_) | Part::Names => false,
+        Part::Other | Part::Head(_) | Part::Names(_) => false,
     }
 }
 

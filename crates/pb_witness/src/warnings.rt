@@ -2,15 +2,14 @@
 
 ghost use Rattle.std.specs.Prelude.{◌≡◌, Option};
 
-use crate::fields::text_at;
 use crate::mark::Mark;
 use crate::oddities::{Odd, Oddities};
 use crate::result_columns::{ResultClaims, ResultColumns};
-use crate::result_oddities::ResultOddities;
+use crate::result_oddities::{ResultOddities, last_ballot};
 use crate::witness::Witness;
 use csv::ByteRecord;
+use pb_core::election::Election;
 use pb_core::no_memory::NoMemory;
-use pb_ids::IdTable;
 use pb_read::{
     Compare, Heed, Oddity, Part, ProjectColumns, ReadFault, Section, Stage, VoteColumns, Warn,
     Warning, WarningRow, Watch,
@@ -25,8 +24,6 @@ const MOST: u64 = 100;
 struct Backed {
     /// What it is where no vote names it.
     alone: Odd,
-    /// The last vote that named it, from 1; 0 is none.
-    vote: u64,
     /// How many votes name it.
     supporters: u64,
     /// Whether it wins the count with which `selected` is compared.
@@ -64,11 +61,7 @@ impl Backed {
 pub struct Warnings {
     alloc: Global,
     results: ResultOddities,
-    oddities: Oddities,
-    places: IdTable,
     projects: Vec<Backed>,
-    /// The section whose head was read last.
-    section: Section,
     /// The columns of PROJECTS that claim a result.
     columns: ResultColumns,
     /// Whether a record was refused: then what the file claims of the result is not compared.
@@ -84,11 +77,8 @@ impl Warnings {
     pub fn new(alloc: Global) -> Warnings {
         Warnings {
             alloc,
-            results: ResultOddities::none(),
-            oddities: Oddities::new(alloc, MOST),
-            places: IdTable::new(alloc),
+            results: ResultOddities::new(Oddities::new(alloc, MOST)),
             projects: Vec::new(alloc),
-            section: Section::Meta,
             columns: ResultColumns::none(),
             has_fault: false,
             has_ended: false,
@@ -99,48 +89,39 @@ impl Warnings {
     /// What was found, once the file has ended and may end there.
     pub fn found(&self) -> Option<&Oddities> {
         if self.has_ended {
-            Some(&self.oddities)
+            Some(&self.results.found)
         } else {
             None
         }
     }
 
-    /// Takes a project that is accepted.
+    /// Takes a project that is accepted, the last one of the election.
     fn take_project(
         &mut self,
         row: &ByteRecord,
         at: u32,
         columns: ProjectColumns,
+        election: &Election,
     ) -> Result<(), AllocError> {
-        let id = text_at(row, columns.id);
         let mark = Mark::of(row, u64::from(at));
-        if id.contains(',') {
-            self.oddities
-                .take(Odd::of_project(Oddity::CommaInId, mark, columns));
+        if let Some(project) = election.projects().last() {
+            if project.id().contains(',') {
+                let odd = Odd::of_project(Oddity::CommaInId, mark, columns);
+                self.results.found.take(odd);
+            }
+            if project.cost().0 > election.budget().0 {
+                let odd = Odd::of_project(Oddity::OverBudget, mark, columns);
+                self.results.found.take(odd);
+            }
         }
-        if self.results.cost > self.results.claims.budget.unwrap_or(u64::MAX) {
-            self.oddities
-                .take(Odd::of_project(Oddity::OverBudget, mark, columns));
-        }
-        let place = u32::try_from(self.projects.len()).unwrap_or(u32::MAX);
-        self.places.insert(self.alloc, id, place)?;
         let alone = Odd::of_project(Oddity::NoSupporter, mark, columns);
         self.projects.push(Backed {
             alone,
-            vote: 0,
             supporters: 0,
             is_winner: false,
             claims: self.columns.claims_of(row),
         })?;
         Ok(())
-    }
-
-    /// Takes a row of column names.
-    fn take_names(&mut self, row: &ByteRecord) {
-        match self.section {
-            Section::Projects => self.columns = ResultColumns::of(row),
-            Section::Meta | Section::Votes => {}
-        }
     }
 
     /// Compares what the column `selected` says with a count that elects or adds the projects at these
@@ -154,75 +135,65 @@ impl Warnings {
         }
         for project in &self.projects {
             if let Some(odd) = project.wrong_selected() {
-                self.oddities.take(odd);
+                self.results.found.take(odd);
             }
         }
     }
 
-    /// Takes a vote that is accepted.
-    fn take_vote(&mut self, row: &ByteRecord, at: u32, columns: VoteColumns) {
-        let length = self.back(text_at(row, columns.vote));
+    /// Takes a vote that is accepted, the last one of the election.
+    fn take_vote(&mut self, row: &ByteRecord, at: u32, columns: VoteColumns, election: &Election) {
+        let ballot = last_ballot(election);
+        for place in ballot {
+            self.back(*place as usize);
+        }
+        let length = ballot.len() as u64;
         let mark = Mark::of(row, u64::from(at));
+        let empty = Odd::of_vote(Oddity::EmptyBallot, mark, columns, length);
         if length == 0 {
-            self.warn_vote(Oddity::EmptyBallot, mark, columns, length);
+            self.results.found.take(empty);
         }
-        if length > self.results.claims.max_length.unwrap_or(u64::MAX) {
-            self.warn_vote(Oddity::TooLongBallot, mark, columns, length);
+        let limit = election.max_length().map(u64::from);
+        if length > limit.unwrap_or(u64::MAX) {
+            let oddity = Oddity::TooLongBallot;
+            self.results.found.take(Odd {
+                oddity,
+                limit,
+                ..empty
+            });
         }
-        if length < self.results.claims.min_length.unwrap_or(0) {
-            self.warn_vote(Oddity::TooShortBallot, mark, columns, length);
+        let limit = self.results.claims.min_length;
+        if length < limit.unwrap_or(0) {
+            let oddity = Oddity::TooShortBallot;
+            self.results.found.take(Odd {
+                oddity,
+                limit,
+                ..empty
+            });
         }
     }
 
-    fn warn_vote(&mut self, oddity: Oddity, mark: Mark, columns: VoteColumns, length: u64) {
-        let limit = match oddity {
-            Oddity::TooLongBallot => self.results.claims.max_length,
-            Oddity::TooShortBallot => self.results.claims.min_length,
-            _ => None,
-        };
-        let odd = Odd::of_vote(oddity, mark, columns, length);
-        self.oddities.take(Odd { limit, ..odd });
-    }
-
-    /// Notes which projects the last vote names, and answers how many they are.
-    fn back(&mut self, vote: &str) -> u64 {
-        let mut length = 0u64;
-        for piece in vote.split(',') {
-            if self.is_backed(piece.trim()) {
-                length = length.saturating_add(1);
-            }
-        }
-        length
-    }
-
-    /// Notes that the last vote names this project, and answers whether it did not name it before.
-    fn is_backed(&mut self, id: &str) -> bool {
-        let place = self.places.get(id).unwrap_or(u32::MAX) as usize;
-        if place < self.projects.len() && self.projects[place].vote < self.results.votes {
+    /// Counts one more supporter of the project at this place.
+    fn back(&mut self, place: usize) {
+        if place < self.projects.len() {
             let supporters = self.projects[place].supporters;
             self.projects[place].supporters = supporters.saturating_add(1);
-            self.projects[place].vote = self.results.votes;
-            true
-        } else {
-            false
         }
     }
 }
 
 impl Watch for Warnings {
-    fn see(&mut self, record: &ByteRecord, at: u32, part: Part) {
-        self.witness.see(record, at, part);
-        self.results.take(record, at, part, &mut self.oddities);
+    fn see(&mut self, record: &ByteRecord, at: u32, part: Part, election: &Election) {
+        self.witness.see(record, at, part, election);
+        self.results.take(record, at, part, election);
         match part {
             Part::Project(columns) => {
-                if self.take_project(record, at, columns).is_err() {
-                    self.oddities.fail();
+                if self.take_project(record, at, columns, election).is_err() {
+                    self.results.found.fail();
                 }
             }
-            Part::Vote(columns) => self.take_vote(record, at, columns),
-            Part::Head(section) => self.section = section,
-            Part::Names => self.take_names(record),
-            Part::Other | Part::Key => {}
+            Part::Vote(columns) => self.take_vote(record, at, columns, election),
+            Part::Names(Section::Projects) => self.columns = ResultColumns::of(record),
+            Part::Other | Part::Head(_) | Part::Names(_) | Part::Key => {}
         }
     }
 
@@ -232,19 +203,19 @@ impl Watch for Warnings {
         self.results.leave_out(stage);
     }
 
-    fn end(&mut self) {
-        self.witness.end();
+    fn end(&mut self, election: &Election) {
+        self.witness.end(election);
         self.has_ended = true;
-        self.results.end(&mut self.oddities);
+        self.results.end(election);
         for project in &self.projects {
-            if project.vote == 0 {
-                self.oddities.take(project.alone);
+            if project.supporters == 0 {
+                self.results.found.take(project.alone);
             }
             if self.has_fault {
                 continue;
             }
             if let Some(odd) = project.wrong_votes() {
-                self.oddities.take(odd);
+                self.results.found.take(odd);
             }
         }
     }
@@ -253,7 +224,7 @@ impl Watch for Warnings {
 impl Warn for Warnings {
     fn warnings(&mut self) -> Result<Vec<WarningRow>, NoMemory> {
         if self.has_ended {
-            self.oddities.rows()
+            self.results.found.rows()
         } else {
             Ok(Vec::new(self.alloc))
         }
@@ -276,7 +247,6 @@ impl Compare for Warnings {
 pub struct ResultWarnings {
     alloc: Global,
     results: ResultOddities,
-    oddities: Oddities,
     /// Whether a warning refuses the file.
     is_strict: bool,
     /// The first warning, once the file has ended and may end there.
@@ -290,8 +260,7 @@ impl ResultWarnings {
     pub fn new(alloc: Global, is_strict: bool) -> ResultWarnings {
         ResultWarnings {
             alloc,
-            results: ResultOddities::none(),
-            oddities: Oddities::new(alloc, 1),
+            results: ResultOddities::new(Oddities::new(alloc, 1)),
             is_strict,
             first: None,
             witness: Witness::new(alloc),
@@ -301,7 +270,7 @@ impl ResultWarnings {
     /// What was found, each kind once, where anything was.
     pub fn found(&self) -> Option<&Oddities> {
         if self.first.is_some() {
-            Some(&self.oddities)
+            Some(&self.results.found)
         } else {
             None
         }
@@ -309,19 +278,19 @@ impl ResultWarnings {
 }
 
 impl Watch for ResultWarnings {
-    fn see(&mut self, record: &ByteRecord, at: u32, part: Part) {
-        self.witness.see(record, at, part);
-        self.results.take(record, at, part, &mut self.oddities);
+    fn see(&mut self, record: &ByteRecord, at: u32, part: Part, election: &Election) {
+        self.witness.see(record, at, part, election);
+        self.results.take(record, at, part, election);
     }
 
     fn refuse(&mut self, record: &ByteRecord, fault: ReadFault, stage: &Stage) {
         self.witness.refuse(record, fault, stage);
     }
 
-    fn end(&mut self) {
-        self.witness.end();
-        self.results.end(&mut self.oddities);
-        self.first = self.oddities.first();
+    fn end(&mut self, election: &Election) {
+        self.witness.end(election);
+        self.results.end(election);
+        self.first = self.results.found.first();
     }
 }
 

@@ -6,6 +6,7 @@ use crate::seen::Seen;
 use crate::swallowed::SwallowingRows;
 use crate::text::Text;
 use csv::ByteRecord;
+use pb_core::election::Election;
 use pb_read::{MOST_FAULTS, Part, ReadFault, ReadKind, Stage, Watch, read_pb_watched};
 use std::alloc::{AllocError, Global};
 use std::rt::Files;
@@ -14,7 +15,7 @@ use std::rt::Files;
 #[derive(Drop)]
 pub struct Refused {
     pub fault: ReadFault,
-    /// Its fields; none where there is no record that is text.
+    /// Its fields; none where there is no record.
     pub record: ByteRecord,
     /// Where it begins.
     pub mark: Mark,
@@ -99,7 +100,7 @@ impl Witness {
 }
 
 impl Watch for Witness {
-    fn see(&mut self, record: &ByteRecord, at: u32, part: Part) {
+    fn see(&mut self, record: &ByteRecord, at: u32, part: Part, _election: &Election) {
         let mark = Mark::of(record, u64::from(at));
         self.seen.take(record, mark, part);
         let kept = self.swallowing.take(record, mark, part, &self.ids.projects);
@@ -114,7 +115,7 @@ impl Watch for Witness {
         }
     }
 
-    fn end(&mut self) {
+    fn end(&mut self, _election: &Election) {
         self.has_ended = true;
     }
 }

@@ -1,7 +1,7 @@
 //! Words for files: those that cannot be opened, read or written.
 
 use crate::mark_words::put_record_number;
-use crate::words::Value::Name;
+use crate::words::Value::{Name, Own};
 use crate::words::{Said, Words, failed, said};
 use pb_witness::failures::{is_folder, opening_failure, reading_failure};
 use pb_witness::text::{Text, is_file};
@@ -26,25 +26,31 @@ pub fn open_words<R: Files>(rt: &R, alloc: Global, path: &str) -> Said {
         None => "Run again.\n",
     };
     let otherwise = ": the file could not be opened.\n";
-    failed(alloc, path, reason.as_ref(), otherwise, remedy)
+    failed(alloc, Name(Some(path)), reason.as_ref(), otherwise, remedy)
 }
 
 /// Words for an output that could not be written, for this reason.
 pub fn write_words(alloc: Global, path: Option<&str>, reason: Option<&Error>) -> Said {
-    let otherwise = ": the output could not be written.\n";
-    match (path, reason.map(Error::kind)) {
-        (Some(""), _) => said(
-            alloc,
-            "--output: the name of the file is empty.\nName a file.\n",
-            &[],
-        ),
-        (Some(path), Some(ErrorKind::IsADirectory)) => said(alloc, FOLDER, &[Name(Some(path))]),
-        (Some(path), Some(ErrorKind::NotFound)) => {
-            failed(alloc, path, reason, otherwise, NO_SUCH_FOLDER)
+    let (name, remedy) = match (path, reason.map(Error::kind)) {
+        (Some(""), _) => {
+            return said(
+                alloc,
+                "--output: the name of the file is empty.\nName a file.\n",
+                &[],
+            );
         }
-        (Some(path), _) => failed(alloc, path, reason, otherwise, UNWRITTEN),
-        (None, _) => failed(alloc, "standard output", reason, otherwise, CUT_OFF),
-    }
+        (Some(_), Some(ErrorKind::IsADirectory)) => return said(alloc, FOLDER, &[Name(path)]),
+        (Some(_), Some(ErrorKind::NotFound)) => (Name(path), NO_SUCH_FOLDER),
+        (Some(_), _) => (Name(path), UNWRITTEN),
+        (None, _) => (Own("standard output"), CUT_OFF),
+    };
+    failed(
+        alloc,
+        name,
+        reason,
+        ": the output could not be written.\n",
+        remedy,
+    )
 }
 
 /// What to do where a result could not be written to a file, and to standard output.

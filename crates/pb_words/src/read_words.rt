@@ -109,11 +109,9 @@ fn put_fault<R: Files>(out: &mut Words, text: &Text<R>, known: &Known, refused: 
         return;
     }
     let faulty = FaultyRecord::of(refused);
-    let has_field = refused.record.len() > 0;
     let is_said = match kind {
         ReadKind::ReadFailed => false,
-        ReadKind::NotText if !has_field => put_no_text(out, text, known, &faulty),
-        _ if !has_field => put_end(out, text, &faulty),
+        _ if refused.record.len() == 0 => put_end(out, text, &faulty),
         _ => put_found(out, text, known, &faulty),
     };
     if !is_said {
@@ -175,22 +173,4 @@ fn put_looks<R: Files>(out: &mut Words, text: &Text<R>, kind: ReadKind) -> bool 
         }
         None => false,
     }
-}
-
-/// Puts what is wrong with a record that is no text, which is read again as bytes; answers whether it was
-/// found.
-fn put_no_text<R: Files>(
-    out: &mut Words,
-    text: &Text<R>,
-    known: &Known,
-    faulty: &FaultyRecord,
-) -> bool {
-    let Some(records) = text.record_at(faulty.mark) else {
-        return false;
-    };
-    let again = FaultyRecord {
-        record: &records.last,
-        ..*faulty
-    };
-    put_found(out, text, known, &again)
 }

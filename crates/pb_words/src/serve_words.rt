@@ -1,7 +1,7 @@
 //! Words for a desk that stands on a file: why it does not, and which rows it did not take.
 
 use crate::file_words::FOLDER;
-use crate::words::Value::{Name, Number, Own};
+use crate::words::Value::{Beside, Name, Number, Own};
 use crate::words::{Said, failed, said};
 use std::alloc::Global;
 use std::io::{Error, ErrorKind};
@@ -31,17 +31,18 @@ pub fn unopened_words(alloc: Global, path: &str, reason: &Error) -> Said {
             let remedy =
                 "Name an ordinary file. Its folder must exist, and you must be allowed to read and write \
                 there.\n";
-            return failed(alloc, path, Some(reason), "", remedy);
+            return failed(alloc, Name(Some(path)), Some(reason), "", remedy);
         }
     };
     said(alloc, form, &[Name(Some(path))])
 }
 
-/// Words for a journal, or what is kept beside it, that could not be written, synced or cut, for this reason.
-pub fn unkept_words(alloc: Global, path: &str, reason: &Error) -> Said {
+/// Words for a journal, or the file beside it whose name has this end more, that could not be written, synced
+/// or cut, for this reason.
+pub fn unkept_words(alloc: Global, journal: &str, end: &str, reason: &Error) -> Said {
     let remedy = "Every request that got an answer is kept. Check for a full or failing disk. \
         Then run `serve` again, and send each request that got no answer.\n";
-    failed(alloc, path, Some(reason), "", remedy)
+    failed(alloc, Beside(journal, end), Some(reason), "", remedy)
 }
 
 /// Words for a journal whose name leads elsewhere, and whose text is kept in this file.
@@ -65,7 +66,7 @@ pub fn lost_words(alloc: Global, path: &str, reason: &Error) -> Said {
         "The journal was moved, replaced or deleted while `pb_app serve` was using it, and it could \
         not be saved beside its old place.
 Find the file under its new name: it has every request that got an answer.\n";
-    failed(alloc, path, Some(reason), "", remedy)
+    failed(alloc, Name(Some(path)), Some(reason), "", remedy)
 }
 
 /// Words for a journal that somebody has written over, and whose own text is kept in this file.
@@ -91,7 +92,7 @@ pub fn unkept_text_words(alloc: Global, path: &str, reason: &Error) -> Said {
         "The journal was overwritten or edited while `pb_app serve` was using it, and its own text \
         could not be saved beside it.
 Keep the answers of this run: they are the journal's last rows. Get the rows before them from last evening's copy.\n";
-    failed(alloc, path, Some(reason), "", remedy)
+    failed(alloc, Name(Some(path)), Some(reason), "", remedy)
 }
 
 /// Words for a journal that somebody has written over while it was opened.
@@ -108,7 +109,7 @@ pub fn unanswered_words(alloc: Global, reason: Option<&Error>) -> Said {
     let otherwise = ": an answer could not be written.\n";
     let remedy =
         "The journal has every request that was taken, whether its answer was printed or not.\n";
-    failed(alloc, "standard output", reason, otherwise, remedy)
+    failed(alloc, Own("standard output"), reason, otherwise, remedy)
 }
 
 /// Words for a journal that is legal, and not spelled as a desk spells it.

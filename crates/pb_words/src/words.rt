@@ -30,6 +30,8 @@ pub enum Value<'v> {
     Bytes(&'v [u8]),
     /// The name of a file as it was given; none is standard input.
     Name(Option<&'v str>),
+    /// The name of a file beside the one with this path, which has this end more.
+    Beside(&'v str, &'v str),
 }
 
 /// Words that were written, unless memory was refused.
@@ -105,12 +107,17 @@ impl Words {
             }
             Value::Quoted(text) => self.put_quoted(text.as_bytes()),
             Value::Bytes(bytes) => self.put_quoted(bytes),
-            Value::Name(path) => {
-                let name = path.unwrap_or("standard input");
-                if !self.put_escaped(name.as_bytes(), MOST_OF_NAME) {
-                    self.put("...");
-                }
+            Value::Name(path) => self.put_name(path.unwrap_or("standard input")),
+            Value::Beside(path, end) => {
+                self.put_name(path);
+                self.put(end)
             }
+        }
+    }
+
+    fn put_name(&mut self, name: &str) {
+        if !self.put_escaped(name.as_bytes(), MOST_OF_NAME) {
+            self.put("...");
         }
     }
 
@@ -208,13 +215,13 @@ pub fn said(alloc: Global, form: &str, values: &[Value<'_>]) -> Said {
 /// to do.
 pub(crate) fn failed(
     alloc: Global,
-    path: &str,
+    name: Value<'_>,
     reason: Option<&Error>,
     otherwise: &str,
     remedy: &str,
 ) -> Said {
     let mut out = Words::new(alloc);
-    out.fill("{}", &[Value::Name(Some(path))]);
+    out.fill("{}", &[name]);
     out.put_reason(reason, otherwise);
     out.put(remedy);
     out.finish()

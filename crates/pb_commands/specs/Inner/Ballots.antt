@@ -1,13 +1,14 @@
--- The columns and the fields of the table of ballots.
-use Rattle.std.specs.Prelude.{ℕ, Bool, true, List, [], ◌∷◌, Option, codes, map, slice_index_or}
+-- Which entry gave a ballot, and what is asked for of the table of ballots.
+use Rattle.std.specs.Prelude.{ℕ, Bool, true, false, List, [], Option, map, slice_index_or}
 use Rattle.std.specs.List.{join_with_byte}
 use Rattle.std.specs.Option.{option_map_or}
 use Rattle.std.specs.Str.{bytes_eq}
-use Rattle.pb_rows.specs.Reading.{Fields}
+use Rattle.pb_core.specs.Request.{EntryView}
+use Rattle.pb_commands.specs.Ballots.{given_to}
 
--- the columns of ballots; private contracts speak of them
-abbrev pub ballot_columns : Fields
-ballot_columns = codes "voter_id" ∷ codes "entry" ∷ codes "project_ids" ∷ []
+-- the entry gave this voter a ballot
+abbrev pub gave : List ℕ → EntryView → Bool
+gave voter x = option_map_or (bytes_eq voter) (given_to x.answer x.request) false
 
 -- the ids at these places, with `,` between two
 abbrev pub ids_text : List (List ℕ) → List ℕ → List ℕ

@@ -1,16 +1,24 @@
--- The columns of the tables.
-use Rattle.std.specs.Prelude.{[], ◌∷◌, codes, if◌then◌else◌}
-use Rattle.pb_rounds.specs.RuleNames.{fills_up}
-use Rattle.pb_rounds.specs.declared.rule.FillUp.{FillUp}
+-- The rows of the tables, and the parts of some.
+use Rattle.std.specs.Prelude.{ℕ, List, ◌++◌, codes, decimal, map}
+use Rattle.std.specs.List.{join_with_byte}
+use Rattle.pb_core.specs.Election.{ElectionView}
+use Rattle.pb_core.specs.MoneyText.{money_text}
+use Rattle.pb_reasons.specs.Counted.{CountedView}
+use Rattle.pb_reasons.specs.declared.payment.Payment.{Payment}
+use Rattle.pb_rounds.specs.declared.rule.FillUp.TheVariants.{MostVotes}
 use Rattle.pb_rows.specs.Reading.{Fields}
+use Rattle.pb_rows.specs.Tables.{Column}
+use Rattle.pb_commands.specs.Tables.{project_columns}
 
--- the columns of projects; private contracts speak of them
-abbrev pub project_columns : FillUp → Fields
-project_columns fill_up =
-    codes "place" ∷ codes "project_id" ∷ codes "name" ∷ codes "cost" ∷ codes "votes" ∷ codes "round"
-    ∷ codes "price" ∷ codes "collected" ∷ codes "in_full" ∷ codes "left" ∷ codes "missing" ∷ (if fills_up fill_up then codes "added" ∷ [] else [])
+-- the row of one
+abbrev pub row_of : {X : Type 0} → List (Column X) → X → Fields
+row_of columns x = map (λ c. c.1 x) columns
 
--- the columns of voters; private contracts speak of them
-abbrev pub voter_columns : Fields
-voter_columns =
-    codes "voter_id" ∷ codes "votes" ∷ codes "elected" ∷ codes "paid" ∷ codes "left" ∷ codes "payments" ∷ []
+-- the columns of projects with the last, which stands where an outcome is filled up
+abbrev pub all_columns : ElectionView → CountedView → List (Column ℕ)
+all_columns e c = project_columns e (record c { fill_up = MostVotes })
+
+-- payments as text: each a place, `:` and an amount, with `,` between two
+abbrev pub payments_text : List Payment → List ℕ
+payments_text payments =
+    join_with_byte 44 (map (λ p. decimal p.place ++ (codes ":" ++ money_text p.amount)) payments)

@@ -1,17 +1,43 @@
 -- Parts of what is asked of an election, and of its file's rows; private contracts speak of them.
-use Rattle.std.specs.Prelude.{ℕ, Bool, true, false, List, [], ◌∷◌, Option, decimal, if◌then◌else◌, is_some}
-use Rattle.std.specs.Prelude.{map, nat_le, slice_index, slice_index_or}
-use Rattle.std.specs.List.{enumerate_from, join_with_byte}
+use Rattle.std.specs.Prelude.{◌==◌, ◌||◌, ℕ, Bool, true, false, List, [], ◌∷◌, Option, codes, decimal, filter}
+use Rattle.std.specs.Prelude.{if◌then◌else◌, is_some, map, nat_le, slice_index, slice_index_or}
+use Rattle.std.specs.List.{enumerate_from, join_with_byte, list_any}
 use Rattle.std.specs.Option.{option_map_or, option_to_list}
 use Rattle.std.specs.Str.{bytes_eq, trim}
 use Rattle.pb_core.specs.Election.{ProjectView, VoterView, most_projects}
 use Rattle.pb_core.specs.declared.terms.Terms.{Terms}
-use Rattle.pb_export.specs.FileRows.{may_follow, project_row}
+use Rattle.pb_export.specs.FileRows.{amount_text, may_follow}
 use Rattle.pb_export.specs.Further.{KeyView}
-use Rattle.pb_read.specs.MetaKeys.{key_text}
-use Rattle.pb_read.specs.Rows.{head_of}
-use Rattle.pb_read.specs.declared.meta_key.MetaKey.TheVariants.{MaxLength}
+use Rattle.pb_read.specs.MetaKeys.{key_of, key_text}
+use Rattle.pb_read.specs.Rows.{head_of, is_word}
+use Rattle.pb_read.specs.declared.meta_key.MetaKey.TheVariants.{Budget, VoteType, MaxLength}
 use Rattle.pb_rows.specs.Reading.{Fields}
+
+-- an id has a comma
+abbrev pub has_comma : List ℕ → Bool
+has_comma id = list_any (λ b. b == 44) id
+
+-- a key that the file has of its own
+abbrev pub is_own_key : List ℕ → Bool
+is_own_key name =
+    is_some (key_of name)
+    || list_any (λ word. is_word word name)
+    (codes "num_projects" ∷ codes "num_votes" ∷ codes "rule" ∷ codes "comment" ∷ [])
+
+-- the rows of further keys
+abbrev pub key_rows : List KeyView → List Fields
+key_rows keys = map (λ key. key.name ∷ key.value ∷ []) (filter (λ key. may_follow (trim key.name)) keys)
+
+-- the rows of the keys that readers take
+abbrev pub terms_rows : Terms → List Fields
+terms_rows terms =
+    (key_text Budget ∷ amount_text terms.budget ∷ []) ∷ (key_text VoteType ∷ codes "approval" ∷ [])
+    ∷ map (λ most. key_text MaxLength ∷ decimal most ∷ []) (option_to_list terms.max_length)
+
+-- the row of a project that has this many votes, is elected or not, and has these further fields
+abbrev pub project_row : ProjectView → ℕ → Bool → Fields → Fields
+project_row p votes selected further =
+    p.id ∷ amount_text p.cost ∷ decimal votes ∷ p.name ∷ (if selected then codes "1" else codes "0") ∷ further
 
 -- a text has no white space at its ends
 abbrev pub is_tidy : List ℕ → Bool

@@ -13,13 +13,17 @@ use Rattle.pb_page.specs.declared.facts.Facts.{Facts}
 use Rattle.pb_page.specs.declared.facts.ReadText.{ReadText}
 use Rattle.pb_page.specs.declared.figures.Figures.{Figures}
 use Rattle.pb_page.specs.declared.in_category.InCategory.{InCategory}
+use Rattle.pb_page.specs.declared.project_row.ProjectRow.{ProjectRow}
 use Rattle.pb_reasons.specs.declared.tie.Tie.{Tie}
 use Rattle.pb_core.specs.Election.{ElectionView, ProjectView}
 use Rattle.pb_price.specs.Supporters.{cost_at, support_of}
 use Rattle.pb_page.specs.Amount.{shown}
 use Rattle.pb_page.specs.Filling.{Filling}
 use Rattle.pb_page.specs.declared.markup.form.Form.{Form}
-use Rattle.pb_reasons.specs.Counted.{CountedView, winners_of}
+use Rattle.pb_reasons.specs.Counted.{winners_of}
+use Rattle.pb_reasons.specs.CountedElection.{CountedElectionView}
+use Rattle.pb_reasons.specs.declared.comparison.Comparison.{Comparison}
+use Rattle.pb_reasons.specs.Reasons.{voter_reason}
 use Rattle.pb_reasons.specs.Totals.{totals_of}
 use Rattle.pb_reasons.specs.declared.raise_end.RaiseEnd.{RaiseEnd}
 use Rattle.pb_reasons.specs.declared.raise_end.RaiseEnd.TheVariants.{Plain, Exhausted, Over}
@@ -29,15 +33,15 @@ use Rattle.pb_rounds.specs.declared.options.CountOptions.{CountOptions}
 use Rattle.pb_rounds.specs.RuleNames.{by_completion, by_measure, completion_name, fills_up, measure_name}
 use Rattle.pb_rounds.specs.declared.rule.FillUp.{FillUp}
 use Rattle.pb_rounds.specs.declared.rule.Rule.{Rule}
-use Rattle.pb_page.specs.Page.{amount, at, at_least, ballots_row, between, called}
-use Rattle.pb_page.specs.Page.{category_name, category_of, category_row, exactly, filling, head_end, labels}
-use Rattle.pb_page.specs.Page.{lost_row, made, noun_at, number, row_of, say, text, tie, width, won_row}
+use Rattle.pb_page.specs.Page.{amount, at, at_least, ballots_row, between, called, category_name, category_of, cells}
+use Rattle.pb_page.specs.Page.{category_row, compared_row, exactly, filling, labels, lost_row, noun_at, number}
+use Rattle.pb_page.specs.Page.{project_at, row_of, say, text, tie, width, won_row}
 use Rattle.pb_page.specs.declared.keys.TheConstants as key
 use Rattle.pb_page.specs.declared.language.Language.{Language}
 use Rattle.pb_page.specs.declared.style.TheConstants.{HEAD}
 use Rattle.pb_page.specs.declared.templates.TheConstants.{LEAD_NEXT, NOTHING, BUDGET_OPENING, BLOCKS_OPENING}
 use Rattle.pb_page.specs.declared.templates.TheConstants.{BUDGET_PART, BLOCKS_CLOSING, BUDGET_CLOSING}
-use Rattle.pb_page.specs.declared.templates.TheConstants.{HEAD_CATEGORY, ROW_CATEGORY, WINNERS_OPENING}
+use Rattle.pb_page.specs.declared.templates.TheConstants.{HEAD_CATEGORY, HEAD_CLOSING, ROW_CATEGORY, WINNERS_OPENING}
 use Rattle.pb_page.specs.declared.templates.TheConstants.{WINNER, ADDED_OPENING, ADDED, OTHERS_OPENING, OTHER}
 use Rattle.pb_page.specs.declared.templates.TheConstants.{OTHER_CLOSING, TABLE_CLOSING, CATEGORIES_OPENING}
 use Rattle.pb_page.specs.declared.templates.TheConstants.{CATEGORY, COMPARED_OPENING, VOTERS_OPENING}
@@ -49,14 +53,14 @@ use Rattle.pb_page.specs.declared.templates.TheConstants.{CHECK_FILE, CHECK_JOUR
 use Rattle.pb_page.specs.declared.templates.TheConstants.{RECOUNT_LINK, RECOUNT_CLOSING, NO_RECOUNT, COUNT}
 use Rattle.pb_page.specs.declared.templates.TheConstants.{AUDIT, OPTION_COST, OPTION_PLAIN}
 use Rattle.pb_page.specs.declared.templates.TheConstants.{OPTION_UTILITARIAN, OPTION_ADD1U, COMMAND_CLOSING}
-use Rattle.pb_page.specs.declared.templates.TheConstants.{MADE_BY_OPENING}
+use Rattle.pb_page.specs.declared.templates.TheConstants.{CLOSING, MADE_BY_OPENING}
 
 -- the numbers of the whole
-abbrev pub figures_of : ElectionView → CountedView → Figures
-figures_of e c = let totals = totals_of e c in record {
+abbrev pub figures_of : CountedElectionView → Figures
+figures_of x = let e = x.election in let totals = totals_of e x.counted in record {
   voters = length e.voters;
   projects = length e.projects;
-  won = length (winners_of c);
+  won = length (winners_of x.counted);
   budget = e.budget;
   spent = totals.spent;
   left = e.budget - totals.spent;
@@ -120,24 +124,26 @@ abbrev pub compared_head : Language → Filling
 compared_head l = labels l COMPARED_OPENING.now (key.COMPARED_HEADING ∷ key.COMPARED_CAPTION
     ∷ key.COMPARED_RULE ∷ key.COMPARED_WON ∷ key.WITHOUT ∷ key.MORE ∷ [])
 
--- the rows of the project at a place, as a winner and as another
-abbrev pub won_rows : Facts → ElectionView → CountedView → ℕ → List Filling
-won_rows facts e c place = row_of (won_row facts e.budget) e c place
+abbrev pub compared : Language → Comparison → List Filling
+compared l rules = compared_head l ∷ compared_row l key.EQUAL_SHARES rules.own ∷ compared_row l key.MOST_VOTES rules.other
+    ∷ filling TABLE_CLOSING.now [] ∷ []
 
-abbrev pub lost_rows : Facts → ElectionView → CountedView → ℕ → List Filling
-lost_rows facts e c place = row_of (lost_row facts) e c place
+-- the rows of the project at a place, as a winner and as another
+abbrev pub won_rows : Facts → CountedElectionView → ℕ → List Filling
+won_rows facts x place = row_of (won_row facts x.election.budget) x place
+
+abbrev pub lost_rows : Facts → CountedElectionView → ℕ → List Filling
+lost_rows facts x place = row_of (lost_row facts) x place
 
 -- the row of a winner and of an added project, up to their ends
-abbrev pub winner_cells : Language → (whole : ℕ) → ProjectView → (votes : ℕ) → Won → Filling
-winner_cells l whole p votes w = filling WINNER.now
-    (p.id ∷ at l key.ROUND ∷ decimal w.round ∷ p.id ∷ p.name ∷ decimal (width p.cost whole)
-    ∷ at l key.COST ∷ money_text p.cost ∷ shown l.costs p.cost ∷ at l key.VOTES ∷ decimal votes
-    ∷ at l key.PRICE ∷ money_text w.price ∷ shown l.amounts w.price ∷ at l key.IN_FULL ∷ decimal w.in_full ∷ [])
+abbrev pub winner_cells : Language → ProjectRow → Won → Filling
+winner_cells l r w = let p = r.project.now in filling WINNER.now
+    (p.id ∷ at l key.ROUND ∷ decimal w.round ∷ (cells l p (width p.cost r.budget) r.votes ++ (at l key.PRICE
+    ∷ money_text w.price ∷ shown l.amounts w.price ∷ at l key.IN_FULL ∷ decimal w.in_full ∷ [])))
 
-abbrev pub added_cells : Language → (whole : ℕ) → ProjectView → (votes : ℕ) → Added → Filling
-added_cells l whole p votes a = filling ADDED.now
-    (p.id ∷ at l key.NUMBER ∷ decimal a.number ∷ p.id ∷ p.name ∷ decimal (width p.cost whole)
-    ∷ at l key.COST ∷ money_text p.cost ∷ shown l.costs p.cost ∷ at l key.VOTES ∷ decimal votes ∷ [])
+abbrev pub added_cells : Language → ProjectRow → Added → Filling
+added_cells l r a = let p = r.project.now in filling ADDED.now
+    (p.id ∷ at l key.NUMBER ∷ decimal a.number ∷ cells l p (width p.cost r.budget) r.votes)
 
 -- the cell of a project's category, and the head of its column, where there are categories
 abbrev pub category_cell : (label name : List ℕ) → List Filling
@@ -149,6 +155,9 @@ row_category facts place =
 
 abbrev pub head_category : Facts → List Filling
 head_category facts = option_map_or (λ g. labels facts.language HEAD_CATEGORY.now (key.CATEGORY ∷ []) ∷ []) facts.categories []
+
+abbrev pub head_end : Facts → List Filling
+head_end facts = head_category facts ++ filling HEAD_CLOSING.now [] ∷ []
 
 -- how many voters have a winner among their choices, and the head of the histogram
 abbrev pub got : Language → List ℕ → List Filling
@@ -191,23 +200,31 @@ block form budget before p =
     filling BUDGET_PART.now
     (decimal (width before budget) ∷ decimal (width p.cost budget) ∷ called p ∷ shown form p.cost ∷ p.id ∷ [])
 
-abbrev pub winner_table : Facts → ElectionView → CountedView → List Filling
-winner_table facts e c =
-    winners_head facts.language ∷ (head_end facts
-    ++ (flat_map (λ w. won_rows facts e c w.place) c.outcome.elected ++ filling TABLE_CLOSING.now [] ∷ []))
+-- a table of projects, by its head and its rows
+abbrev pub rows_table : Facts → Filling → List Filling → List Filling
+rows_table facts head rows = head ∷ (head_end facts ++ (rows ++ filling TABLE_CLOSING.now [] ∷ []))
 
-abbrev pub added_table : Facts → ElectionView → CountedView → List Filling
-added_table facts e c =
-    added_head facts.language ∷ (head_end facts
-    ++ (flat_map (won_rows facts e c) c.added ++ filling TABLE_CLOSING.now [] ∷ []))
+abbrev pub winner_table : Facts → CountedElectionView → List Filling
+winner_table facts x =
+    rows_table facts (winners_head facts.language) (flat_map (λ w. won_rows facts x w.place) x.counted.outcome.elected)
 
-abbrev pub other_table : Facts → ElectionView → CountedView → List Filling
-other_table facts e c =
-    others_head facts.language ∷ (head_end facts
-    ++ (flat_map (lost_rows facts e c) (range_with_len 0 (length e.projects)) ++ filling TABLE_CLOSING.now [] ∷ []))
+abbrev pub added_table : Facts → CountedElectionView → List Filling
+added_table facts x = rows_table facts (added_head facts.language) (flat_map (won_rows facts x) x.counted.added)
+
+abbrev pub other_table : Facts → CountedElectionView → List Filling
+other_table facts x =
+    rows_table facts (others_head facts.language) (flat_map (lost_rows facts x) (range_with_len 0 (length x.election.projects)))
 
 abbrev pub exact_row : Language → List ℕ → ℕ → List Filling
 exact_row l won n = ballots_row l key.EXACTLY n (exactly n won) won
+
+-- how many of each voter's choices won, and what is said of that
+abbrev pub won_by_voter : CountedElectionView → List ℕ
+won_by_voter x = map (λ voter. (voter_reason x.election x.counted voter).elected) (range_with_len 0 (length x.election.voters))
+
+abbrev pub histogram : Language → List ℕ → List Filling
+histogram l won = got l won ++ (flat_map (exact_row l won) (range_with_len 0 9)
+    ++ (ballots_row l key.OR_MORE 9 (at_least 9 won) won ++ filling TABLE_CLOSING.now [] ∷ []))
 
 abbrev pub order : Language → Measure → Filling
 order l measure = item l (by_measure measure key.BY_VOTES key.BY_COST)
@@ -245,16 +262,22 @@ KnowsPlaces e (Over next) = All (λ place. place < length e.projects) next.only_
 abbrev pub filled_up : Language → FillUp → List Filling
 filled_up l fill_up = if fills_up fill_up then item l key.FILLED_UP ∷ [] else []
 
--- a tie between two projects that are called so
-abbrev pub tie_said : Language → Measure → (round : ℕ) → (winner other : List ℕ) → List Filling
-tie_said l m round winner other =
-    say l (by_measure m key.TIE_BY_VOTES key.TIE_BY_COST)
-    (number (codes "round") round ∷ filling CALLED.now (winner ∷ []) ∷ filling CALLED.now (other ∷ []) ∷ [])
+-- what is said of a tie, and some ties
+abbrev pub tie_called : Language → (k round : ℕ) → (winner other : List ℕ) → List Filling
+tie_called l k round winner other =
+    say l k (number (codes "round") round ∷ filling CALLED.now (winner ∷ []) ∷ filling CALLED.now (other ∷ []) ∷ [])
 
--- some ties
-abbrev pub tie_list : Language → Measure → ElectionView → List Tie → List Filling
-tie_list l m e all =
-    labels l TIES_OPENING.now (key.TIES ∷ []) ∷ (flat_map (tie l m e) all ++ filling LIST_CLOSING.now [] ∷ [])
+abbrev pub tie_said : Language → CountedElectionView → Tie → List Filling
+tie_said l x t =
+    tie_called l (by_measure x.rule.options.measure key.TIE_BY_VOTES key.TIE_BY_COST) t.round
+    (called (project_at x.election t.winner)) (called (project_at x.election t.other))
+
+abbrev pub tie_list : Language → CountedElectionView → List Tie → List Filling
+tie_list l x all =
+    labels l TIES_OPENING.now (key.TIES ∷ []) ∷ (flat_map (tie l x) all ++ filling LIST_CLOSING.now [] ∷ [])
+
+abbrev pub ties_told : Language → CountedElectionView → List Tie → List Filling
+ties_told l x all = if length all == 0 then [] else tie_list l x all
 
 -- how that is called, and how what was left was filled up
 abbrev pub method_said : Language → Rule → List Filling
@@ -281,16 +304,14 @@ abbrev pub options_said : Language → Rule → List Filling
 options_said l rule =
     between (command_closing rule.options) (filling MADE_BY_OPENING.now []) l key.OPTIONS (option_places l rule)
 
-abbrev pub lost_figures : Language → ProjectView → (votes : ℕ) → Lost → Filling
-lost_figures l p votes lost =
-    filling OTHER.now
-    (p.id ∷ p.name ∷ decimal (width lost.left p.cost) ∷ at l key.COST ∷ money_text p.cost ∷ shown l.costs p.cost
-    ∷ at l key.VOTES ∷ decimal votes ∷ at l key.LEFT ∷ money_text lost.left ∷ shown l.amounts lost.left
-    ∷ at l key.MISSING ∷ money_text lost.missing ∷ [])
+abbrev pub lost_figures : Language → ProjectRow → Lost → Filling
+lost_figures l r lost = let p = r.project.now in filling OTHER.now
+    (cells l p (width lost.left p.cost) r.votes ++ (at l key.LEFT ∷ money_text lost.left ∷ shown l.amounts lost.left
+    ∷ at l key.MISSING ∷ money_text lost.missing ∷ []))
 
-abbrev pub lost_cells : Language → ProjectView → (votes : ℕ) → Lost → List Filling
-lost_cells l p votes lost =
-    between (lost_figures l p votes lost) (filling OTHER_CLOSING.now []) l key.SHORT (text (shown l.amounts lost.missing) ∷ [])
+abbrev pub lost_cells : Language → ProjectRow → Lost → List Filling
+lost_cells l r lost =
+    between (lost_figures l r lost) (filling OTHER_CLOSING.now []) l key.SHORT (text (shown l.amounts lost.missing) ∷ [])
 
 abbrev pub got_said : Language → (with voters without : ℕ) → List Filling
 got_said l with voters without =
@@ -319,11 +340,14 @@ abbrev pub shown_row : Language → (k n ballots : ℕ) → List ℕ → List Fi
 shown_row l k n ballots won =
     between (filling VOTERS_ROW.now (decimal n ∷ [])) (row_closing ballots won) l k (text (decimal n) ∷ [])
 
-abbrev pub command : Language → Facts → List Filling
-command l facts =
+abbrev pub made : Facts → Rule → List Filling
+made facts r = options_said facts.language r
+    ++ (say facts.language key.MADE_BY (text facts.program.now ∷ []) ++ filling CLOSING.now [] ∷ [])
+
+abbrev pub command : Facts → Rule → List Filling
+command facts r =
     recounting facts.journal
-    ++ (measure_option facts.rule.options.measure
-    ++ (completion_option facts.rule.options.completion facts.rule.fill_up ++ made l facts))
+    ++ (measure_option r.options.measure ++ (completion_option r.options.completion r.fill_up ++ made facts r))
 
 -- which of these winners are of a category
 abbrev pub winners_in : Categories → List ℕ → ℕ → List ℕ

@@ -9,7 +9,6 @@ use crate::markup::value::Value;
 use crate::markup::written::write_text;
 use itoa::Buffer;
 use pb_core::no_memory::NoMemory;
-use std::alloc::Global;
 
 /// Stands in a piece of markup where a value goes.
 const PLACE: u8 = b'~';
@@ -19,12 +18,7 @@ const NEXT: u8 = b'^';
 
 /// Writes a piece of the program's own markup after a page, with these values in the places of its `~`, one
 /// after the other; each `^` is the value of the next `~` as well. A place without a value stays empty.
-pub fn fill(
-    page: &mut Vec<u8>,
-    alloc: Global,
-    piece: &'static str,
-    values: &[Value],
-) -> Result<(), NoMemory>
+pub fn fill(page: &mut Vec<u8>, piece: &'static str, values: &[Value]) -> Result<(), NoMemory>
     ensures { OnOk result (page.new.items ≡ page.old.items ++ filled piece.now (map text_of values.now)) }
 {
     let mut used = 0;
@@ -34,7 +28,7 @@ pub fn fill(
             page.push(*byte)?;
         } else if used < values.len() {
             let value = &values[used];
-            write_value(page, alloc, value)?;
+            write_value(page, value)?;
             if *byte == PLACE {
                 used += 1;
             }
@@ -44,7 +38,7 @@ pub fn fill(
 }
 
 /// Writes a value.
-fn write_value(page: &mut Vec<u8>, alloc: Global, value: &Value) -> Result<(), NoMemory>
+fn write_value(page: &mut Vec<u8>, value: &Value) -> Result<(), NoMemory>
     ensures { OnOk result (page.new.items ≡ page.old.items ++ written (text_of value.now)) }
 {
     match value {
@@ -54,7 +48,7 @@ fn write_value(page: &mut Vec<u8>, alloc: Global, value: &Value) -> Result<(), N
             write_text(page, digits.format(*number))
         }
         Value::Amount(amount) => {
-            let text = amount.text(alloc)?;
+            let text = amount.text(*page.allocator())?;
             write_text(page, text.as_str())
         }
         Value::Shown(amount, form) => write_amount(page, *amount, form),

@@ -1,16 +1,18 @@
 -- How far a check of a whole file has come; private contracts speak of it.
-use Rattle.std.specs.Prelude.{◌≡◌, ◌≢◌, ◌≤◌, ◌<◌, ◌+◌, ◌-◌, ◌==◌, ℕ, true, false, List, [], ◌∷◌, length}
-use Rattle.std.specs.Prelude.{remove, Option, Some, None, IfSome, if◌then◌else◌}
+use Rattle.std.specs.Prelude.{◌≡◌, ◌≢◌, ◌≤◌, ◌<◌, ◌+◌, ◌-◌, ◌==◌, ℕ, Bool, true, false, List, [], ◌∷◌, ◌++◌, length}
+use Rattle.std.specs.Prelude.{remove, Option, Some, None, Result, Ok, Err, IfSome, if◌then◌else◌, ⊤}
 use Rattle.csv.specs.Records.{AllText}
 use Rattle.pb_core.specs.Election.{ElectionView}
 use Rattle.pb_rows.specs.Reading.{Fields, IsNext}
+use Rattle.pb_rows.specs.declared.fault.RecordsFault.{RecordsFault}
 use Rattle.pb_read.specs.FirstFault.{IsFaultAt}
-use Rattle.pb_read.specs.Listed.{IsLeftOut, leaves_out}
+use Rattle.pb_read.specs.Listed.{AreListed, IsLeftOut, leaves_out}
 use Rattle.pb_read.specs.Inner.Machine.{Position, advance, lowest_kind, row_fault}
-use Rattle.pb_read.specs.Inner.Progresses.{EndsWith}
+use Rattle.pb_read.specs.Inner.Progresses.{BlamesReader, EndsWith}
 use Rattle.pb_read.specs.Stages.{next_row, the_end}
-use Rattle.pb_read.specs.StandsFor.{most_records}
+use Rattle.pb_read.specs.StandsFor.{StandsFor, most_records}
 use Rattle.pb_read.specs.Inner.Tracking.{IsNextRow, Tracks}
+use Rattle.pb_read.specs.declared.check.Refused.{Refused}
 use Rattle.pb_read.specs.declared.check.Verdict.{Verdict}
 use Rattle.pb_read.specs.declared.check.Verdict.TheVariants.{Passes, LeavesOut, Ends, Done}
 use Rattle.pb_read.specs.declared.fault.ReadFault.{ReadFault}
@@ -116,3 +118,22 @@ pub record Going (all : List Fields) (left : Option (List Fields)) (done : ℕ) 
 abbrev pub IsGoing : Option (List Fields) → Option (List Fields) → ℕ → List ReadFault → Position → Type 0
 IsGoing None left done faults p = Unit {0}
 IsGoing (Some all) left done faults p = Going all left done faults p
+
+-- the reader is at fault only where it failed
+abbrev pub Blames : Verdict → Option RecordsFault → Type 0
+Blames (LeavesOut kind) stopped = BlamesReader kind stopped
+Blames (Ends kind) stopped = BlamesReader kind stopped
+Blames verdict stopped = Unit {0}
+
+-- what it means that reading stops at a fault that is the next after these: where it is left out, and not the
+-- last of as many as are listed, reading can go on
+abbrev pub StopsAt : Option (List Fields) → Option (List Fields) → List ReadFault → Position → ReadFault → Bool → Type 0
+StopsAt all left faults p fault true =
+    (length faults < 999 → IsGoing all left fault.at (faults ++ fault ∷ []) p)
+    × (length faults ≡ 999 → IfSome all (λ records. AreListed 0 records (faults ++ fault ∷ [])))
+StopsAt all left faults p fault false = IfSome all (λ records. AreListed 0 records (faults ++ fault ∷ []))
+
+-- the same, or that it has come to the end
+abbrev pub Stops : Option (List Fields) → Option (List Fields) → List ReadFault → Position → Result ⊤ Refused → Type 0
+Stops all left faults p (Ok done) = IfSome all (λ records. AreListed 0 records faults × (faults ≡ [] → StandsFor records p.1))
+Stops all left faults p (Err refused) = StopsAt all left faults p refused.fault refused.is_left_out

@@ -1,13 +1,12 @@
 -- How far the reader has come; private contracts speak of it.
-use Rattle.std.specs.Prelude.{◌≡◌, ◌≤◌, ℕ, List, [], Option, None, Some, Ok}
+use Rattle.std.specs.Prelude.{◌≡◌, ◌≤◌, ℕ, [], Option, None, Some, Ok}
 use Rattle.pb_core.specs.Election.{ElectionView}
 use Rattle.pb_core.specs.Money.{largest_money}
 use Rattle.pb_read.specs.declared.meta.Meta.{Meta}
-use Rattle.pb_rows.specs.Reading.{Fields, NextIsNoText}
 use Rattle.pb_rows.specs.declared.fault.RecordsFault.{RecordsFault}
 use Rattle.pb_rows.specs.declared.fault.RecordsFault.TheVariants as stop
 use Rattle.pb_read.specs.declared.fault.ReadKind.{ReadKind}
-use Rattle.pb_read.specs.declared.fault.ReadKind.TheVariants.{ReadFailed, NotText, NoMemory}
+use Rattle.pb_read.specs.declared.fault.ReadKind.TheVariants.{ReadFailed}
 use Rattle.pb_read.specs.Inner.Drafts.{IsTied}
 use Rattle.pb_read.specs.Inner.Machine.{Explains, Position, advance, row_fault}
 use Rattle.pb_read.specs.Stages.{Next}
@@ -49,13 +48,6 @@ Stays old new = (place_of new ≡ place_of old) × IsReady new
 -- a file may end here, with this election
 abbrev pub EndsWith : Position → ElectionView → Type 0
 EndsWith p election = (columns : VoteColumns) × (p ≡ (InVotes columns, election))
-
--- the next record could not be read: the reader failed, memory was refused, or a field is no text
-abbrev pub StopsReading : ReadKind → Option (List Fields) → Type 0
-StopsReading ReadFailed left = Unit {0}
-StopsReading NoMemory left = Unit {0}
-StopsReading NotText left = NextIsNoText left
-StopsReading kind left = ⊥
 
 -- the reader is at fault only where it failed
 abbrev pub BlamesReader : ReadKind → Option RecordsFault → Type 0

@@ -1,5 +1,5 @@
 -- How much of a file was read; private contracts speak of it.
-use Rattle.std.specs.Prelude.{◌≡◌, ◌≤◌, ◌+◌, ℕ, Bool, List, [], ◌++◌, length, Option, Some, None}
+use Rattle.std.specs.Prelude.{◌≡◌, ℕ, Bool, List, ◌++◌, length, Option, Some, None}
 use Rattle.std.specs.List.{AllByRecursion}
 use Rattle.csv.specs.Records.{AllText}
 use Rattle.pb_rows.specs.Reading.{Fields, IsNext}
@@ -8,7 +8,6 @@ use Rattle.pb_read.specs.Inner.Machine.{Position}
 use Rattle.pb_read.specs.Inner.Positions.{IsJustAt}
 use Rattle.pb_read.specs.Inner.Fields.{trimmed}
 use Rattle.pb_read.specs.Rows.{rows_of}
-use Rattle.pb_read.specs.StandsFor.{most_records}
 
 -- the records are text, and were read to this position without fault
 pub record Reached (done : List Fields) (p : Position) : Type 0 where
@@ -35,14 +34,3 @@ abbrev pub Tracks : Option (List Fields) → Option (List Fields) → ℕ → Po
 Tracks None left count p = Unit {0}
 Tracks (Some all) None count p = ⊥
 Tracks (Some all) (Some left) count p = HasCome all left count p
-
--- all records were read to a position, and their end is number `at`
-pub record EndsAt (all : List Fields) (at : ℕ) (p : Position) : Type 0 where
-  pub count : ℕ
-  pub at_is : at ≡ count + 1
-  pub few : count ≤ most_records
-  pub come : HasCome all [] count p
-
-abbrev pub HasEnded : Option (List Fields) → ℕ → Position → Type 0
-HasEnded None at p = Unit {0}
-HasEnded (Some all) at p = EndsAt all at p

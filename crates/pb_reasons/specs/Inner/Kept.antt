@@ -1,10 +1,13 @@
 -- What is kept to tell reasons from; private contracts speak of it.
-use Rattle.std.specs.Prelude.{◌≡◌, ℕ, ◌<◌, List, length, replicate, slice_index}
+use Rattle.std.specs.Prelude.{◌≡◌, ℕ, ◌<◌, Bool, List, length, replicate, slice_index}
 use Rattle.pb_core.specs.Election.{ElectionView}
 use Rattle.pb_price.specs.Supporters.{SupportView, support_of}
 use Rattle.pb_rounds.specs.Outcome.{OutcomeView}
 use Rattle.pb_rounds.specs.Run.{ElectedView}
+use Rattle.pb_reasons.specs.Counted.{CountedView, winners_of}
 use Rattle.pb_reasons.specs.Reasons.{round_of}
+use Rattle.pb_reasons.specs.Inner.Comparing.{AreFlags}
+use Rattle.pb_reasons.specs.Inner.Numbers.{AreNumbers}
 use Rattle.pb_reasons.specs.Inner.Replay.{paid_by_supporters}
 
 -- the number of each project's round
@@ -25,3 +28,18 @@ pub record AreReasons (e : ElectionView) (o : OutcomeView) (r : ReasonsView) : T
   pub rounds : AreRounds (length e.projects) o.elected r.rounds
   pub paid : r.paid
       ≡ paid_by_supporters (support_of e) (replicate (length e.voters) o.share) o.elected
+
+-- what contracts see of what is kept of a count: the reasons of its outcome, the number of each project among
+-- the added ones, the winners, and whether each project is one of these
+pub record KeptView : Type 0 where
+  pub reasons : ReasonsView
+  pub numbers : List ℕ
+  pub winners : List ℕ
+  pub flags : List Bool
+
+-- this is kept of what a count comes to
+pub record IsKept (e : ElectionView) (c : CountedView) (k : KeptView) : Type 0 where
+  pub reasons : AreReasons e c.outcome k.reasons
+  pub numbers : AreNumbers (length e.projects) c.added k.numbers
+  pub winners : k.winners ≡ winners_of c
+  pub flags : AreFlags (length e.projects) k.winners k.flags

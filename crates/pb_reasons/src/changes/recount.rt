@@ -8,9 +8,9 @@ ghost use Rattle.pb_rounds.specs.Counted.{IsCountFault, IsCountOf};
 ghost use Rattle.pb_reasons.specs.WhatIf.{Says};
 ghost use Rattle.pb_reasons.specs.Inner.Searching.{HasWon, IsStop};
 
-use crate::Counted;
 use crate::changes::change::Verdict;
 use crate::changes::question::Question;
+use crate::counted::Counted;
 use pb_core::election::Election;
 use pb_core::gate::Gate;
 use pb_core::no_memory::NoMemory;

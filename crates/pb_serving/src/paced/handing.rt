@@ -3,13 +3,13 @@
 ghost use Rattle.std.specs.Prelude.{◌≡◌, ◌<◌, ◌≤◌, ◌++◌, [], Option, ℕ, List, length, take, IfOk, IfSome};
 ghost use Rattle.std.specs.Prelude.{IsSome, IsTrue};
 ghost use Rattle.csv.specs.Machine.{is_end, step};
-ghost use Rattle.pb_durable.specs.Place.{state_at};
+ghost use Rattle.pb_durable.specs.RowPosition.{state_at};
 ghost use Rattle.pb_rows.specs.Reading.{pb_config};
 ghost use Rattle.pb_serving.specs.Inner.Rows.{first_row, state_after};
 ghost use Rattle.pb_serving.specs.Paced.{at_hand, left_by};
 
 use crate::paced::{AtHand, Paced};
-use pb_durable::place::Place;
+use pb_durable::row_position::RowPosition;
 use std::alloc::{AllocError, Global};
 use std::io::{Read, Result};
 
@@ -17,17 +17,18 @@ use std::io::{Read, Result};
 const CHUNK: usize = 1 << 16;
 
 /// Whether a row ends with this byte. A line end within quotes ends none, nor does that of an empty line.
-fn ends_row(place: Place, byte: u8) -> bool
+fn ends_row(place: RowPosition, byte: u8) -> bool
     ensures { result ≡ is_end (step pb_config (state_at place) byte).1 }
 {
     match place {
-        Place::FieldStart | Place::InField | Place::BehindQuote => byte == b'\n' || byte == b'\r',
-        Place::RowStart | Place::InQuotes | Place::BehindReturn => false,
+        RowPosition::FieldStart | RowPosition::InField | RowPosition::BehindQuote => byte == b'\n'
+            || byte == b'\r',
+        RowPosition::RowStart | RowPosition::InQuotes | RowPosition::BehindReturn => false,
     }
 }
 
 /// Where the byte after all of these stands.
-fn after_all(place: Place, bytes: &[u8]) -> Place
+fn after_all(place: RowPosition, bytes: &[u8]) -> RowPosition
     ensures { state_at result ≡ state_after (state_at place) bytes.now }
 {
     let mut place = place;
@@ -39,7 +40,7 @@ fn after_all(place: Place, bytes: &[u8]) -> Place
 
 /// How many bytes there are up to the end of the first row, with its line end; none where it doesn't end
 /// among them.
-fn row_length(place: Place, bytes: &[u8]) -> Option<usize>
+fn row_length(place: RowPosition, bytes: &[u8]) -> Option<usize>
     ensures row { result ≡ first_row (state_at place) bytes.now }
     ensures some { IfSome result (λ count. (0 < count) × (count ≤ length bytes.now)) }
 {
@@ -72,7 +73,7 @@ impl<'a, P: Read + Drop> Paced<'a, P> {
             chunk,
             start: 0,
             end: 0,
-            place: Place::RowStart,
+            place: RowPosition::RowStart,
         })
     }
 
@@ -88,10 +89,13 @@ impl<'a, P: Read + Drop> Paced<'a, P> {
         ensures { IsTrue result → IsSome (first_row (state_at self.now.place) (at_hand self.now)) }
     {
         match self.place {
-            Place::RowStart | Place::BehindReturn => {
+            RowPosition::RowStart | RowPosition::BehindReturn => {
                 row_length(self.place, self.rest()).is_some()
             }
-            Place::FieldStart | Place::InField | Place::InQuotes | Place::BehindQuote => false,
+            RowPosition::FieldStart
+            | RowPosition::InField
+            | RowPosition::InQuotes
+            | RowPosition::BehindQuote => false,
         }
     }
 

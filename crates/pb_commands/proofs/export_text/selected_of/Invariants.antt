@@ -4,4 +4,4 @@ use Rattle.pb_reasons.specs.Counted.{is_selected}
 use Rattle.pb_commands.proofs.export_text.selected_of.Given as goal
 
 abbrev pub invariant-loop-place : goal.invariant-loop-place
-invariant-loop-place l = l.selected.items ≡ map (is_selected l.teller.1) (range_with_len 0 l.place)
+invariant-loop-place l = l.selected.items ≡ map (is_selected l.count.counted) (range_with_len 0 l.place)

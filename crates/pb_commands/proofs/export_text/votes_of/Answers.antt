@@ -6,5 +6,5 @@ use Rattle.pb_commands.proofs.export_text.votes_of.Goals as goal
 
 pub loop-place-preserved : goal.loop-place-preserved
 loop-place-preserved c =
-    one_put (λ place. length (supporters_at (support_of c.args.election.now) place)) c.loop-place.place c.loop-place.votes.items c.push.new.self.items c.tell-reason.result.votes
-    c.loop-place.invariant c.in_ok-push.ensures.items (ap (λ (r : ProjectReason). r.votes) (rw c.requires at c.tell-reason.ensures))
+    one_put (λ place. length (supporters_at (support_of c.args.count.now.election) place)) c.loop-place.place c.loop-place.votes.items c.push.new.self.items c.project-reason.result.votes
+    c.loop-place.invariant c.in_ok-push.ensures.items (ap (λ (r : ProjectReason). r.votes) c.project-reason.ensures)

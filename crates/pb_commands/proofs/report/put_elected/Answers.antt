@@ -11,5 +11,5 @@ loop-winner-init c = none_grown c.args.rows.now.text
 pub loop-winner-preserved : goal.loop-winner-preserved
 loop-winner-preserved c =
     let winner = the_winner c.args.election.now _ _ _ _ _ _ c.requires c.loop-winner-test.true c.winner-item.is c.winner.view_is c.projects-projects.ensures.projects c.index-projects-winner.is in
-    let grown = rw (c.id.ensures.id, c.as_str.ensures.value, c.in_ok-cost.ensures, c.cost.ensures.cost, c.as_str-in-loop-winner.ensures.value, c.in_ok-price.ensures, ap (λ (w : ElectedView). w.price) c.winner.view_is) at c.in_ok-put_row.ensures.text in
+    let grown = rw (c.id.ensures.id, c.amount.ensures, c.cost.ensures.cost, c.amount-price.ensures, ap (λ (w : ElectedView). w.price) c.winner.view_is) at c.in_ok-put_fields.ensures.text in
     elected_grown _ _ _ _ _ _ _ _ winner c.loop-winner.invariant grown

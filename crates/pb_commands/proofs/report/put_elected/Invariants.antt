@@ -1,6 +1,6 @@
 use Rattle.std.proofs.Common.{◌≡◌, ◌++◌, map, take}
 use Rattle.pb_rows.specs.Writing.{text_of_rows}
-use Rattle.pb_commands.specs.Report.{elected_row}
+use Rattle.pb_commands.specs.Inner.Report.{elected_row}
 use Rattle.pb_commands.proofs.report.put_elected.Given as goal
 
 abbrev pub invariant-loop-winner : goal.invariant-loop-winner

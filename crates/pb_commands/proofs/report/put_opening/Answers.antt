@@ -1,8 +1,12 @@
-use Rattle.std.proofs.lemmas.Result.{on_ok_weaker}
+use Rattle.std.proofs.Common.{ap}
+use Rattle.pb_rounds.specs.Outcome.{OutcomeView}
 use Rattle.pb_commands.proofs.RowsGrown.{four_grown}
 use Rattle.pb_commands.proofs.report.put_opening.Goals as goal
 
 pub returns : goal.returns
 returns c =
-    rw (← c.budget.ensures.budget, ← c.voters.ensures.voters, ← c.share.ensures, ← c.raised.ensures, ← c.from.ensures)
-    (on_ok_weaker c.put_number-2.result (λ last. four_grown _ _ _ _ _ _ _ _ _ c.in_ok-put_amount.ensures c.in_ok-put_number.ensures c.in_ok-put_amount-2.ensures last) c.put_number-2.ensures)
+    four_grown _ _ _ _ _ _ _ _ _
+    (rw (c.amount.ensures, c.budget.ensures.budget) at c.in_ok-put_fields.ensures.text)
+    (rw c.voters.ensures.voters at c.in_ok-put_fields-2.ensures.text)
+    (rw (c.amount-2.ensures, ap (λ (o : OutcomeView). o.share) c.outcome.view_is) at c.in_ok-put_fields-3.ensures.text)
+    (rw (c.number.ensures, ap (λ (o : OutcomeView). o.raised) c.outcome.view_is) at c.in_ok-put_fields-4.ensures.text)

@@ -1,51 +1,63 @@
 use Rattle.std.proofs.Common.{Some, None}
 use Rattle.pb_commands.proofs.Endings.{run_ended, run_given, run_written}
-use Rattle.pb_commands.proofs.RunEnds.{audit_known, audits_pass, open_audit, refused_audit}
+use Rattle.pb_commands.proofs.RunEnds.{audit_known, audits_pass, of_any, open_audit, refused_audit, written_of_any}
 use Rattle.pb_commands.specs.Audited.{AuditWrites}
-use Rattle.pb_commands.specs.Closed.{CountRefuses, Demanding}
+use Rattle.pb_commands.specs.Closed.{CountRefuses}
 use Rattle.pb_faults.specs.Fault.{merged}
 use Rattle.pb_faults.specs.declared.fault.AppFault.TheVariants.{Count, OpenDesk}
 use Rattle.pb_commands.proofs.run_audit.run_audit_watched.Goals as goal
 
-pub returns-in-Err : goal.returns-in-Err
-returns-in-Err g c =
+pub returns-in-Err-clause-runs : goal.returns-in-Err-clause-runs
+returns-in-Err-clause-runs g c =
     let demand = c.args.inputs.demand in
     let rule = c.args.counting.now.rule.now in
     let files = g.P.Read.remaining c.args.inputs.file in
     let journals = g.J.Read.remaining c.args.inputs.journal in
-    run_ended (AuditWrites demand rule) (λ bytes rows. Demanding demand (CountRefuses rule.options bytes (Some rows))) files journals _ g.W.Write.contents _ c.in-Err.fault
+    run_ended (AuditWrites demand rule) (λ bytes rows. CountRefuses rule.options bytes (Some rows)) files journals _ g.W.Write.contents _ c.in-Err.fault
     (audits_pass demand rule files journals _ c.in-Err.fault c.in-Err.ensures.reads c.in-Err.ensures.ends)
 
-pub returns-then-is_refused : goal.returns-then-is_refused
-returns-then-is_refused g c =
+pub returns-then-is_refused-clause-runs : goal.returns-then-is_refused-clause-runs
+returns-then-is_refused-clause-runs g c =
     let demand = c.args.inputs.demand in
     let rule = c.args.counting.now.rule.now in
     let files = g.P.Read.remaining c.args.inputs.file in
     let journals = g.J.Read.remaining c.args.inputs.journal in
     let file = c.in-Ok.ensures.ends.judges in
     let refused = c.is_refused.ensures.refused c.if-is_refused.true in
-    run_ended (AuditWrites demand rule) (λ bytes rows. Demanding demand (CountRefuses rule.options bytes (Some rows))) files journals _ g.W.Write.contents _ OpenDesk
+    run_ended (AuditWrites demand rule) (λ bytes rows. CountRefuses rule.options bytes (Some rows)) files journals _ g.W.Write.contents _ OpenDesk
     (open_audit demand rule files journals _ c.in-Ok.desk refused.0 refused.1 c.in-Ok.ensures.ok file.1 file.0)
 
-pub returns-in_err-text : goal.returns-in_err-text
-returns-in_err-text g c =
+pub returns-in_err-text-clause-runs : goal.returns-in_err-text-clause-runs
+returns-in_err-text-clause-runs g c =
     let demand = c.args.inputs.demand in
     let rule = c.args.counting.now.rule.now in
     let files = g.P.Read.remaining c.args.inputs.file in
     let journals = g.J.Read.remaining c.args.inputs.journal in
     let file = c.in-Ok.ensures.ends.judges in
     let fault = c.in_err-text.field-0.0 in
-    run_given (AuditWrites demand rule) (λ bytes rows. Demanding demand (CountRefuses rule.options bytes (Some rows))) files journals _ g.W.Write.contents _ _ (merged (Count fault))
+    run_given (AuditWrites demand rule) (λ bytes rows. CountRefuses rule.options bytes (Some rows)) files journals _ g.W.Write.contents _ _ (merged (Count fault))
     c.from_residual.ensures.1 (refused_audit demand rule files journals _ c.in-Ok.desk c.in-Ok.ensures.ok fault c.in_err-text.ensures.fault file.1 file.0)
 
-pub returns : goal.returns
-returns g c =
+pub returns-clause-runs : goal.returns-clause-runs
+returns-clause-runs g c =
     let demand = c.args.inputs.demand in
     let rule = c.args.counting.now.rule.now in
     let files = g.P.Read.remaining c.args.inputs.file in
     let journals = g.J.Read.remaining c.args.inputs.journal in
     let file = c.in-Ok.ensures.ends.judges in
     let text = c.in_ok-text.text.items in
-    run_written (AuditWrites demand rule) (λ bytes rows. Demanding demand (CountRefuses rule.options bytes (Some rows))) files journals _ g.W.Write.contents _ _ text _
+    run_written (AuditWrites demand rule) (λ bytes rows. CountRefuses rule.options bytes (Some rows)) files journals _ g.W.Write.contents _ _ text _
     (rw c.as_slice.ensures.value at c.write_out.ensures.ok) c.write_out.ensures.fault file.1 file.0
     (audit_known demand rule files journals None c.in-Ok.desk c.in-Ok.ensures.ok (c.is_refused.ensures.passed c.if-is_refused.false) text c.in_ok-text.ensures.ok)
+
+pub returns-in-Err-clause-demanded : goal.returns-in-Err-clause-demanded
+returns-in-Err-clause-demanded g c = λ is. absurd (c.in-Err.ensures.any is)
+
+pub returns-then-is_refused-clause-demanded : goal.returns-then-is_refused-clause-demanded
+returns-then-is_refused-clause-demanded g c = λ is. (c.is_refused.ensures.refused c.if-is_refused.true).0
+
+pub returns-in_err-text-clause-demanded : goal.returns-in_err-text-clause-demanded
+returns-in_err-text-clause-demanded g c = of_any _ _ c.in_err-text.field-0.0 c.from_residual.ensures.1
+
+pub returns-clause-demanded : goal.returns-clause-demanded
+returns-clause-demanded g c = written_of_any _ _ c.write_out.ensures.fault

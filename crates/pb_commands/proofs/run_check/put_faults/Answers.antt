@@ -1,5 +1,5 @@
 use Rattle.pb_commands.proofs.RowsGrown.{list_read, none_grown}
-use Rattle.pb_commands.specs.Checked.{fault_row}
+use Rattle.pb_commands.specs.Inner.Checked.{fault_row}
 use Rattle.pb_commands.proofs.run_check.put_faults.Goals as goal
 
 pub loop-fault-init : goal.loop-fault-init

@@ -1,4 +1,4 @@
-use Rattle.std.proofs.Common.{ap}
+use Rattle.std.proofs.Common.{refl}
 use Rattle.std.proofs.lemmas.Option.{IfSome_then}
 use Rattle.pb_reasons.specs.Counted.{IsCountBy, winners_of}
 use Rattle.pb_commands.proofs.CheckedAgainst.{known_fails, known_has, memory_refused}
@@ -13,13 +13,7 @@ returns-in-Err-clause-fault g c =
 
 pub returns-in-Ok-clause-compared : goal.returns-in-Ok-clause-compared
 returns-in-Ok-clause-compared g c =
-    known_has (IsCountBy c.args.counting.now.rule.now) (λ e x. g.N.Compare.has_compared c.put_checked.new.notes (winners_of x)) _ c.in_ok-checked.checked.faults.items _ c.in_ok-checked.checked.election c.in_ok-checked.ensures.election c.in-Ok.ensures.compared (ap (λ faults. faults.items) c.into_faults.ensures)
-
-pub returns-in-Ok-clause-faults : goal.returns-in-Ok-clause-faults
-returns-in-Ok-clause-faults g c = rw c.into_faults.ensures c.in_ok-checked.ensures.faults
-
-pub returns-in-Ok-clause-written : goal.returns-in-Ok-clause-written
-returns-in-Ok-clause-written g c = rw c.into_faults.ensures c.in-Ok.ensures.written
+    known_has (IsCountBy c.args.counting.now.rule.now) (λ e x. g.N.Compare.has_compared c.put_checked.new.notes (winners_of x)) _ c.in_ok-checked.checked.faults.items _ c.in_ok-checked.checked.election c.in_ok-checked.ensures.election c.in-Ok.ensures.compared refl
 
 pub returns-in-Err-clause-faults : goal.returns-in-Err-clause-faults
 returns-in-Err-clause-faults g c = IfSome_then (g.R.Read.remaining c.args.reader) c.in_ok-checked.ensures.faults (λ bytes listed. tt)

@@ -1,9 +1,8 @@
-use Rattle.pb_reasons.proofs.Results.{result_of}
 use Rattle.pb_commands.proofs.Endings.{memory_end, run_ended, run_given, run_written}
-use Rattle.pb_commands.proofs.RunEnds.{counts_pass, is_table, table_counts, writes_of}
-use Rattle.pb_commands.specs.Closed.{CountRefuses, WritesOf}
+use Rattle.pb_commands.proofs.RunEnds.{counts_pass, is_count_by, is_table, table_counts, writes_of}
+use Rattle.pb_commands.specs.Closed.{CountRefuses, Gives}
 use Rattle.pb_commands.specs.Ends.{known}
-use Rattle.pb_commands.specs.Tabled.{IsTableOf}
+use Rattle.pb_commands.specs.Tables.{IsTableOf}
 use Rattle.pb_faults.specs.declared.fault.AppFault.TheVariants.{Memory}
 use Rattle.pb_commands.proofs.run_table.run_table.Goals as goal
 
@@ -11,30 +10,27 @@ pub returns-in-Err : goal.returns-in-Err
 returns-in-Err g c =
     let rule = c.args.counting.now.rule.now in
     let journals = known g.J.Read.remaining c.args.inputs.journal in
-    run_ended (WritesOf (IsTableOf c.args.table rule)) (CountRefuses rule.options) (g.P.Read.remaining c.args.inputs.file) journals _ g.W.Write.contents _ c.in-Err.fault
+    run_ended (Gives (IsTableOf c.args.table rule)) (CountRefuses rule.options) (g.P.Read.remaining c.args.inputs.file) journals _ g.W.Write.contents _ c.in-Err.fault
     (counts_pass (IsTableOf c.args.table rule) rule.options (g.P.Read.remaining c.args.inputs.file) journals _ (table_counts c.args.table rule) c.in-Err.fault
     c.in-Err.ensures.reads c.in-Err.ensures.ends)
-
-pub table_text-made-requires : goal.table_text-made-requires
-table_text-made-requires g c =
-    result_of c.args.counting.now.rule.now c.in-Ok.count.election _ c.in-Ok.ensures.counted
 
 pub returns-in_err-text : goal.returns-in_err-text
 returns-in_err-text g c =
     let rule = c.args.counting.now.rule.now in
     let journals = known g.J.Read.remaining c.args.inputs.journal in
     let file = c.in-Ok.ensures.ends.judges in
-    run_given (WritesOf (IsTableOf c.args.table rule)) (CountRefuses rule.options) (g.P.Read.remaining c.args.inputs.file) journals _ g.W.Write.contents _ _ Memory c.from_residual.ensures.1
-    (memory_end (WritesOf (IsTableOf c.args.table rule)) (CountRefuses rule.options) (g.P.Read.remaining c.args.inputs.file) journals _ file.1 file.0)
+    run_given (Gives (IsTableOf c.args.table rule)) (CountRefuses rule.options) (g.P.Read.remaining c.args.inputs.file) journals _ g.W.Write.contents _ _ Memory c.from_residual.ensures.1
+    (memory_end (Gives (IsTableOf c.args.table rule)) (CountRefuses rule.options) (g.P.Read.remaining c.args.inputs.file) journals _ file.1 file.0)
 
 pub returns : goal.returns
 returns g c =
     let rule = c.args.counting.now.rule.now in
     let journals = known g.J.Read.remaining c.args.inputs.journal in
-    let e = c.in-Ok.count.election in
+    let x = c.in-Ok.count in
     let file = c.in-Ok.ensures.ends.judges in
+    let counted = c.in-Ok.ensures.counted in
     let text = c.in_ok-text.text.items in
-    run_written (WritesOf (IsTableOf c.args.table rule)) (CountRefuses rule.options) (g.P.Read.remaining c.args.inputs.file) journals _ g.W.Write.contents _ _ text _
+    run_written (Gives (IsTableOf c.args.table rule)) (CountRefuses rule.options) (g.P.Read.remaining c.args.inputs.file) journals _ g.W.Write.contents _ _ text _
     (rw c.as_slice.ensures.value at c.write_out.ensures.ok) c.write_out.ensures.fault file.1 file.0
-    (writes_of (IsTableOf c.args.table rule) (g.P.Read.remaining c.args.inputs.file) journals e text c.in-Ok.ensures.left
-    (is_table c.args.table rule e c.in-Ok.count.counted text c.budget-budget.ensures.is_election c.in-Ok.ensures.counted c.in_ok-text.ensures))
+    (writes_of (IsTableOf c.args.table rule) (g.P.Read.remaining c.args.inputs.file) journals x.election text c.in-Ok.ensures.left
+    (is_table c.args.table rule x.election x.counted text counted.0.is_election (is_count_by x rule counted.0 counted.1) c.in_ok-text.ensures))

@@ -1,11 +1,44 @@
-use Rattle.std.proofs.Common.{length, map}
+use Rattle.std.proofs.Common.{◌≡◌, ◌<◌, ◌++◌, ◌∙◌, ap, arith, length}
 use Rattle.std.specs.List.{range_with_len}
-use Rattle.pb_commands.proofs.TableRows.{rows_put}
-use Rattle.pb_commands.specs.Inner.Tables.{voter_columns}
-use Rattle.pb_commands.specs.Tables.{voter_table_row}
+use Rattle.pb_core.specs.Election.{VoterView}
+use Rattle.pb_rows.specs.Tables.{table_text}
+use Rattle.pb_rows.specs.Writing.{text_of_row}
+use Rattle.pb_commands.proofs.TableColumns.{head_put, place_put, voter_row_read}
+use Rattle.pb_commands.specs.Tables.{table_of, voter_columns}
 use Rattle.pb_commands.proofs.voters_table.put_voters.Goals as goal
 
+pub loop-position-init : goal.loop-position-init
+loop-position-init c =
+    let k = c.args.count.now in record {
+      same = c.in_ok-teller.ensures;
+      rows = head_put (voter_columns k.election k.counted) c.args.rows.now.text c.put_row.new.self.text c.in_ok-put_row.ensures.text;
+    }
+
+pub tell-requires : goal.tell-requires
+tell-requires c =
+    let voters = c.voters-voters.ensures.voters ∙ ap (λ e. e.voters) c.election.ensures.election in
+    let known : c.loop-position.position < length c.args.count.now.election.voters = rw (← voters) c.loop-position-test.true in
+    rw c.loop-position.invariant.same known
+
+pub loop-position-preserved : goal.loop-position-preserved
+loop-position-preserved c =
+    let k = c.args.count.now in
+    let voter = c.loop-position.position in
+    let same = c.loop-position.invariant.same in
+    let voters = c.voters-voters.ensures.voters ∙ ap (λ e. e.voters) c.election.ensures.election in
+    let known : voter < length k.election.voters = rw (← voters) c.loop-position-test.true in
+    let row = voter_row_read k.election k.counted voter c.index-voters-position.result known (rw voters at c.index-voters-position.is) c.text.result.now
+    (c.text.ensures.text ∙ ap (λ (v : VoterView). v.id) c.voter.view_is) c.in_ok-reason.reason (rw same at c.in_ok-reason.ensures.reason)
+    c.as_slice.result.now (c.as_slice.ensures.value ∙ (rw same at c.in_ok-reason.ensures.payments)) in record {
+      same = c.in_ok-reason.ensures.same ∙ same;
+      rows = place_put (voter_columns k.election k.counted) voter c.args.rows.now.text c.loop-position.rows.text c.put_voter.new.rows.text c.loop-position.invariant.rows
+          ((rw (c.as_str.ensures.value ∙ c.in_ok-write_payments.ensures) at c.in_ok-put_voter.ensures) ∙ ap (λ fields. c.loop-position.rows.text ++ text_of_row fields) row);
+    }
+
 pub returns : goal.returns
+unfolding table_of
 returns c =
-    rows_put c.put_each-put.result voter_columns (map (voter_table_row c.args.election.now c.args.counted.now) (range_with_len 0 (length c.args.election.now.voters)))
-    c.args.rows.now.text c.put_row.new.self.text c.put_each-put.new.rows.text (rw c.in_ok-teller.ensures at c.put_each-put.ensures) c.in_ok-put_row.ensures.text
+    let k = c.args.count.now in
+    let voters = ap length (c.voters-voters.ensures.voters ∙ ap (λ e. e.voters) c.election.ensures.election) in
+    let all : c.loop-position.position ≡ length k.election.voters = omega (arith, voters, c.loop-position.auto.position-end, c.loop-position-test.false) in
+    c.loop-position.invariant.rows ∙ ap (λ n. c.args.rows.now.text ++ table_text (voter_columns k.election k.counted) (range_with_len 0 n)) all

@@ -1,7 +1,7 @@
 use Rattle.std.proofs.Common.{◌≡◌, [], map, take, false}
 use Rattle.std.specs.List.{list_any, slice_index_or}
 use Rattle.pb_core.specs.Election.{ProjectView}
-use Rattle.pb_export.specs.Export.{has_comma}
+use Rattle.pb_export.specs.Inner.Parts.{has_comma}
 use Rattle.pb_export.proofs.readable.approves_comma.Given as goal
 
 abbrev pub invariant-loop-place : goal.invariant-loop-place

@@ -1,7 +1,7 @@
 use Rattle.std.proofs.Common.{◌≡◌, [], take, false}
 use Rattle.std.specs.List.{list_any, slice_index_or}
 use Rattle.pb_core.specs.Election.{VoterView, project_ids}
-use Rattle.pb_export.specs.Export.{has_comma}
+use Rattle.pb_export.specs.Inner.Parts.{has_comma}
 use Rattle.pb_export.proofs.readable.has_comma_in_vote.Given as goal
 
 abbrev pub invariant-loop-voter : goal.invariant-loop-voter

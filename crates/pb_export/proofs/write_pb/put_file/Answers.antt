@@ -2,7 +2,7 @@ use Rattle.std.proofs.Common.{◌∷◌, [], List, codes, append_assoc, decimal,
 use Rattle.std.proofs.lemmas.Result.{on_ok_weaker}
 use Rattle.pb_core.specs.Election.{terms_of}
 use Rattle.pb_rows.specs.Reading.{Fields}
-use Rattle.pb_export.specs.FileRows.{key_rows, terms_rows}
+use Rattle.pb_export.specs.Inner.Parts.{key_rows, terms_rows}
 use Rattle.pb_export.specs.Inner.Growing.{Grows}
 use Rattle.pb_export.proofs.Grown.{grown}
 use Rattle.pb_export.proofs.write_pb.put_file.Goals as goal

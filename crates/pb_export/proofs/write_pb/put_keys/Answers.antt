@@ -2,7 +2,7 @@ use Rattle.std.proofs.Common.{List, subst, sym}
 use Rattle.pb_rows.specs.Reading.{Fields}
 use Rattle.pb_export.specs.Inner.Growing.{Grows}
 use Rattle.pb_export.proofs.Grown.{grown, none_grown}
-use Rattle.pb_export.proofs.FurtherKeys.{keys_more}
+use Rattle.pb_export.proofs.KeysBehind.{keys_more}
 use Rattle.pb_export.proofs.write_pb.put_keys.Goals as goal
 
 pub loop-key-init : goal.loop-key-init

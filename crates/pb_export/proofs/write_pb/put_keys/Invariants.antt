@@ -1,5 +1,5 @@
 use Rattle.std.proofs.Common.{take}
-use Rattle.pb_export.specs.FileRows.{key_rows}
+use Rattle.pb_export.specs.Inner.Parts.{key_rows}
 use Rattle.pb_export.specs.Inner.Growing.{Grows}
 use Rattle.pb_export.proofs.write_pb.put_keys.Given as goal
 

@@ -1,7 +1,7 @@
 use Rattle.std.proofs.Common.{◌∷◌, [], List, codes, refl}
 use Rattle.std.proofs.lemmas.Result.{on_ok_weaker}
 use Rattle.pb_rows.specs.Reading.{Fields}
-use Rattle.pb_export.specs.FileRows.{terms_rows}
+use Rattle.pb_export.specs.Inner.Parts.{terms_rows}
 use Rattle.pb_export.specs.Inner.Growing.{Grows}
 use Rattle.pb_export.proofs.Grown.{grown, none_grown, one_text, row_grown}
 use Rattle.pb_export.proofs.Tidy.{plain_text}

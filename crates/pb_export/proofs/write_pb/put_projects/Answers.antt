@@ -2,7 +2,8 @@ use Rattle.std.proofs.Common.{◌≡◌, ◌+◌, ◌∷◌, [], suc, List, code
 use Rattle.std.specs.Prelude.{false, slice_index, slice_index_or}
 use Rattle.csv.specs.Records.{AllText}
 use Rattle.pb_rows.specs.Reading.{Fields}
-use Rattle.pb_export.specs.FileRows.{project_row, projects_rows}
+use Rattle.pb_export.specs.FileRows.{projects_rows}
+use Rattle.pb_export.specs.Inner.Parts.{project_row}
 use Rattle.pb_export.specs.Inner.Behind.{of_project}
 use Rattle.pb_export.specs.Inner.Growing.{Grows}
 use Rattle.pb_export.proofs.Grown.{none_grown, projects_more, row_grown}

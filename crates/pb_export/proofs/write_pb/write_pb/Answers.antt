@@ -1,11 +1,26 @@
-use Rattle.std.proofs.Common.{◌≡◌, ◌++◌, ℕ, List, ap, ◌∙◌, subst, sym}
+use Rattle.std.proofs.Common.{◌≡◌, ◌++◌, ℕ, List, true, false, true≢false, ap, ◌∙◌, refl, subst, sym}
+use Rattle.pb_core.specs.Election.{ElectionView}
 use Rattle.pb_read.specs.StandsFor.{StandsFor}
 use Rattle.pb_rows.specs.Reading.{records_of}
 use Rattle.pb_rows.specs.Writing.{text_of_rows}
+use Rattle.pb_export.specs.Export.{has_comma_in_vote, has_section_word, is_of_file, CanBeWritten}
 use Rattle.pb_export.specs.FileRows.{file_rows}
+use Rattle.pb_export.specs.declared.export_fault.ExportFault.TheVariants.{SectionWord, CommaInId, OfNoFile, NoMemory}
 use Rattle.pb_export.proofs.OfFile.{tested_file}
 use Rattle.pb_export.proofs.Stands.{stands}
 use Rattle.pb_export.proofs.write_pb.write_pb.Goals as goal
+
+-- nothing refuses an election that has passed all three tests
+can_be : (e : ElectionView) → has_section_word e ≡ false → has_comma_in_vote e ≡ false → is_of_file e ≡ true → CanBeWritten e
+can_be e words commas of_file SectionWord is = absurd (true≢false (sym is ∙ words))
+can_be e words commas of_file CommaInId is = absurd (true≢false (sym is.1 ∙ commas))
+can_be e words commas of_file OfNoFile is = absurd (true≢false (sym of_file ∙ is.2))
+can_be e words commas of_file NoMemory is = refl
+
+pub returns-in-Ok-finish-clause-ok : goal.returns-in-Ok-finish-clause-ok
+returns-in-Ok-finish-clause-ok c =
+    can_be c.args.election.now (sym c.has_section_word.ensures ∙ c.if-has_section_word.false) (sym c.has_comma_in_vote.ensures ∙ c.if-has_comma_in_vote.false)
+    (sym c.is_of_file.ensures ∙ c.if-not-is_of_file.false)
 
 pub returns-in-Ok-finish-clause-reads_back : goal.returns-in-Ok-finish-clause-reads_back
 returns-in-Ok-finish-clause-reads_back c =

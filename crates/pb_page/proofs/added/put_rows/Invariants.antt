@@ -5,4 +5,4 @@ use Rattle.pb_page.specs.Inner.Pieces.{won_rows}
 use Rattle.pb_page.proofs.added.put_rows.Given as goal
 
 abbrev pub invariant-loop-place : goal.invariant-loop-place
-invariant-loop-place l = Grows l.fn.page.items l.page.items (flat_map (won_rows l.facts l.election l.teller.1) (take l.place-index l.places))
+invariant-loop-place l = Grows l.fn.page.items l.page.items (flat_map (won_rows l.facts l.count) (take l.place-index l.places))

@@ -1,5 +1,11 @@
-use Rattle.pb_reasons.proofs.Results.{result_of}
+use Rattle.pb_page.proofs.Grown.{whole}
+use Rattle.pb_page.proofs.RaisePlaces.{places_are_known}
 use Rattle.pb_page.proofs.made.page_ended.Goals as goal
 
-pub of-requires : goal.of-requires
-of-requires c = result_of c.args.facts.now.rule c.args.election.now c.args.counted.now c.requires.counted
+pub returns : goal.returns
+returns c = (c.args.end.now, c.requires, whole _ _ _ c.new-page.ensures.items c.in_ok-put_all.ensures)
+
+pub put_all-requires : goal.put_all-requires
+put_all-requires c =
+    let x = c.args.count.now in
+    places_are_known x.election x.rule.options x.counted.outcome c.args.end.now c.requires

@@ -1,8 +1,4 @@
-use Rattle.std.proofs.Common.{◌∙◌, ap}
-use Rattle.pb_core.specs.Election.{ElectionView}
 use Rattle.pb_core.specs.declared.no_memory.NoMemory.{NoMemory}
-use Rattle.pb_price.specs.Supporters.{support_of}
-use Rattle.pb_reasons.specs.Counted.{CountedView}
 use Rattle.pb_page.specs.Inner.Grown.{Grows}
 use Rattle.pb_page.specs.Page.{parts}
 use Rattle.pb_page.proofs.Grown.{refused, then_put}
@@ -17,14 +13,10 @@ returns c =
     (then_put _ _ _ _ _ _ c.in_ok-put_voters.ensures
     (then_put _ _ _ _ _ _ c.in_ok-put_besides.ensures
     (then_put _ _ _ _ _ _ c.in_ok-put_rule.ensures
-    (then_put _ _ _ _ _ _ c.in_ok-put_ties.ensures c.put_check.ensures))))))
-
-pub put_ties-requires-clause-supporters : goal.put_ties-requires-clause-supporters
-put_ties-requires-clause-supporters c =
-    c.supporters-supporters.ensures ∙ ap (λ (told : ElectionView × CountedView). support_of told.0) c.requires.own
+    (then_put _ _ _ _ _ _ c.in_ok-put_ties.ensures (rw c.rule.ensures at c.put_check.ensures)))))))
 
 pub returns-in_err-put_rule : goal.returns-in_err-put_rule
 returns-in_err-put_rule c =
     refused {E = NoMemory} c.from_residual-in_err-put_rule.result _
-    (Grows c.args.page.now.items c.put_rule.new.page.items (parts c.args.election.now c.args.counted.now c.args.facts.now c.args.end.now))
+    (Grows c.args.page.now.items c.put_rule.new.page.items (parts c.args.facts.now c.args.count.now c.args.end.now))
     c.from_residual-in_err-put_rule.ensures.1

@@ -7,4 +7,4 @@ pub returns : goal.returns
 unfolding rounds_said rule
 returns c =
     then_put _ _ _ _ _ _ c.in_ok-put_counted.ensures
-    (then_put _ _ _ _ _ _ c.in_ok-put_end.ensures c.put_last.ensures)
+    (then_put _ _ _ _ _ _ (rw c.election.ensures.election at c.in_ok-put_end.ensures) (rw c.rule.ensures at c.put_last.ensures))

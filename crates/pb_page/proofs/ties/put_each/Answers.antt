@@ -8,7 +8,7 @@ loop-tie-init c = none c.args.page.now.items
 
 pub loop-tie-preserved : goal.loop-tie-preserved
 loop-tie-preserved c =
-    row_more (tie c.args.language.now c.args.measure c.args.election.now) c.args.told.now c.loop-tie.tie-index _ _ _ _
+    row_more (tie c.args.language.now c.args.count.now) c.args.told.now c.loop-tie.tie-index _ _ _ _
     c.loop-tie-test.true (get_or_default c.args.told.now c.loop-tie.tie-index _ _ c.loop-tie-test.true) c.loop-tie.invariant c.in_ok-put_tie.ensures
 
 pub returns : goal.returns

@@ -5,4 +5,4 @@ use Rattle.pb_page.specs.Page.{tie}
 use Rattle.pb_page.proofs.ties.put_each.Given as goal
 
 abbrev pub invariant-loop-tie : goal.invariant-loop-tie
-invariant-loop-tie l = Grows l.fn.page.items l.page.items (flat_map (tie l.language l.measure l.election) (take l.tie-index l.told))
+invariant-loop-tie l = Grows l.fn.page.items l.page.items (flat_map (tie l.language l.count) (take l.tie-index l.told))

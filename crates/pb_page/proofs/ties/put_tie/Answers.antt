@@ -5,5 +5,4 @@ use Rattle.pb_page.proofs.ties.put_tie.Goals as goal
 pub returns : goal.returns
 unfolding tie
 returns c =
-    then_put _ _ _ _ _ _ c.in_ok-put.ensures
-    (then_put _ _ _ _ _ _ (rw (c.called_at-winner.ensures, c.called_at-other.ensures) at c.in_ok-say_tie.ensures) c.put-2.ensures)
+    then_put _ _ _ _ _ _ c.in_ok-put.ensures (then_put _ _ _ _ _ _ c.in_ok-say_tie.ensures c.put-2.ensures)

@@ -1,12 +1,14 @@
-use Rattle.std.proofs.Common.{ap, sym}
-use Rattle.std.specs.Prelude.{flat_map}
-use Rattle.pb_rounds.specs.Run.{ElectedView}
-use Rattle.pb_page.specs.Inner.Pieces.{won_rows}
-use Rattle.pb_page.proofs.Grown.{grown_as, then_put}
+use Rattle.pb_reasons.proofs.Tellable.{counted_can_be_told}
+use Rattle.pb_page.proofs.Grown.{then_put}
 use Rattle.pb_page.proofs.winners.put_table.Goals as goal
+
+pub put_rows-requires : goal.put_rows-requires
+put_rows-requires c =
+    rw (c.elected_of-elected.ensures, c.outcome.ensures.outcome)
+    ((counted_can_be_told c.args.count.now c.outcome.ensures.is_counted).known)
 
 pub returns : goal.returns
 returns c =
     then_put _ _ _ _ _ _ c.in_ok-put_table_head.ensures
     (then_put _ _ _ _ _ _ c.in_ok-put_head_end.ensures
-    (then_put _ _ _ _ _ _ (grown_as _ _ _ _ (ap (flat_map (λ (w : ElectedView). won_rows c.args.facts.now c.args.election.now c.args.teller.now.1 w.place)) (sym c.requires.elected)) c.in_ok-put_rows.ensures) c.put.ensures))
+    (then_put _ _ _ _ _ _ (rw (c.elected_of-elected.ensures, c.outcome.ensures.outcome) at c.in_ok-put_rows.ensures) c.put.ensures))

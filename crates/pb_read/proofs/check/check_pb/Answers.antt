@@ -1,14 +1,10 @@
-use Rattle.std.proofs.Common.{◌≡◌, None, Option, Some, subst}
-use Rattle.std.specs.Prelude.{IfOk, IfSome}
-use Rattle.std.specs.Option.{option_map}
+use Rattle.std.proofs.Common.{◌≡◌, []}
+use Rattle.std.specs.Prelude.{IfOk}
 use Rattle.pb_rows.specs.Reading.{records_of}
 use Rattle.pb_read.specs.Listed.{AreListed, IsHandedOut}
+use Rattle.pb_read.specs.Shown.{Adds, sights_to_end}
+use Rattle.pb_read.proofs.Showing.{where_known}
 use Rattle.pb_read.proofs.check.check_pb.Goals as goal
-
--- what holds of the records of a text that is known
-where_known : {X Y : Type 0} (f : X → Y) (P : Y → Type 0) (known : Option X) (left : Option Y) → left ≡ option_map f known → IfSome left P → IfSome known (λ x. P (f x))
-where_known f P None left same holds = tt
-where_known f P (Some x) left same holds = subst (λ other. IfSome other P) same holds
 
 pub returns-clause-faults : goal.returns-clause-faults
 returns-clause-faults g c =
@@ -19,3 +15,8 @@ pub returns-clause-election : goal.returns-clause-election
 returns-clause-election g c =
     let checked = c.check_records-checked in
     where_known records_of (λ all. IfOk checked.result (λ it. IsHandedOut all it.faults.items it.election)) _ _ c.new-records.ensures.left checked.ensures.election
+
+pub returns-clause-shown : goal.returns-clause-shown
+returns-clause-shown g c =
+    let checked = c.check_records-checked in
+    where_known records_of (λ all. IfOk checked.result (λ it. it.faults.items ≡ [] → Adds (sights_to_end all) (g.W.Watch.shown c.args.watch.now) (g.W.Watch.shown checked.new.watch))) _ _ c.new-records.ensures.left checked.ensures.shown

@@ -1,4 +1,4 @@
 use Rattle.pb_reasons.proofs.beside_votes.compare_with_votes.Goals as goal
 
 pub returns : goal.returns
-returns c = rw (c.as_slice.ensures.value, c.in_ok-winners.ensures) at c.compare_beside_votes-compared.ensures
+returns c = rw (c.as_slice.ensures.value, c.in_ok-other.ensures, c.winners.ensures, c.election.ensures.election) at c.compare-compared.ensures

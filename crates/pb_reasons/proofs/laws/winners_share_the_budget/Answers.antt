@@ -1,11 +1,15 @@
-use Rattle.pb_reasons.proofs.Results.{result_is_added}
+use Rattle.std.proofs.Common.{◌∙◌, ap}
+use Rattle.pb_reasons.specs.Counted.{CountedView}
+use Rattle.pb_reasons.proofs.Results.{counted_is_result, result_is_added}
 use Rattle.pb_reasons.proofs.AllWinners.{none_fits_at_the_end, selected_are_winners, winners_differ}
 use Rattle.pb_reasons.proofs.laws.winners_share_the_budget.Goals as goal
 
 pub returns : goal.returns
 returns c = record {
   selected = selected_are_winners;
-  once = λ e counted h result. winners_differ e h counted result;
-  paid = λ e counted h result. (result_is_added e counted h result).paid;
-  none_fits = λ e counted place h result fills. none_fits_at_the_end e h counted place result fills;
+  once = λ x is. winners_differ x.election is.is_election x.counted (counted_is_result x is);
+  paid = λ x is. (result_is_added x.election x.counted is.is_election (counted_is_result x is)).paid;
+  none_fits = λ x place is fills.
+      none_fits_at_the_end x.election is.is_election x.counted place (counted_is_result x is)
+      (ap (λ (v : CountedView). v.fill_up) is.is_filled_up ∙ fills);
 }

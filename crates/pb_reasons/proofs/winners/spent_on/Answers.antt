@@ -1,4 +1,4 @@
-use Rattle.std.proofs.Common.{◌≡◌, ◌∙◌, ◌+◌, ◌*◌, ◌^◌, ◌≤◌, arith, get_or, map}
+use Rattle.std.proofs.Common.{◌≡◌, ◌∙◌, arith, get_or, map}
 use Rattle.std.specs.Prelude.{slice_index}
 use Rattle.std.proofs.lemmas.List.Sums.{sum_by_more}
 use Rattle.pb_core.specs.Election.{ProjectView}

@@ -3,30 +3,30 @@ use Rattle.pb_script.proofs.Scripts.{HaveAsked-fault, HaveAsked-few, HaveAsked-m
 use Rattle.pb_script.proofs.script.read_rows.Goals as goal
 
 pub rows-init : goal.rows-init
-rows-init g c = (omega arith, HaveAsked-start c.args.admission.now c.args.clerks c.args.records.now.left c.args.lists.now.items c.requires)
+rows-init g c = (omega arith, HaveAsked-start c.args.run.now.admission.now c.args.run.now.clerks c.args.records.now.left c.args.lists.now.items c.requires)
 
 pub rows-preserved : goal.rows-preserved
 rows-preserved g c =
     let takes = rw c.in-Ok-Some.field-0-is at c.in-Ok-Some.ensures.next in
     let few = rw c.in-Ok-Some.field-0-is at c.in-Ok-Some.ensures.few in (
       few,
-      HaveAsked-more c.args.admission.now c.args.clerks c.args.records.now.left c.rows.records.left c.next_row.new.records.left c.rows.rows _ c.rows.lists.items c.put_row.new.lists.items
+      HaveAsked-more c.args.run.now.admission.now c.args.run.now.clerks c.args.records.now.left c.rows.records.left c.next_row.new.records.left c.rows.rows _ c.rows.lists.items c.put_row.new.lists.items
           c.rows.invariant.1 takes c.in_ok-put_row-in-Ok-Some.ensures,
     )
 
 pub returns-in-Ok-None-clause-few : goal.returns-in-Ok-None-clause-few
 returns-in-Ok-None-clause-few g c =
-    HaveAsked-few c.args.admission.now c.args.clerks c.args.records.now.left c.rows.records.left c.rows.rows c.rows.lists.items c.rows.invariant.1 c.rows.invariant.0
+    HaveAsked-few c.args.run.now.admission.now c.args.run.now.clerks c.args.records.now.left c.rows.records.left c.rows.rows c.rows.lists.items c.rows.invariant.1 c.rows.invariant.0
 
 pub returns-in-Err-clause-fault : goal.returns-in-Err-clause-fault
 returns-in-Err-clause-fault g c =
-    HaveAsked-fault c.args.admission.now c.args.clerks c.args.records.now.left c.rows.records.left c.rows.rows c.rows.lists.items c.in-Err.fault c.rows.invariant.1 c.in-Err.ensures.fault
+    HaveAsked-fault c.args.run.now.admission.now c.args.run.now.clerks c.args.records.now.left c.rows.records.left c.rows.rows c.rows.lists.items c.in-Err.fault c.rows.invariant.1 c.in-Err.ensures.fault
 
 pub returns-in_err-put_row-in-Ok-Some-clause-read : goal.returns-in_err-put_row-in-Ok-Some-clause-read
-returns-in_err-put_row-in-Ok-Some-clause-read g c = HaveAsked-read c.args.admission.now c.args.clerks c.args.records.now.left c.rows.records.left c.next_row.new.records.left c.rows.rows c.rows.lists.items c.rows.invariant.1 c.rows.invariant.0 c.next_row.ensures.one
+returns-in_err-put_row-in-Ok-Some-clause-read g c = HaveAsked-read c.args.run.now.admission.now c.args.run.now.clerks c.args.records.now.left c.rows.records.left c.next_row.new.records.left c.rows.rows c.rows.lists.items c.rows.invariant.1 c.rows.invariant.0 c.next_row.ensures.one
 
 pub returns-in-Err-clause-read : goal.returns-in-Err-clause-read
-returns-in-Err-clause-read g c = HaveAsked-read c.args.admission.now c.args.clerks c.args.records.now.left c.rows.records.left c.next_row.new.records.left c.rows.rows c.rows.lists.items c.rows.invariant.1 c.rows.invariant.0 c.next_row.ensures.one
+returns-in-Err-clause-read g c = HaveAsked-read c.args.run.now.admission.now c.args.run.now.clerks c.args.records.now.left c.rows.records.left c.next_row.new.records.left c.rows.rows c.rows.lists.items c.rows.invariant.1 c.rows.invariant.0 c.next_row.ensures.one
 
 pub returns-in-Ok-None-clause-read : goal.returns-in-Ok-None-clause-read
-returns-in-Ok-None-clause-read g c = HaveAsked-read c.args.admission.now c.args.clerks c.args.records.now.left c.rows.records.left c.next_row.new.records.left c.rows.rows c.rows.lists.items c.rows.invariant.1 c.rows.invariant.0 c.next_row.ensures.one
+returns-in-Ok-None-clause-read g c = HaveAsked-read c.args.run.now.admission.now c.args.run.now.clerks c.args.records.now.left c.rows.records.left c.next_row.new.records.left c.rows.rows c.rows.lists.items c.rows.invariant.1 c.rows.invariant.0 c.next_row.ensures.one

@@ -4,7 +4,7 @@ use Rattle.pb_script.specs.Inner.ScriptReading.{HaveAsked}
 use Rattle.pb_script.proofs.script.read_rows.Given as goal
 
 abbrev pub invariant-rows : goal.invariant-rows
-invariant-rows g l = (l.rows ≤ most_rows) × HaveAsked l.admission l.clerks l.initial.records.left l.records.left l.rows l.lists.items
+invariant-rows g l = (l.rows ≤ most_rows) × HaveAsked l.run.admission.now l.run.clerks l.initial.records.left l.records.left l.rows l.lists.items
 
 abbrev pub decreases-rows : goal.decreases-rows
 decreases-rows g l = most_rows + 1 - l.rows

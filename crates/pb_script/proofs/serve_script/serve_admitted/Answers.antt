@@ -25,11 +25,11 @@ returns-clause-ok g c =
     let text = c.in_ok-written.ensures in
     let P : List (List RequestView) → Type 0 = λ lists. ServesAll lists served.field-0.journal in
     let serves = subst P c.as_slice.ensures.value served.ensures.serves in
-    script_text c.args.admission.now c.args.clerks lists c.args.shuts c.args.election _ ended.desk c.in_ok-written.field-0.items c.in-Ok.ensures.script
+    script_text c.args.run.now.admission.now c.args.run.now.clerks lists c.args.run.now.shuts c.args.election _ ended.desk c.in_ok-written.field-0.items c.in-Ok.ensures.script
     (record {
       in_range = served.ensures.clerks;
       opening = ended.ensures.opening ∙ served.ensures.opening;
       room = ended.ensures.room ∙ served.ensures.room;
-      serves = ended_serves c.args.shuts lists served.field-0.journal ended.desk.journal serves ended.ensures.journal;
+      serves = ended_serves c.args.run.now.shuts lists served.field-0.journal ended.desk.journal serves ended.ensures.journal;
     })
     (record { legal = text.legal; fits = text.fits; text_is = text.text })

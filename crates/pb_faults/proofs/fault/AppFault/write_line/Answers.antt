@@ -27,7 +27,7 @@ returns-in-Count g c =
     of_fields c.write_numbered.result _ _ _ (Count c.in-Count.fault) _ (sym c.merged.ensures ∙ c.in-Count.is) (count_fields c.in-Count.fault) said
 
 pub returns-in-Open : goal.returns-in-Open
-returns-in-Open g c = of_fields c.write_of_file.result _ _ _ (Open c.in-Open.number) _ (sym c.merged.ensures ∙ c.in-Open.is) refl c.write_of_file.ensures
+returns-in-Open g c = of_fields c.write_of_text.result _ _ _ (Open c.in-Open.text) _ (sym c.merged.ensures ∙ c.in-Open.is) refl c.write_of_text.ensures
 
 pub returns-in-OpenDesk : goal.returns-in-OpenDesk
 returns-in-OpenDesk g c = of_fields c.write_fields-in-OpenDesk.result _ _ _ OpenDesk _ (sym c.merged.ensures ∙ c.in-OpenDesk.is) refl c.write_fields-in-OpenDesk.ensures

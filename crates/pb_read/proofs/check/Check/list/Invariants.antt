@@ -1,12 +1,16 @@
-use Rattle.std.specs.Prelude.{◌<◌, ◌≤◌, length}
+use Rattle.std.specs.Prelude.{◌≡◌, ◌<◌, ◌≤◌, ◌+◌, length, IfSome}
 use Rattle.pb_read.specs.Inner.Checking.{IsGoing}
 use Rattle.pb_read.specs.Inner.Progresses.{IsReady, place_of}
+use Rattle.pb_read.specs.Inner.Showing.{Shows}
+use Rattle.pb_read.specs.Listed.{AreListed}
 use Rattle.pb_read.proofs.check.Check.list.Given as goal
 
-abbrev pub invariant-loop-done : goal.invariant-loop-done
-invariant-loop-done g l = record {
-  going : IsGoing l.fn.records.left l.records.left l.done l.faults.items (place_of l.self.progress);
+abbrev pub invariant-loop-left_out : goal.invariant-loop-left_out
+invariant-loop-left_out g l = record {
+  going : l.left_out < 1000 → IsGoing l.fn.records.left l.records.left (l.kept + l.left_out) l.faults.items (place_of l.self.progress);
+  listed : l.left_out ≡ 1000 → IfSome l.fn.records.left (λ all. AreListed 0 all l.faults.items);
   ready : IsReady l.self.progress;
-  few : length l.faults.items < 1000;
-  within : length l.faults.items ≤ l.done;
+  count : length l.faults.items ≡ l.left_out;
+  few : l.kept ≤ 2000000;
+  shows : l.left_out ≡ 0 → Shows l.fn.records.left l.records.left (l.kept + l.left_out) (g.W.Watch.shown l.fn.watch) (g.W.Watch.shown l.watch);
 }

@@ -1,7 +1,6 @@
-use Rattle.std.proofs.Common.{◌≡◌, ◌≢◌, ◌<◌, ◌++◌, [], ◌∷◌, length, map, string_bytes, take_all, sym, ap, subst, ◌∙◌, arith, rules}
+use Rattle.std.proofs.Common.{◌≡◌, ◌≢◌, length, string_bytes, take_all, sym, ap, subst, ◌∙◌, arith, rules}
 use Rattle.std.specs.List.{AllPairs}
-use Rattle.std.proofs.lemmas.List.{length-map, map_push}
-use Rattle.pb_core.specs.Election.{project_ids}
+use Rattle.std.proofs.lemmas.List.{length-map}
 use Rattle.pb_read.proofs.IdLists.{HasIds-more, ids_of, no_ids}
 use Rattle.pb_read.proofs.project_ids.ProjectIds.of.Goals as goal
 

@@ -1,5 +1,5 @@
 use Rattle.std.proofs.Common.{◌≡◌, drop}
-use Rattle.pb_durable.specs.Place.{state_at}
+use Rattle.pb_durable.specs.RowPosition.{state_at}
 use Rattle.pb_serving.specs.Inner.Rows.{state_after}
 use Rattle.pb_serving.proofs.paced.handing.after_all.Given as goal
 

@@ -1,0 +1,49 @@
+//! What a run tells of what it read, beside its result.
+
+use pb_read::ReadFault;
+use pb_witness::entry_counts::EntryCounts;
+use pb_witness::rule_counts::RuleCounts;
+use pb_witness::warnings::{ResultWarnings, Warnings};
+use std::alloc::Global;
+
+/// What a run tells of what it read, beside its result.
+#[derive(Drop)]
+pub(crate) struct Notes {
+    /// The entries of the journal that was written or audited.
+    pub(crate) entries: EntryCounts,
+    /// How many rows of `serve` were refused, for whatever reason.
+    pub(crate) refused: u64,
+    /// How many of them each rule has refused.
+    pub(crate) by_rule: RuleCounts,
+    /// The voter whose ballot was asked for has none.
+    pub(crate) has_no_ballot: bool,
+    /// The faults of a file that was checked.
+    pub(crate) faults: Vec<ReadFault>,
+    /// The warnings of that file.
+    pub(crate) checked: Warnings,
+    /// What can change the result of a file that is counted.
+    pub(crate) seen: ResultWarnings,
+    /// Which keys that Pabulib asks for an exported file lacks.
+    pub(crate) lacking: [bool; 6],
+}
+
+impl Notes {
+    /// Nothing yet; a warning may refuse the file.
+    pub(crate) fn new(alloc: Global, is_strict: bool) -> Notes {
+        Notes {
+            entries: EntryCounts::new(),
+            refused: 0,
+            by_rule: RuleCounts::new(),
+            has_no_ballot: false,
+            faults: Vec::new(alloc),
+            checked: Warnings::new(alloc),
+            seen: ResultWarnings::new(alloc, is_strict),
+            lacking: [false; 6],
+        }
+    }
+
+    /// How many rows of `serve` were not of the form.
+    pub(crate) fn bad_rows(&self) -> u64 {
+        self.refused.saturating_sub(self.by_rule.all())
+    }
+}

@@ -1,0 +1,159 @@
+//! The commands that write a report, a table, a list or the journal of a script.
+
+use crate::admitted::{RowNotice, rules_of};
+use crate::line_count::LineCount;
+use crate::notes::Notes;
+use crate::run::Run;
+use crate::system::System;
+use pb_command_line::{AuditRun, Ballots, BallotsRun, CheckRun, DeskRun, Source};
+use pb_commands::run_audit::{AuditInputs, run_audit_watched};
+use pb_commands::run_ballots::run_ballots;
+use pb_commands::run_check::{run_check, run_check_against};
+use pb_commands::run_count::run_count_watched;
+use pb_commands::run_desk::run_admitted_desk;
+use pb_commands::run_table::run_table;
+use pb_commands::{AppFault, Demand, Digests, Table, write_digested, write_out};
+use pb_core::gate::NoGate;
+use pb_faults::RunText;
+use pb_read::read_pb;
+use pb_streams::{Shown, open_both, open_shown};
+use pb_witness::warnings::ResultWarnings;
+use std::io::Write;
+use std::mem;
+
+/// Counts a .pb file.
+pub(crate) fn count<R: System, W: Write>(
+    run: &Run<'_, R>,
+    source: &Source<'_>,
+    writer: &mut W,
+    seen: &mut ResultWarnings,
+) -> Result<(), AppFault> {
+    let file = open_shown(run.counting.gate, source)?;
+    run_count_watched(&run.counting, file, seen, writer)
+}
+
+/// Counts these ballots, and writes this table of the outcome.
+pub(crate) fn tell<'a, R: System, W: Write>(
+    run: &Run<'a, R>,
+    ballots: &Ballots<'a>,
+    table: Table,
+    writer: &mut W,
+    seen: &mut ResultWarnings,
+) -> Result<(), AppFault> {
+    let inputs = run.inputs(ballots)?;
+    run_table(&run.counting, inputs, seen, writer, table)
+}
+
+/// Checks a .pb file, and keeps its faults and warnings.
+pub(crate) fn check<R: System, W: Write>(
+    run: &Run<'_, R>,
+    asked: &CheckRun<'_>,
+    writer: &mut W,
+    notes: &mut Notes,
+) -> Result<(), AppFault> {
+    let file = open_shown(run.counting.gate, &asked.file)?;
+    let listed = if asked.compares {
+        run_check_against(&run.counting, file, writer, &mut notes.checked)
+    } else {
+        run_check(run.counting.alloc, file, writer, &mut notes.checked)
+    };
+    drop(mem::replace(&mut notes.faults, listed?));
+    Ok(())
+}
+
+/// Lets clerks serve a script on the desk of a .pb file. What is typed at a terminal is not shown a second
+/// time. A fault of the file is told before one of the roll.
+pub(crate) fn desk<R: System, W: Write>(
+    run: &Run<'_, R>,
+    asked: &DeskRun<'_>,
+    writer: &mut W,
+    notes: &mut Notes,
+) -> Result<(), AppFault> {
+    let (rt, alloc) = (run.counting.rt, run.counting.alloc);
+    let (file, script) = open_both(rt, &asked.file, &asked.script, RunText::Script)?;
+    let file = Shown::new(file, run.counting.gate);
+    let rules = match rules_of(rt, &asked.admits) {
+        Ok(rules) => rules,
+        Err(fault) => {
+            drop(script);
+            drop(read_pb(alloc, file)?);
+            return Err(fault);
+        }
+    };
+    let (clerks, shuts) = (asked.clerks, asked.shuts);
+    let notice = RowNotice::new(run);
+    let done = run_admitted_desk(
+        rt, alloc, file, script, clerks, shuts, &NoGate, rules, &notice, writer,
+    );
+    notes.entries = notice.answers();
+    done
+}
+
+/// Audits a journal on a .pb file: the report, alone or below the digests of what was read. Nothing is written
+/// before the whole text is there: a refusal is its line alone.
+pub(crate) fn audit<'a, R: System, W: Write>(
+    run: &Run<'a, R>,
+    asked: &AuditRun<'a>,
+    writer: &mut W,
+    notes: &mut Notes,
+) -> Result<(), AppFault> {
+    if !asked.digests {
+        return report(run, asked, writer, notes);
+    }
+    let alloc = run.counting.alloc;
+    let mut text = Vec::new(alloc);
+    let passed = match report(run, asked, &mut text, notes) {
+        Ok(()) => match (run.kinship.file.get(), run.kinship.journal.get()) {
+            (Some(file), Some(journal)) => {
+                let (file, journal) = (file.text(), journal.text());
+                write_digested(alloc, &Digests { file, journal }, text.as_slice(), writer)
+            }
+            _ => write_out(writer, text.as_slice(), AppFault::Write),
+        },
+        // A text in memory is refused for memory alone.
+        Err(AppFault::Write) => Err(AppFault::Memory),
+        Err(fault) => Err(fault),
+    };
+    drop(text);
+    passed
+}
+
+/// Writes the report of an audit, and notes how many entries have which answer.
+fn report<'a, R: System, W: Write>(
+    run: &Run<'a, R>,
+    asked: &AuditRun<'a>,
+    writer: &mut W,
+    notes: &mut Notes,
+) -> Result<(), AppFault> {
+    let (file, journal) = run.with_journal(&asked.file, &asked.journal)?;
+    let inputs = AuditInputs {
+        file,
+        journal,
+        demand: if asked.requires_shut {
+            Demand::Shut
+        } else {
+            Demand::Any
+        },
+    };
+    let notice = RowNotice::new(run);
+    let audited = run_audit_watched(&run.counting, inputs, &notice, &mut notes.seen, writer);
+    notes.entries = notice.answers();
+    audited
+}
+
+/// Writes the table of the ballots that a journal leaves on the desk of a file. Where one voter is named it
+/// notes whether that voter has none.
+pub(crate) fn ballots<'a, R: System, W: Write>(
+    run: &Run<'a, R>,
+    asked: &BallotsRun<'a>,
+    writer: &mut W,
+    notes: &mut Notes,
+) -> Result<(), AppFault> {
+    let (file, journal) = run.with_journal(&asked.file, &asked.journal)?;
+    let voter = asked.voter.map(|voter| voter.trim());
+    let mut table = LineCount::new(writer);
+    run_ballots(run.counting.alloc, file, journal, voter, &mut table)?;
+    // The first line is the head.
+    notes.has_no_ballot = voter.is_some() && table.lines <= 1;
+    Ok(())
+}

@@ -1,0 +1,104 @@
+-- Tables by their columns.
+use Rattle.std.proofs.Common.{◌≡◌, ◌∙◌, ◌+◌, ◌++◌, ◌<◌, ℕ, List, [], ◌∷◌, ap, arith, decimal, drop, get_or, length, map, refl, sym, take}
+use Rattle.std.specs.Prelude.{if◌then◌else◌, slice_index_or}
+use Rattle.std.specs.List.{range_with_len}
+use Rattle.std.proofs.lemmas.List.FromFn.{map-range_with_len_more}
+use Rattle.std.proofs.lemmas.List.{get_or-map, map-append}
+use Rattle.pb_core.specs.Election.{ElectionView, ProjectView, VoterView, project_ids, voter_ids}
+use Rattle.pb_core.specs.MoneyText.{money_text}
+use Rattle.pb_price.specs.Supporters.{support_of}
+use Rattle.pb_reasons.proofs.WinnerSums.{cost_at-known}
+use Rattle.pb_reasons.specs.BesideVotes.{elected_by_votes}
+use Rattle.pb_reasons.specs.Counted.{CountedView, winners_of}
+use Rattle.pb_reasons.specs.Reasons.{project_reason, voter_payments, voter_reason}
+use Rattle.pb_reasons.specs.declared.payment.Payment.{Payment}
+use Rattle.pb_reasons.specs.declared.voter_reason.VoterReason.{VoterReason}
+use Rattle.pb_rounds.specs.MostVotes.{is_taken, votes_at}
+use Rattle.pb_rounds.specs.RuleNames.{fills_up}
+use Rattle.pb_rounds.specs.declared.rule.FillUp.{FillUp}
+use Rattle.pb_rounds.specs.declared.rule.FillUp.TheVariants.{Nothing, MostVotes}
+use Rattle.pb_rows.specs.Reading.{Fields}
+use Rattle.pb_rows.specs.Tables.{Column, field_text, table_text}
+use Rattle.pb_rows.specs.declared.field.Field.{Field}
+use Rattle.pb_rows.specs.declared.field.Field.TheVariants.{Amount, Number}
+use Rattle.pb_rows.specs.Writing.{text_of_row, text_of_rows}
+use Rattle.pb_commands.proofs.ReportSums.{id_at-known}
+use Rattle.pb_commands.proofs.RowsGrown.{none_grown, row_grown, rows_grown}
+use Rattle.pb_commands.specs.Inner.Tables.{all_columns, payments_text, row_of}
+use Rattle.pb_commands.specs.Tables.{project_columns, ruled_columns, voter_columns}
+
+module _ {X : Type 0} (columns : List (Column X)) where
+  -- the names of the columns
+  pub head_put : (old new : List ℕ) → new ≡ old ++ text_of_row (map (λ c. c.0) columns) → new ≡ old ++ table_text columns []
+  unfolding table_text
+  head_put old new put = row_grown [] (map (λ c. c.0) columns) old old new (none_grown old) put
+
+  -- more rows after those that stand there
+  pub rows_put : (xs ys : List X) (old before after : List ℕ) → before ≡ old ++ table_text columns xs
+      → after ≡ before ++ text_of_rows (map (row_of columns) ys) → after ≡ old ++ table_text columns (xs ++ ys)
+  unfolding table_text
+  rows_put xs ys old before after so_far put =
+      rows_grown (map (λ c. c.0) columns ∷ map (row_of columns) xs) (map (row_of columns) ys) old before after so_far put
+      ∙ ap (λ (rows : List Fields). old ++ text_of_rows (map (λ c. c.0) columns ∷ rows)) (sym (map-append (row_of columns) xs ys))
+
+  pub row_put : (xs : List X) (x : X) (old before after : List ℕ) → before ≡ old ++ table_text columns xs
+      → after ≡ before ++ text_of_row (row_of columns x) → after ≡ old ++ table_text columns (xs ++ x ∷ [])
+  unfolding table_text
+  row_put xs x old before after so_far put =
+      row_grown (map (λ c. c.0) columns ∷ map (row_of columns) xs) (row_of columns x) old before after so_far put
+      ∙ ap (λ (rows : List Fields). old ++ text_of_rows (map (λ c. c.0) columns ∷ rows)) (sym (map-append (row_of columns) xs (x ∷ [])))
+
+-- the row of one place more
+pub place_put : (columns : List (Column ℕ)) (n : ℕ) (old before after : List ℕ) → before ≡ old ++ table_text columns (range_with_len 0 n)
+    → after ≡ before ++ text_of_row (row_of columns n) → after ≡ old ++ table_text columns (range_with_len 0 (n + 1))
+unfolding table_text
+place_put columns n old before after so_far put =
+    row_grown (map (λ c. c.0) columns ∷ map (row_of columns) (range_with_len 0 n)) (row_of columns n) old before after so_far put
+    ∙ ap (λ (rows : List Fields). old ++ text_of_rows (map (λ c. c.0) columns ∷ rows)) (sym (map-range_with_len_more (row_of columns) 0 n n (omega arith)))
+
+pub name_at-known : (e : ElectionView) (place : ℕ) (p : ProjectView) → place < length e.projects → p ≡ get_or e.projects place p
+    → slice_index_or (map (λ q. q.name) e.projects) place [] ≡ p.name
+name_at-known e place p known is = get_or-map (λ (q : ProjectView). q.name) e.projects place p [] known ∙ ap (λ (q : ProjectView). q.name) (sym is)
+
+-- the last column of projects is one where an outcome is filled up
+pub width_is : (e : ElectionView) (c : CountedView) (f : FillUp) → f ≡ c.fill_up → (if fills_up f then 12 else 11) ≡ length (project_columns e c)
+width_is e c MostVotes is = rw (← is) refl
+width_is e c Nothing is = rw (← is) refl
+
+names_taken_by : (e : ElectionView) (c : CountedView) (f : FillUp) → f ≡ c.fill_up → take (if fills_up f then 12 else 11) (map (λ k. k.0) (all_columns e c)) ≡ map (λ k. k.0) (project_columns e c)
+names_taken_by e c MostVotes is = rw (← is) refl
+names_taken_by e c Nothing is = rw (← is) refl
+
+row_taken_by : (e : ElectionView) (c : CountedView) (place : ℕ) (f : FillUp) → f ≡ c.fill_up → take (if fills_up f then 12 else 11) (row_of (all_columns e c) place) ≡ row_of (project_columns e c) place
+row_taken_by e c place MostVotes is = rw (← is) refl
+row_taken_by e c place Nothing is = rw (← is) refl
+
+pub names_taken : (e : ElectionView) (c : CountedView) (width : ℕ) → width ≡ length (project_columns e c) → take width (map (λ k. k.0) (all_columns e c)) ≡ map (λ k. k.0) (project_columns e c)
+names_taken e c width is = ap (λ n. take n (map (λ k. k.0) (all_columns e c))) (is ∙ sym (width_is e c c.fill_up refl)) ∙ names_taken_by e c c.fill_up refl
+
+-- the row of a project, as it is written
+pub project_row_read : (e : ElectionView) (c : CountedView) (place : ℕ) (p : ProjectView) → place < length e.projects → p ≡ get_or e.projects place p
+    → (number cost votes : Field) → number ≡ Number place → cost ≡ Amount p.cost → votes ≡ Number (project_reason e c place).votes
+    → (id name : List ℕ) → id ≡ p.id → name ≡ p.name → (more : Fields) → more ≡ drop 5 (row_of (all_columns e c) place)
+    → (width : ℕ) → width ≡ length (project_columns e c)
+    → take width (field_text number ∷ id ∷ name ∷ field_text cost ∷ field_text votes ∷ more) ≡ row_of (project_columns e c) place
+project_row_read e c place p known is number cost votes number_is cost_is votes_is id name id_is name_is more more_is width width_is' =
+    let row : field_text number ∷ id ∷ name ∷ field_text cost ∷ field_text votes ∷ more ≡ row_of (all_columns e c) place =
+    rw (number_is, cost_is, votes_is, id_is, name_is, more_is, ← id_at-known e place p known is, ← name_at-known e place p known is, ← cost_at-known e place p known is) refl in
+    ap (take width) row ∙ ap (λ n. take n (row_of (all_columns e c) place)) (width_is' ∙ sym (width_is e c c.fill_up refl)) ∙ row_taken_by e c place c.fill_up refl
+
+-- the row of a project by both rules, as it is written
+pub ruled_row_read : (e : ElectionView) (c : CountedView) (place : ℕ) (p : ProjectView) → place < length e.projects → p ≡ get_or e.projects place p
+    → (number cost wins otherwise : Field) → number ≡ Number place → cost ≡ Amount p.cost → wins ≡ Number (if is_taken (winners_of c) place then 1 else 0)
+    → otherwise ≡ Number (if is_taken (elected_by_votes e) place then 1 else 0) → (id name : List ℕ) → id ≡ p.id → name ≡ p.name
+    → (votes : ℕ) → votes ≡ votes_at (support_of e) place
+    → field_text number ∷ id ∷ name ∷ field_text cost ∷ decimal votes ∷ field_text wins ∷ field_text otherwise ∷ [] ≡ row_of (ruled_columns e c) place
+ruled_row_read e c place p known is number cost wins otherwise number_is cost_is wins_is otherwise_is id name id_is name_is votes votes_is =
+    rw (number_is, cost_is, wins_is, otherwise_is, id_is, name_is, votes_is, ← id_at-known e place p known is, ← name_at-known e place p known is, ← cost_at-known e place p known is) refl
+
+-- the row of a voter, as it is written
+pub voter_row_read : (e : ElectionView) (c : CountedView) (voter : ℕ) (v : VoterView) → voter < length e.voters → v ≡ get_or e.voters voter v
+    → (id : List ℕ) → id ≡ v.id → (r : VoterReason) → r ≡ voter_reason e c voter → (payments : List Payment) → payments ≡ voter_payments e c.outcome voter
+    → id ∷ decimal r.votes ∷ decimal r.elected ∷ money_text r.paid ∷ money_text r.left ∷ payments_text payments ∷ [] ≡ row_of (voter_columns e c) voter
+voter_row_read e c voter v known is id id_is r r_is payments payments_is =
+    rw (r_is, payments_is, id_is ∙ ap (λ (u : VoterView). u.id) is ∙ sym (get_or-map (λ (u : VoterView). u.id) e.voters voter v [] known)) refl

@@ -1,0 +1,7 @@
+use Rattle.pb_read.proofs.Blames.{explained_blames}
+use Rattle.pb_read.specs.Inner.Progresses.{place_of}
+use Rattle.pb_read.specs.Stages.{the_end}
+use Rattle.pb_read.proofs.check.Check.judge_end.Goals as goal
+
+pub returns-in-Err-clause-blame : goal.returns-in-Err-clause-blame
+returns-in-Err-clause-blame g c = explained_blames (place_of c.args.self.now.progress) the_end c.in-Err.kind c.in-Err.ensures.end

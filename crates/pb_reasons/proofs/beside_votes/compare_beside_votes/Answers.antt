@@ -1,4 +1,0 @@
-use Rattle.pb_reasons.proofs.beside_votes.compare_beside_votes.Goals as goal
-
-pub returns : goal.returns
-returns c = rw (c.as_slice.ensures.value, c.in_ok-other.ensures) at c.compare-compared.ensures

@@ -1,0 +1,66 @@
+//! A field of a row, and its text.
+
+ghost use Rattle.std.specs.Prelude.{◌≡◌, ◌++◌, OnOk, string_bytes};
+ghost use Rattle.pb_core.specs.MoneyText.{money_text};
+ghost use Rattle.pb_rows.specs.Tables.{field_text};
+ghost use Rattle.pb_rows.specs.declared.field.Field.TheVariants.{Amount, Number};
+
+use itoa::Buffer;
+use pb_core::money::Money;
+use std::alloc::{AllocError, Allocator};
+
+/// A field of a row.
+#[derive(Clone, Copy)]
+pub enum Field<'a> {
+    /// Nothing.
+    Empty,
+    /// A text as it is.
+    Text(&'a str),
+    /// A number, in decimal.
+    Number(u64),
+    /// An amount in hundredths: whole units, a point and two decimals, as `12.30`.
+    Amount(u128),
+}
+
+impl Field<'static> {
+    /// The field of a number.
+    pub fn number(number: u32) -> Field<'static>
+        ensures { result ≡ Number number }
+    {
+        Field::Number(u64::from(number))
+    }
+
+    /// The field of an amount.
+    pub fn amount(amount: Money) -> Field<'static>
+        ensures { result ≡ Amount amount }
+    {
+        Field::Amount(u128::from(amount.0))
+    }
+}
+
+/// Makes a text that of a field; what it held is gone.
+pub(crate) fn set_text(text: &mut String, field: Field) -> Result<(), AllocError>
+    ensures { OnOk result (string_bytes text.new ≡ field_text field.entry) }
+{
+    text.clear();
+    match field {
+        Field::Empty => Ok(()),
+        Field::Text(it) => text.push_str(it),
+        Field::Number(number) => {
+            let mut digits = Buffer::new();
+            text.push_str(digits.format(number))
+        }
+        Field::Amount(amount) => put_amount(text, amount),
+    }
+}
+
+/// Puts an amount in hundredths after a text: whole units, a point and two decimals, as `12.30`.
+pub fn put_amount<A: Allocator>(text: &mut String<A>, amount: u128) -> Result<(), AllocError>
+    ensures { OnOk result (string_bytes text.new ≡ string_bytes text.old ++ money_text amount) }
+{
+    let mut digits = Buffer::new();
+    text.push_str(digits.format(amount / 100))?;
+    text.push('.')?;
+    text.push(char::from((amount / 10 % 10) as u8 + b'0'))?;
+    text.push(char::from((amount % 10) as u8 + b'0'))
+}

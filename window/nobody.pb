@@ -1,9 +1,0 @@
-META
-key;value
-budget;1
-vote_type;approval
-PROJECTS
-project_id;cost
-1;1
-VOTES
-voter_id;vote
