@@ -1,5 +1,5 @@
 """Tries the desk of the clerks' window, without a browser: deaths of `serve` and of the window, faults, ballots of others, the shut desk."""
-import concurrent.futures, hashlib, os, re, shutil, signal, subprocess
+import concurrent.futures, hashlib, os, pathlib, re, shutil, signal, subprocess
 
 from window_clerk import Clerk, Window, at_terminal, ended, passphrase_of
 from window_seen import NAMES, new_folder, see
@@ -179,7 +179,11 @@ def try_shut(program, work):
         late = ben.look('cast', 'late', ['12'])
         head.get('/head')
         see(head.post('/shut', {'word': 'yes'}).status == 400 and len(window.entries()) == 3, 'shutting needs its word')
+        words = lambda: pathlib.Path(f'/proc/{window.serve_id()}/cmdline').read_bytes().split(b'\0')
+        see(b'--no-shut' in words(), 'the child takes no shut', words())
         page = head.post('/shut', {'word': 'shut'})
+        told = [(it['what'], it.get('entries')) for it in window.log() if it['what'] in ('started', 'ended')][:3]
+        see(told == [('started', 0), ('ended', None), ('started', 3)], 'for the shut another one is started', told)
         see('Entry 4 ' in page.seen and window.entries()[3][2:] == ['shut', '', '', 'done'], 'the desk is shut', page.seen)
         page = ben.record(late)
         see('Not recorded: nothing was sent. You asked for this: cast, voter late. The desk was shut by entry 4.' in page.seen

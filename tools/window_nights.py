@@ -296,6 +296,7 @@ def try_settings(program, work):
     (folder / 'voters.csv').write_text('voter_id\nv1\nv2\nv3\n')
     path = folder / 'office.toml'
     for text, name in (('colour = "red"', "no setting 'colour'"), ('min = "two"', 'the setting min is a whole number'), ('min = -1', 'the setting min is a whole number'), ('min = true', 'the setting min is a whole number'), ('min = 1.5', 'the setting min is a whole number'),
+                       ('keep-file-ballots = 1', 'the setting keep-file-ballots is true or false'),
                        ('title = 5', 'the setting title is a text'), ('title = "<b>Budget</b>"', 'the setting title has < or >'), ('title = "two\\nlines"', 'title'), ('title = ""', 'title'),
                        ('roll = ["voters.csv"]', 'roll'), ('name = ["a", 5]', 'name'), ('name = []', 'name'), ('name = "<x>"', 'the setting name has <'),
                        (f'name = {["a"] * 1000}', 'name'), ('currency = {a = 1}', 'the setting currency is'), ('backup-every = 0', 'backup-every'),
@@ -343,6 +344,8 @@ def try_changed(window, folder, path, text):
     for what, change, said in (('min', lambda: path.write_text(text.replace('min = 1', 'min = 2')), 'office.toml: min was 1, and is 2.'),
                                ('roll', lambda: path.write_text(text.replace('roll = "voters.csv"\n', '')), 'office.toml: roll was "voters.csv", and is nothing.'),
                                ('title', lambda: path.write_text(text.replace('title', 'title')), 'office.toml: roll was nothing, and is "voters.csv".'),
+                               ('keep', lambda: path.write_text(text + 'keep-file-ballots = true\n'), 'office.toml: keep-file-ballots was nothing, and is true.'),
+                               ('no keep', lambda: path.write_text(text), 'office.toml: keep-file-ballots was true, and is nothing.'),
                                ('the roll', changed, 'voters.csv, the roll, has changed since ')):
         change()
         refused_then_opened(window, what, said, words=['office.toml'])

@@ -2,9 +2,9 @@
 with many words."""
 import concurrent.futures, json, os, re, signal, stat, subprocess, time
 
-from window_clerk import (CLERKS, LIMIT, PYTHON, RUN, SCRIPT, TOP, Clerk, Window, passphrase_of, roll_given,
-                          typed_at_terminal)
-from window_seen import NAMES, new_folder, see
+from window_clerk import (CLERKS, LIMIT, PYTHON, RUN, SCRIPT, TOP, Clerk, Window, at_terminal, ended, passphrase_of,
+                          roll_given, typed_at_terminal)
+from window_seen import MARKUP, NAMES, new_folder, see
 
 # Runs the window with another number of seconds for an answer.
 HURRIED = SCRIPT % ('import desk; desk.ANSWERS = 1', '')
@@ -22,6 +22,73 @@ def until(is_so, seconds=LIMIT):
     while not is_so() and time.monotonic() < end:
         time.sleep(0.05)
     return is_so()
+
+
+def try_kept(program, work):
+    """The ballots that came with the file are kept: the clerk is told before one is ticked, and `serve` decides."""
+    folder, warning = new_folder(work, 'kept'), 'The desk takes no request for a voter of the city’s file'
+    with Window(program, folder, options=['--keep-file-ballots']).start() as window:
+        ann = Clerk(window)
+        ann.sign_in('Ann')
+        for voter, is_kept in (('old1', True), ('old2', True), ('Old1', False), ('v1', False)):
+            page = ann.post('/voter', {'voter': voter})
+            see((warning in page.seen) == is_kept, f'{voter} is told whether the ballot is kept', page.seen)
+        for request, ids in (('replace', ['12']), ('withdraw', [])):
+            page = ann.look(request, 'old1', ids)
+            see(f'{warning}: it will not take this.' in page.seen, f'{request}: the check page warns', page.seen)
+            see('is deleted' not in page.seen and 'will then have' not in page.seen and focused(page) == ['/voter'],
+                f'{request}: it promises nothing, and Enter records nothing', page.seen, focused(page))
+            page = ann.record(page)
+            see('Not recorded: the desk takes no request for a voter of the city’s file.' in page.seen
+                and not window.entries(), f'{request}: serve decides', page.seen)
+        page = ann.look('cast', 'v1', ['12'])
+        see(warning not in page.seen and focused(page) == ['/record'], 'no warning, and Enter records', page.seen)
+        see('Entry 1 ' in ann.record(page).seen, 'a voter who is not in the file has a ballot')
+        see('is deleted' in ann.look('replace', 'v1', ['7']).seen, 'which may be replaced')
+        window.kill_serve()
+        page = ann.ask('withdraw', 'old2')
+        see('takes no request' in page.seen and len(window.entries()) == 1, 'also after serve was killed', page.seen)
+        see('were changed before' not in window.told, 'no ballot of the file was changed', window.told)
+    try_kept_late(program, work)
+
+
+def focused(page):
+    """Where the buttons of a check page lead that have the focus."""
+    buttons = re.findall(r'<button([^>]*)>', page.text[page.text.index('action="/record"'):])
+    return [(re.search('formaction="(.*?)"', it) or [0, '/record'])[1] for it in buttons if ' autofocus' in it]
+
+
+def try_kept_late(program, work):
+    """Ballots of the file that were changed before they were to be kept: the start says how many, and nothing offers
+    to put one back."""
+    folder = new_folder(work, 'late kept')
+    with Window(program, folder).start() as window:
+        ann = Clerk(window)
+        ann.sign_in('Ann')
+        # Of the file's voters the third one's ballot is not changed.
+        for it in (('replace', 'old1', ['99']), ('withdraw', 'old2'), ('cast', MARKUP, ['12']), ('cast', 'v1', ['12'])):
+            ann.ask(*it)
+        answers = [row[5] for row in window.entries()]
+        see(answers == ['done', 'done', 'already-cast', 'done'], 'four entries', answers)
+        window.end()
+        window.start()
+        see('were changed before' not in window.told, 'without the option nothing is said of them', window.told)
+        window.end()
+        window.options = ['--keep-file-ballots']
+        told, status = at_terminal(window, passphrase_of('Head'))
+        see(status is None and 'Voters of the file whose ballots were changed before, and stay so: 2.' in told,
+            'the start says how many', told)
+        head = Clerk(window)
+        head.sign_in('Head')
+        for voter, is_offered in (('old1', False), ('old2', False), ('v1', True)):
+            page = head.post('/voter', {'voter': voter})
+            see('What was asked' in page.seen and ('action="/back"' in page.text) == is_offered
+                and ('Put back' in page.seen) == is_offered and 'kept' not in page.seen,
+                f'{voter}: what stood can be put back, or not', page.seen)
+        ann.sign_in('Ann')
+        page = ann.post('/voter', {'voter': 'old1'})
+        see('can put back' not in page.seen, 'nor is that said to a clerk', page.seen)
+        ended(window)
 
 
 def try_roll(program, work):

@@ -1,4 +1,5 @@
-"""The desk: `pb_app serve --by-id`, the window's child, which alone writes the journal. Here its answers are read."""
+"""The desk: `pb_app serve --by-id --no-shut`, the window's child, which alone writes the journal. Here its answers are
+read. The head clerk's shut goes to another child, which takes it."""
 import collections, contextlib, csv, io, os, secrets, subprocess, sys, threading, time
 
 import copies, disk, log
@@ -53,12 +54,12 @@ class Desk:
         self.log, self.election, self.votes = its_log, election, election.votes
         # Whoever sends, or starts the child, does it alone, and no page that sends nothing waits for that.
         self.sending, self.seats = threading.RLock(), threading.BoundedSemaphore(SEATS)
-        # How many rows this child was sent; who starts it, and since when.
+        # How many rows this child was sent; who starts it, and since when; whether the next one takes a shut.
         self.sent, self.starting, self.begun, self.guard = 0, threading.Thread(), 0, threading.Lock()
         self.waiting, self.busy, self.newest, self.shut, self.mark = collections.deque(), set(), NOTHING, None, None
         # The child that runs, the line with which one has stopped, on which disk that was, and why none was
         # started after that.
-        self.child, self.fault, self.place, self.failure = None, None, '', None
+        self.child, self.fault, self.place, self.failure, self.takes_shut = None, None, '', None, False
         self.unknown = {form: Request(it['clerk'], it['request'], it['voter'], seen=it.get('seen', -1), form=form)
                         for form, it in its_log.asked.items()}
 
@@ -77,7 +78,7 @@ class Desk:
             os.write(self.words, f'{log.now()}: pb_app serve is started.\n'.encode())
         while first[:1] != ['entries']:
             begin = os.fstat(self.words).st_size
-            child, rows = started(self.command, self.words)
+            child, rows = started(self.command + ['--no-shut'] * (not self.takes_shut), self.words)
             first = next((row for row in rows if row[0] != 'torn'), [])
             if first[:1] != ['entries']:
                 child.communicate()
@@ -89,11 +90,10 @@ class Desk:
                     more += f'Make room on {disk.named(journal)}' * (first[:2] == ['fault', 'write'])
                     raise Fault(f'{line}\n{more}'.strip())
                 time.sleep(0.2)
-        lacking = self.read_journal(int(first[1]))
-        if lacking:
+        if lacking := self.read_journal(int(first[1])):
             child.communicate()
             raise Fault(lacking)
-        self.mark, self.child, self.fault, self.failure, self.sent = mark, child, None, None, 0
+        self.mark, self.child, self.fault, self.failure, self.sent, self.takes_shut = mark, child, None, None, 0, False
         self.log.write('started', entries=int(first[1]), state=first[2])
         self.listener = threading.Thread(target=self.listen, args=(child, rows), daemon=True)
         self.listener.start()
@@ -271,9 +271,14 @@ class Desk:
         self.keep_up(seconds=HELD)
         if self.held() and not self.is_late(asked):
             return self.unsent(asked, 'held')
+        if asked.request == 'shut' and self.child:
+            # This child takes no shut. It ends in order, and the next one takes this row.
+            self.takes_shut = True
+            self.end()
+            self.keep_up(seconds=None)
         with self.sending:
             asked.places = self.election.places_of(asked.ids)
-            if self.fault or self.shut or not self.child:
+            if self.fault or self.shut or not self.child or self.child.stdin.closed:
                 asked.outcome = self.unsent(asked, 'stopped')
             elif self.is_late(asked):
                 asked.outcome = self.unsent(asked, 'changed')

@@ -197,8 +197,7 @@ class Keeper:
     def files(self):
         """The files of the office as they are now, by their names, and what JOURNAL.window has of them."""
         time = datetime.datetime.now(datetime.timezone.utc).isoformat(timespec='milliseconds')
-        files = copies.files_of(self.parts)
-        name = os.path.basename(self.given.journal)
+        files, name = copies.files_of(self.parts), os.path.basename(self.given.journal)
         text, parts = files[name], {part: os.path.basename(path) for part, path in self.parts.items()}
         state = {'time': time, 'journal': {'length': len(text), 'sha256': disk.digest_of(text)},
                  'entries': copies.entries_of(text), 'has_key': bool(self.given.cert),
@@ -212,8 +211,7 @@ class Keeper:
         told, kept = journal_changed(state, journal) if state else [], copies.kept_beside(journal)
         if told or kept:
             raise Fault(f'No copy was made: {told[0] if told else kept}')
-        files = self.files()
-        name = os.path.basename(journal)
+        files, name = self.files(), os.path.basename(journal)
         lines = files.get(f'{name}.log', b'').decode(errors='replace').splitlines()
         count, known = copies.entries_of(files[name]), log.told_in(lines).entries or 0
         if count < known:

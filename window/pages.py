@@ -23,8 +23,9 @@ ANSWERS = {'done': 'Recorded.', 'already-cast': 'Not recorded: this voter has a 
            'desk-shut': 'Not recorded: the desk is shut.',
            'UnknownId': 'Not recorded: no project has an id that the ballot names.',
            'NotOnRoll': 'Not recorded: this voter is not on the roll.',
-           'TooFew': 'Not recorded: the ballot has too few projects.', 'changed': 'Nothing was sent.',
-           'stopped': 'Not recorded: nothing was sent.', 'held': 'Not recorded: nothing was sent.',
+           'TooFew': 'Not recorded: the ballot has too few projects.',
+           'FromFile': 'Not recorded: the desk takes no request for a voter of the city’s file.',
+           'changed': 'Nothing was sent.', 'stopped': 'Not recorded: nothing was sent.', 'held': 'Not recorded: nothing was sent.',
            'unknown': 'It is not known whether this was recorded.'}
 # Why the desk has stopped.
 STOPS = {'write': 'The disk of the journal is full or fails.', 'memory': 'There was no memory left.',
@@ -91,12 +92,12 @@ def words():
     why = STOPS.get((office.desk.fault or '').partition(';')[2].split(';')[0], '')
     why += f' Make room on {office.desk.place}.' * (why == STOPS['write'] and g.clerk == 0)
     return {'clerk': g.clerk, 'office_title': office.given.title or 'Clerks’ window', 'desk': office.desk,
-            'keeper': office.keeper, 'turnout': office.log.turnout,
-            'log_failure': office.log.why_not(), 'log_place': office.log.place, 'why_stopped': why,
-            'election': office.election, 'unknown': list(office.desk.unknown.values()),
+            'keeper': office.keeper, 'turnout': office.log.turnout, 'election': office.election, 'why_stopped': why,
+            'log_failure': office.log.why_not(), 'log_place': office.log.place, 'unknown': list(office.desk.unknown.values()),
+            'is_kept': lambda it: office.given.keep_file_ballots and it in office.election.votes,
             'said': lambda name: ANSWERS.get(name.split()[0], f'Not recorded: {name}.'),
             'name_of': office.door.name_of, 'who': lambda it: f"{office.door.name_of(it)} (clerk {it}{', you' * (it == g.clerk)})",
-            'when': when, 'named': office.roll.names if office.roll else {},
+            'when': when, 'is_cased': is_cased, 'named': office.roll.names if office.roll else {},
             'is_off_roll': lambda it: office.roll is not None and it not in office.roll.names,
             'token': Markup('<input type="hidden" name="token" value="%s">') % token_of(held)}
 
@@ -143,8 +144,7 @@ def sign_in():
     office.log.write('signed-in', clerk=clerk['number'], address=address)
     office.sessions.pop(cookie('session'), None)
     answer = keep(redirect('/', 303), 'session', office.sessions.begin(clerk, office.door.clerks()))
-    mark = office.door.mark_of(clerk, secrets.token_hex(16))
-    return keep(answer, f"mark-{clerk['number']}", mark, 366 * 86400)
+    return keep(answer, f"mark-{clerk['number']}", office.door.mark_of(clerk, secrets.token_hex(16)), 366 * 86400)
 
 
 @app.post('/sign-out')
@@ -189,8 +189,7 @@ def is_cased(voter):
 def show(voter, ids=None, is_asked_for=False):
     """The page of a voter. It begins without ticks, or with those that the clerk has just made."""
     office.desk.keep_up()
-    return page('voter', 'Voter', voter=voter, ids=ids, held=ballot_of(voter, is_asked_for),
-                is_cased=is_cased(voter))
+    return page('voter', 'Voter', voter=voter, ids=ids, held=ballot_of(voter, is_asked_for))
 
 
 @app.post('/voter')
@@ -245,9 +244,8 @@ def look_at(asked, is_asked_for=False):
     g.session.add(asked)
     is_shown = asked.before is None or is_asked_for
     return page('look', 'Check before you record', asked=asked, is_shown=is_shown,
-                chosen=office.election.chosen(asked.ids),
-                held=ballot_of(asked.voter) if asked.before is None else None,
-                is_named=office.election.places_of(asked.ids) is not None)
+                chosen=office.election.chosen(asked.ids), is_named=office.election.places_of(asked.ids) is not None,
+                held=ballot_of(asked.voter) if asked.before is None else None)
 
 
 @app.post('/record')
@@ -262,8 +260,7 @@ def record():
 def answer(asked):
     outcome = office.desk.ask(asked)
     words = office.end() if outcome.kind == 'entry' and outcome.value[2::3] == ('shut', 'done') else None
-    return page('start', 'Answer', outcome=outcome, asked=asked, last=office.desk.last(asked.voter),
-                words=words)
+    return page('start', 'Answer', outcome=outcome, asked=asked, last=office.desk.last(asked.voter), words=words)
 
 
 @app.post('/settle')

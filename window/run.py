@@ -24,6 +24,7 @@ OPTIONS = {
     '--roll': dict(metavar='ROLL', help='takes requests only for the voters in this file'),
     '--other-file': dict(action='store_true', help='goes on with a FILE that was corrected, as with pb_app serve'),
     '--min': dict(metavar='N', type=int, default=0, help='the smallest number of projects that a new ballot may name'),
+    '--keep-file-ballots': dict(action='store_true', default=None, help='takes no request for a voter whom FILE lists'),
     '--title': dict(metavar='TEXT', help='the title of the pages, and of the page of the result'),
     '--language': dict(metavar='WORDS', help='the words of the page of the result, such as words/de.words'),
     '--currency': dict(metavar='TEXT', help='the currency on the page of the result'),
@@ -52,10 +53,10 @@ def arguments():
             parser.exit(2, f'run.py: {why}\n')
         given = parser.parse_args([*options, *more, '--', *names])
     # What is kept of options alone: of a path its name, so that it matters not where it begins.
-    kept = {it: vars(given)[it] for it in ('min', 'title', 'currency', 'count')}
-    for it in ('clerks', 'roll', 'backup', 'language'):
-        kept[it] = vars(given)[it] and os.path.basename(os.path.abspath(vars(given)[it]))
-    given.settings, given.known = path, known or {f'--{it}': value for it, value in kept.items()}
+    kept = {it: vars(given)[it] for it in ('min', 'title', 'currency', 'count', 'keep_file_ballots')}
+    kept |= {it: vars(given)[it] and os.path.basename(os.path.abspath(vars(given)[it]))
+             for it in ('clerks', 'roll', 'backup', 'language')}
+    given.settings, given.known = path, known or {f'--{it}'.replace('_', '-'): value for it, value in kept.items()}
     if not given.restore and not given.file:
         parser.error('name FILE and JOURNAL, or a file of settings, or --restore COPY')
     if not given.restore and not given.clerks and not given.copy:
@@ -95,8 +96,8 @@ class Day:
         self.roll = roll.Roll(given.roll) if given.roll else None
         self.keeper = overnight.Keeper(given, self.log)
         self.keeper.compare(self.door.known[0], self.election)
-        serve = [given.program, 'serve', '--by-id', *(['--roll', self.roll.path] if self.roll else []),
-                 f'--min={given.min}', *['--other-file'] * given.other_file]
+        serve = [given.program, 'serve', '--by-id', f'--min={given.min}', *['--other-file'] * given.other_file,
+                 *(['--roll', self.roll.path] if self.roll else []), *['--keep-file-ballots'] * bool(given.keep_file_ballots)]
         self.desk = desk.Desk(serve, given.file, given.journal, self.log, self.election)
         self.desk.start()
         self.keeper.try_to_keep(is_copied=False)
@@ -120,8 +121,7 @@ class Day:
                     print(f"\nWrite nothing down: {self.given.journal} is not the desk's. {kept}", flush=True)
                 elif digest:
                     print(f'\nEntries: {entries}, sha256 {digest}: write both down', flush=True)
-                whole = self.keeper.keep(is_evening=True)
-                if whole:
+                if whole := self.keeper.keep(is_evening=True):
                     print(f'Copied to {whole}', flush=True)
             except (OSError, ValueError, election.Fault) as why:
                 why = disk.words_of(why)
@@ -189,6 +189,9 @@ def main():
     day, failure = pages.office, None
     if day.election.unfit:
         print(day.election.warning(), flush=True)
+    changed = [it for it in day.desk.history if it in day.election.votes and day.desk.standing(it)]
+    if changed and given.keep_file_ballots:
+        print(f'Voters of the file whose ballots were changed before, and stay so: {len(changed)}.', flush=True)
     web, (ended, end) = server.Server(given.address, pages.app, day.log), os.pipe()
     web.ssl_adapter = tls
     # Python itself writes to this pipe, whichever thread gets the signal, and whatever the main thread does.

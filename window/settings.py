@@ -4,10 +4,10 @@ import os, re, tomllib
 # What each key has; a name that clerks type may be one text or several. At most so many bytes and names.
 KEYS = {'file': str, 'journal': str, 'clerks': str, 'roll': str, 'min': int, 'listen': str, 'name': list,
         'certificate': str, 'key': str, 'backup': str, 'backup-every': int, 'title': str, 'language': str,
-        'currency': str, 'count': str, 'program': str}
+        'currency': str, 'count': str, 'program': str, 'keep-file-ballots': bool}
 PATHS = ('file', 'journal', 'clerks', 'roll', 'certificate', 'key', 'backup', 'language')
 NEEDED, LARGEST, NAMES = ('file', 'journal', 'clerks'), 65536, 64
-KINDS = {str: 'a text in quotation marks', int: 'a whole number, 0 or more',
+KINDS = {str: 'a text in quotation marks', int: 'a whole number, 0 or more', bool: 'true or false',
          list: 'a text in quotation marks, or a list of such texts'}
 
 
@@ -33,7 +33,7 @@ def fault_of(key, value):
     if key not in KEYS:
         return f'there is no setting {ascii(key)}; the settings are {", ".join(KEYS)}'
     texts = value if KEYS[key] is list and isinstance(value, list) else [value]
-    wanted = int if KEYS[key] is int else str
+    wanted = str if KEYS[key] is list else KEYS[key]
     if not texts or any(type(it) is not wanted for it in texts) or (wanted is int and value < 0):
         return f'the setting {key} is {KINDS[KEYS[key]]}'
     if len(texts) > NAMES:
@@ -50,6 +50,6 @@ def arguments_of(path, found):
         if key in found:
             found[key] = os.path.join(os.path.dirname(path), found[key])
     names = [found.pop('file'), found.pop('journal')]
-    options = [f"--{'cert' if key == 'certificate' else key}={it}" for key, value in found.items()
-               for it in (value if isinstance(value, list) else [value])]
+    options = [f"--{'cert' if key == 'certificate' else key}" + f'={it}' * (it is not True) for key, value in found.items()
+               for it in (value if isinstance(value, list) else [value]) if it is not False]
     return options, names

@@ -1,6 +1,6 @@
 //! Which requests the desk admits, and what is said of those that it does not.
 
-use crate::run::Run;
+use crate::command_run::CommandRun;
 use crate::system::System;
 use pb_command_line::{Admits, Task};
 use pb_commands::AppFault;
@@ -25,7 +25,7 @@ pub(crate) struct RowNotice<'a, R> {
     admits: Admits<'a>,
     /// Whether a row that is refused refuses the script.
     refuses_script: bool,
-    /// Who is told of rows that are not of the form.
+    /// Who is told of rows that are not of the form, and of answers.
     typing: &'a Typing,
     by_rule: Cell<RuleCounts>,
     answers: Cell<EntryCounts>,
@@ -33,7 +33,7 @@ pub(crate) struct RowNotice<'a, R> {
 
 impl<'a, R: System> RowNotice<'a, R> {
     /// Of the rows that this run takes.
-    pub(crate) fn new(run: &Run<'a, R>) -> RowNotice<'a, R> {
+    pub(crate) fn new(run: &CommandRun<'a, R>) -> RowNotice<'a, R> {
         let (path, refuses_script) = match &run.asked.task {
             Task::Desk(asked) => (asked.script.path(), true),
             _ => (None, false),
@@ -62,6 +62,7 @@ impl<'a, R: System> RowNotice<'a, R> {
 
 impl<R: System> Notice for RowNotice<'_, R> {
     fn refused(&self, row: u64, why: RowRefusal, unknown: &str) {
+        self.typing.hear_refused(row);
         if why == RowRefusal::Bad {
             return self.typing.hear_bad_row(row);
         }
@@ -82,6 +83,7 @@ impl<R: System> Notice for RowNotice<'_, R> {
         let mut answers = self.answers.get();
         answers.add(answer);
         self.answers.set(answers);
+        self.typing.hear_answer(self.rt, answer);
     }
 }
 
@@ -93,6 +95,8 @@ fn with_one_more(mut counts: RuleCounts, why: RowRefusal) -> RuleCounts {
         RowRefusal::UnknownId => counts.unknown_id = counts.unknown_id.saturating_add(1),
         RowRefusal::NotOnRoll => counts.not_on_roll = counts.not_on_roll.saturating_add(1),
         RowRefusal::TooFew => counts.too_few = counts.too_few.saturating_add(1),
+        RowRefusal::FromFile => counts.from_file = counts.from_file.saturating_add(1),
+        RowRefusal::NoShut => counts.no_shut = counts.no_shut.saturating_add(1),
     }
     counts
 }
@@ -105,10 +109,13 @@ pub(crate) fn rules_of<R: System>(rt: &R, admits: &Admits<'_>) -> Result<Rules, 
     };
     Ok(Rules {
         by_id: admits.by_id,
+        keeps_file: admits.keeps_file,
         admission: Admission {
             ids: None,
             roll,
             least: admits.least,
+            kept: None,
+            may_shut: admits.may_shut,
         },
     })
 }

@@ -1,7 +1,7 @@
 //! The command `export`: the .pb file of a count, with what the file that was read has further.
 
+use crate::command_run::CommandRun;
 use crate::notes::Notes;
-use crate::run::Run;
 use crate::system::System;
 use csv::ByteRecord;
 use pb_command_line::Ballots;
@@ -9,13 +9,13 @@ use pb_commands::AppFault;
 use pb_commands::run_export::run_export;
 use pb_core::election::Election;
 use pb_export::{Carried, Carry};
-use pb_read::{Heed, Part, ReadFault, Stage, Warning, Watch};
+use pb_read::{Heed, Part, Refusal, Stage, Warning, Watch};
 use pb_words::export_words::ASKED_FOR;
 use std::io::Write;
 
 /// Counts these ballots, and writes their .pb file with what the count came to.
 pub(crate) fn export<'a, R: System, W: Write>(
-    run: &Run<'a, R>,
+    run: &CommandRun<'a, R>,
     ballots: &Ballots<'a>,
     writer: &mut W,
     notes: &mut Notes,
@@ -55,8 +55,8 @@ impl<H: Heed> Watch for ExportWatch<'_, H> {
         self.carried.see(record, at, part, election);
     }
 
-    fn refuse(&mut self, record: &ByteRecord, fault: ReadFault, stage: &Stage) {
-        self.warnings.refuse(record, fault, stage);
+    fn refuse(&mut self, record: &ByteRecord, refusal: Refusal, stage: &Stage) {
+        self.warnings.refuse(record, refusal, stage);
     }
 
     fn end(&mut self, election: &Election) {

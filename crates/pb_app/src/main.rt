@@ -3,6 +3,7 @@
 #![tactic(auto)]
 
 mod admitted;
+mod command_run;
 mod export;
 mod line_count;
 mod notes;
@@ -10,7 +11,6 @@ mod page;
 mod page_maker;
 mod page_watch;
 mod perform;
-mod run;
 mod run_page;
 mod serve;
 mod spent;

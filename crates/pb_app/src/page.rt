@@ -5,9 +5,9 @@ ghost use Rattle.pb_core.specs.Election.{ElectionView};
 ghost use Rattle.pb_commands.specs.Ends.{HasWritten};
 ghost use Rattle.pb_app.specs.Inner.Page.{IsPageBy};
 
+use crate::command_run::CommandRun;
 use crate::page_maker::PageMaker;
 use crate::page_watch::PageWatch;
-use crate::run::Run;
 use crate::run_page::run_page;
 use crate::system::System;
 use crate::worded::{refusal_of, words_file_words};
@@ -25,7 +25,7 @@ use std::io::{ErrorKind, Read, Write};
 /// written but the whole page. Where the fault is `Write` some of it may have gone out; on any other refusal
 /// the writer is as it was.
 pub(crate) fn page<'a, R: System, W: Write>(
-    run: &Run<'a, R>,
+    run: &CommandRun<'a, R>,
     asked: &PageRun<'a>,
     writer: &mut W,
     seen: &mut ResultWarnings,
@@ -51,7 +51,7 @@ pub(crate) fn page<'a, R: System, W: Write>(
 
 /// Opens the ballots of a page, counts them, and writes the page, while this one looks on at the file.
 fn write_page<'a, R: System, W: Write>(
-    run: &Run<'a, R>,
+    run: &CommandRun<'a, R>,
     maker: &PageMaker<'a, Speech>,
     watch: &mut PageWatch<'_, ResultWarnings>,
     writer: &mut W,

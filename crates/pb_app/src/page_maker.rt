@@ -36,7 +36,7 @@ pub(crate) struct PageMaker<'a, S> {
 
 /// What was asked and read for a page, but for what is counted.
 #[derive(Clone, Copy)]
-struct Seen<'a> {
+struct SeenOfFile<'a> {
     run: PageRun<'a>,
     /// The digest of the .pb file.
     file: Option<Hex>,
@@ -62,7 +62,7 @@ impl<S: Tongue> PageMaker<'_, S> {
             return Err(NoMemory);
         }
         let categories = notes.categories()?;
-        let seen = Seen {
+        let seen = SeenOfFile {
             run: self.run,
             file: self.file.get(),
             journal: self.journal.get(),
@@ -80,7 +80,7 @@ fn page_with<'a, T: Threads + Sync, G: Gate, S: Tongue>(
     counting: &Counting<T, G>,
     count: &CountedElection,
     speech: &'a S,
-    seen: &'a Seen<'a>,
+    seen: &'a SeenOfFile<'a>,
 ) -> Result<Vec<u8>, NoMemory>
     ensures { IfOk result (λ text. IsPageBy count.now.rule count.now.election text.items) }
 {
@@ -95,7 +95,7 @@ fn page_with<'a, T: Threads + Sync, G: Gate, S: Tongue>(
 }
 
 /// The currency that was asked for, or else the one that META names, if it is one.
-fn currency_of<'a>(seen: &'a Seen<'a>) -> Option<&'a str> {
+fn currency_of<'a>(seen: &'a SeenOfFile<'a>) -> Option<&'a str> {
     match seen.run.currency {
         Some(asked) => Some(asked),
         None => match seen.notes.currency() {
@@ -106,7 +106,7 @@ fn currency_of<'a>(seen: &'a Seen<'a>) -> Option<&'a str> {
 }
 
 /// What the page says beside the outcome, with this title and in this language.
-fn facts_of<'a>(seen: &'a Seen<'a>, title: &'a str, language: Language<'a>) -> Facts<'a> {
+fn facts_of<'a>(seen: &'a SeenOfFile<'a>, title: &'a str, language: Language<'a>) -> Facts<'a> {
     let run = &seen.run;
     let journal = match (&run.ballots.journal, &seen.journal) {
         (Some(given), Some(digest)) => Some(source_of(given, Some(digest))),
@@ -125,7 +125,7 @@ fn facts_of<'a>(seen: &'a Seen<'a>, title: &'a str, language: Language<'a>) -> F
 }
 
 /// The categories of the projects, if a project has one.
-fn categories_of<'a>(seen: &'a Seen<'a>) -> Option<Categories<'a>> {
+fn categories_of<'a>(seen: &'a SeenOfFile<'a>) -> Option<Categories<'a>> {
     if !seen.notes.has_categories() {
         return None;
     }

@@ -2,7 +2,7 @@
 
 use csv::ByteRecord;
 use pb_core::election::Election;
-use pb_read::{Heed, Part, ReadFault, Stage, Warning, Watch};
+use pb_read::{Heed, Part, Refusal, Stage, Warning, Watch};
 use pb_witness::page_notes::PageNotes;
 use std::alloc::Global;
 
@@ -34,8 +34,8 @@ impl<H: Heed> Watch for PageWatch<'_, H> {
         self.notes.see(record, at, part, election);
     }
 
-    fn refuse(&mut self, record: &ByteRecord, fault: ReadFault, stage: &Stage) {
-        self.warnings.refuse(record, fault, stage);
+    fn refuse(&mut self, record: &ByteRecord, refusal: Refusal, stage: &Stage) {
+        self.warnings.refuse(record, refusal, stage);
     }
 
     fn end(&mut self, election: &Election) {

@@ -1,9 +1,9 @@
 //! What the command line asks for, done on real files.
 
+use crate::command_run::CommandRun;
 use crate::export::export;
 use crate::notes::Notes;
 use crate::page::page;
-use crate::run::Run;
 use crate::serve::serve;
 use crate::system::System;
 use crate::tables::{audit, ballots, check, count, desk, tell};
@@ -47,7 +47,7 @@ fn write_result<'a, R: System, W: Write>(
         (false, false) => Telling::FirstRows,
     };
     let typing = Typing::new(telling, asked.task.admits().by_id);
-    let run = Run {
+    let run = CommandRun {
         counting: Counting {
             rt: progress.rt,
             alloc: progress.rt.alloc(),
@@ -74,7 +74,7 @@ fn write_result<'a, R: System, W: Write>(
 
 /// Does a task.
 fn do_task<R: System, W: Write>(
-    run: &Run<'_, R>,
+    run: &CommandRun<'_, R>,
     writer: &mut W,
     notes: &mut Notes,
 ) -> Result<(), Refusal> {

@@ -1,8 +1,8 @@
 //! The command `serve`: a desk that stands on a file.
 
 use crate::admitted::{RowNotice, rules_of};
+use crate::command_run::CommandRun;
 use crate::notes::Notes;
-use crate::run::Run;
 use crate::system::System;
 use crate::torn_file::{TORN, TornFile};
 use pb_command_line::{Admits, ServeRun};
@@ -38,7 +38,7 @@ use std::io::{Error, ErrorKind, Write};
 /// that are not.
 #[derive(Drop)]
 struct Serving<'a, 'r, R> {
-    run: &'r Run<'a, R>,
+    run: &'r CommandRun<'a, R>,
     rt: &'a R,
     alloc: Global,
     journal: &'a str,
@@ -49,7 +49,7 @@ struct Serving<'a, 'r, R> {
 /// Serves the requests of standard input on the desk of a .pb file, which stands on a journal. FILE and the
 /// roll are read before the journal is opened or made.
 pub(crate) fn serve<'a, R: System, W: Write>(
-    run: &Run<'a, R>,
+    run: &CommandRun<'a, R>,
     asked: &ServeRun<'a>,
     writer: &mut W,
     notes: &mut Notes,
@@ -74,7 +74,7 @@ pub(crate) fn serve<'a, R: System, W: Write>(
 
 /// The election of the .pb file, and which requests are admitted on its desk.
 fn read_both<'a, R: System>(
-    run: &Run<'a, R>,
+    run: &CommandRun<'a, R>,
     asked: &ServeRun<'a>,
     witness: &mut Witness,
 ) -> Result<(Election, Admission), AppFault> {

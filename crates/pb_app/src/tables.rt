@@ -1,18 +1,18 @@
 //! The commands that write a report, a table, a list or the journal of a script.
 
 use crate::admitted::{RowNotice, rules_of};
+use crate::command_run::CommandRun;
 use crate::line_count::LineCount;
 use crate::notes::Notes;
-use crate::run::Run;
 use crate::system::System;
 use pb_command_line::{AuditRun, Ballots, BallotsRun, CheckRun, DeskRun, Source};
 use pb_commands::run_audit::{AuditInputs, run_audit_watched};
 use pb_commands::run_ballots::run_ballots;
 use pb_commands::run_check::{run_check, run_check_against};
-use pb_commands::run_count::run_count_watched;
 use pb_commands::run_desk::run_admitted_desk;
+use pb_commands::run_history::run_history;
 use pb_commands::run_table::run_table;
-use pb_commands::{AppFault, Demand, Digests, Table, write_digested, write_out};
+use pb_commands::{AppFault, Demand, Digests, Inputs, Table, write_digested, write_out};
 use pb_core::gate::NoGate;
 use pb_faults::RunText;
 use pb_read::read_pb;
@@ -23,18 +23,22 @@ use std::mem;
 
 /// Counts a .pb file.
 pub(crate) fn count<R: System, W: Write>(
-    run: &Run<'_, R>,
+    run: &CommandRun<'_, R>,
     source: &Source<'_>,
     writer: &mut W,
     seen: &mut ResultWarnings,
 ) -> Result<(), AppFault> {
     let file = open_shown(run.counting.gate, source)?;
-    run_count_watched(&run.counting, file, seen, writer)
+    let inputs = Inputs {
+        file,
+        journal: None::<&[u8]>,
+    };
+    run_table(&run.counting, inputs, seen, writer, Table::Report)
 }
 
 /// Counts these ballots, and writes this table of the outcome.
 pub(crate) fn tell<'a, R: System, W: Write>(
-    run: &Run<'a, R>,
+    run: &CommandRun<'a, R>,
     ballots: &Ballots<'a>,
     table: Table,
     writer: &mut W,
@@ -46,7 +50,7 @@ pub(crate) fn tell<'a, R: System, W: Write>(
 
 /// Checks a .pb file, and keeps its faults and warnings.
 pub(crate) fn check<R: System, W: Write>(
-    run: &Run<'_, R>,
+    run: &CommandRun<'_, R>,
     asked: &CheckRun<'_>,
     writer: &mut W,
     notes: &mut Notes,
@@ -64,7 +68,7 @@ pub(crate) fn check<R: System, W: Write>(
 /// Lets clerks serve a script on the desk of a .pb file. What is typed at a terminal is not shown a second
 /// time. A fault of the file is told before one of the roll.
 pub(crate) fn desk<R: System, W: Write>(
-    run: &Run<'_, R>,
+    run: &CommandRun<'_, R>,
     asked: &DeskRun<'_>,
     writer: &mut W,
     notes: &mut Notes,
@@ -92,7 +96,7 @@ pub(crate) fn desk<R: System, W: Write>(
 /// Audits a journal on a .pb file: the report, alone or below the digests of what was read. Nothing is written
 /// before the whole text is there: a refusal is its line alone.
 pub(crate) fn audit<'a, R: System, W: Write>(
-    run: &Run<'a, R>,
+    run: &CommandRun<'a, R>,
     asked: &AuditRun<'a>,
     writer: &mut W,
     notes: &mut Notes,
@@ -120,7 +124,7 @@ pub(crate) fn audit<'a, R: System, W: Write>(
 
 /// Writes the report of an audit, and notes how many entries have which answer.
 fn report<'a, R: System, W: Write>(
-    run: &Run<'a, R>,
+    run: &CommandRun<'a, R>,
     asked: &AuditRun<'a>,
     writer: &mut W,
     notes: &mut Notes,
@@ -141,16 +145,19 @@ fn report<'a, R: System, W: Write>(
     audited
 }
 
-/// Writes the table of the ballots that a journal leaves on the desk of a file. Where one voter is named it
-/// notes whether that voter has none.
+/// Writes the table of the ballots that a journal leaves on the desk of a file, or of what one voter's ballot
+/// was. Where one voter is named it notes whether that voter has none.
 pub(crate) fn ballots<'a, R: System, W: Write>(
-    run: &Run<'a, R>,
+    run: &CommandRun<'a, R>,
     asked: &BallotsRun<'a>,
     writer: &mut W,
     notes: &mut Notes,
 ) -> Result<(), AppFault> {
     let (file, journal) = run.with_journal(&asked.file, &asked.journal)?;
     let voter = asked.voter.map(|voter| voter.trim());
+    if let (Some(voter), true) = (voter, asked.history) {
+        return run_history(run.counting.alloc, file, journal, voter, writer);
+    }
     let mut table = LineCount::new(writer);
     run_ballots(run.counting.alloc, file, journal, voter, &mut table)?;
     // The first line is the head.

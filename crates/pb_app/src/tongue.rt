@@ -7,12 +7,12 @@ use std::alloc::Global;
 /// A language that a page can be in.
 pub(crate) trait Tongue {
     /// What it says, with amounts of this currency if there is one.
-    fn said(&self, alloc: Global, currency: Option<&str>) -> Result<Said<'_>, NoMemory>;
+    fn said(&self, alloc: Global, currency: Option<&str>) -> Result<Spoken<'_>, NoMemory>;
 }
 
 /// What a language says on a page.
 #[derive(Drop)]
-pub(crate) struct Said<'a> {
+pub(crate) struct Spoken<'a> {
     /// The title of a page that is not given one.
     pub(crate) title: &'a str,
     sentences: Vec<&'a str>,
@@ -24,13 +24,13 @@ pub(crate) struct Said<'a> {
 }
 
 impl Tongue for Speech {
-    fn said(&self, alloc: Global, currency: Option<&str>) -> Result<Said<'_>, NoMemory> {
+    fn said(&self, alloc: Global, currency: Option<&str>) -> Result<Spoken<'_>, NoMemory> {
         let around = match around(alloc, self, currency) {
             Ok(around) => around,
             Err(_) => return Err(NoMemory),
         };
         match self.sentences(alloc) {
-            Ok(sentences) => Ok(Said {
+            Ok(sentences) => Ok(Spoken {
                 title: self.title(),
                 sentences,
                 plural: self.plural(),
@@ -58,7 +58,7 @@ fn around(
     }
 }
 
-impl Said<'_> {
+impl Spoken<'_> {
     /// The language of a page of whose election the budget and all costs are whole, or are not.
     pub(crate) fn language(&self, is_whole: bool) -> Language<'_> {
         Language {

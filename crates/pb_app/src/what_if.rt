@@ -1,6 +1,6 @@
 //! The command `whatif`: what would have made a project win.
 
-use crate::run::Run;
+use crate::command_run::CommandRun;
 use crate::system::System;
 use pb_command_line::{OneChange, WhatIfRun};
 use pb_commands::{AppFault, Changes, WhatIfFault, election_of, what_if_text, write_out};
@@ -15,7 +15,7 @@ use std::io::Write;
 /// Counts changed elections of these ballots, and writes the rows of what their counts say. What refuses the
 /// file and the journal, and when, is as for the tables.
 pub(crate) fn what_if<'a, R: System, W: Write>(
-    run: &Run<'a, R>,
+    run: &CommandRun<'a, R>,
     asked: &WhatIfRun<'a>,
     writer: &mut W,
     seen: &mut ResultWarnings,

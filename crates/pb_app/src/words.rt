@@ -204,9 +204,11 @@ fn path_of<'a>(asked: &Asked<'a>, text: RunText) -> &'a str {
 fn words_of_script<R: System>(rt: &R, task: &Task<'_>, fault: ScriptFault) -> Said {
     let alloc = rt.alloc();
     match fault {
-        ScriptFault::UnknownId(_) | ScriptFault::NotOnRoll(_) | ScriptFault::TooFew(_) => {
-            said(alloc, "", &[])
-        }
+        ScriptFault::UnknownId(_)
+        | ScriptFault::NotOnRoll(_)
+        | ScriptFault::TooFew(_)
+        | ScriptFault::FromFile(_)
+        | ScriptFault::NoShut(_) => said(alloc, "", &[]),
         _ => {
             let script = if is_serve(task) { None } else { task.paths().1 };
             script_words(rt, alloc, script, Some(fault), taking_of(task))

@@ -79,6 +79,20 @@ pub(crate) const LEAST: Argument = Argument {
     help: "The smallest number of projects that a new ballot may name [default: 0]",
 };
 
+/// Whether the ballots that came with the file are kept.
+pub(crate) const KEEP_FILE: Argument = Argument {
+    name: "keep-file-ballots",
+    takes: Takes::Nothing,
+    help: "Refuses each request for a voter whom FILE lists: ballots that came with FILE stay as they are",
+};
+
+/// Whether no request shuts the desk.
+pub(crate) const NO_SHUT: Argument = Argument {
+    name: "no-shut",
+    takes: Takes::Nothing,
+    help: "Refuses each request to shut the desk",
+};
+
 /// How many workers a count has.
 pub(crate) const WORKERS: Argument = Argument {
     name: "workers",
@@ -133,6 +147,13 @@ pub(crate) const VOTER: Argument = Argument {
     name: "voter",
     takes: Takes::Text("ID"),
     help: "Prints only the ballot of the voter with this id",
+};
+
+/// Whether the voter's entries are asked for.
+pub(crate) const HISTORY: Argument = Argument {
+    name: "history",
+    takes: Takes::Nothing,
+    help: "With --voter: prints the voter's ballot in FILE, and each entry for the voter with the ballot after it",
 };
 
 /// Whether an open desk is refused.
@@ -195,7 +216,7 @@ pub(crate) const QUIET_BALLOTS: Argument = Argument {
 pub(crate) const QUIET_SERVE: Argument = Argument {
     name: "quiet",
     takes: Takes::Nothing,
-    help: "Shows no summary, does not say why a row is not a valid request, and gives no instructions at a terminal",
+    help: "Shows no summary, does not say why a row is not a valid request, and at a terminal gives no instructions and no answers in words",
 };
 
 /// Whether it is shown.

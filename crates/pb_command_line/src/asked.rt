@@ -98,6 +98,7 @@ fn desk_of<'a>(name: &str, given: &ArgMatches<'a>, file: Source<'a>) -> Task<'a>
             file,
             journal: source_of(given, "JOURNAL"),
             voter: given.get_str("voter"),
+            history: given.get_flag("history"),
         }),
         "serve" => Task::Serve(ServeRun {
             file: path_of(given, "FILE"),
@@ -127,6 +128,8 @@ fn admits_of<'a>(given: &ArgMatches<'a>) -> Admits<'a> {
         by_id: given.get_flag("by-id"),
         roll: given.get_str("roll"),
         least: given.get_one("min").unwrap_or(0),
+        keeps_file: given.get_flag("keep-file-ballots"),
+        may_shut: !given.get_flag("no-shut"),
     }
 }
 

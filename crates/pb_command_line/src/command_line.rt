@@ -1,7 +1,7 @@
 //! The command line as `clap` reads it, built from the commands and their arguments.
 
 use crate::argument::{Argument, Takes};
-use crate::arguments::{AGAINST, PLAIN, VOTERS};
+use crate::arguments::{AGAINST, HISTORY, PLAIN, VOTER, VOTERS};
 use crate::commands::{CommandForm, forms};
 use crate::helps::{ABOUT, AFTER_HELP};
 use crate::rule::is_of_count;
@@ -69,22 +69,33 @@ fn with_arguments<'a>(
 ) -> Result<Command<'a>, AllocError> {
     let mut command = command;
     for argument in arguments {
-        let needs_against = asks_against && is_of_count(argument.name);
-        command = with_argument(alloc, command, argument, needs_against)?;
+        let needs = needed_by(argument.name, asks_against);
+        command = with_argument(alloc, command, argument, needs)?;
     }
     Ok(command)
 }
 
-/// A command with one argument more, which may be given only with `--against`, where that is so.
+/// The option without which the one of this name may not be given, if there is one.
+fn needed_by(name: &str, asks_against: bool) -> Option<&'static str> {
+    if name == HISTORY.name {
+        Some(VOTER.name)
+    } else if asks_against && is_of_count(name) {
+        Some(AGAINST.name)
+    } else {
+        None
+    }
+}
+
+/// A command with one argument more, which may be given only with this option, if one is named.
 fn with_argument<'a>(
     alloc: Global,
     command: Command<'a>,
     argument: &Argument,
-    needs_against: bool,
+    needs: Option<&'static str>,
 ) -> Result<Command<'a>, AllocError> {
-    let arg = match made(alloc, argument) {
-        Ok(arg) if needs_against => arg.requires_arg(AGAINST.name),
-        made => made,
+    let arg = match (made(alloc, argument), needs) {
+        (Ok(arg), Some(option)) => arg.requires_arg(option),
+        (made, _) => made,
     };
     match arg {
         Ok(arg) => command.arg(arg),

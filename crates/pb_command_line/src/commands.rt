@@ -3,9 +3,9 @@
 use crate::argument::Argument;
 use crate::arguments::{
     AGAINST, BY_ID, BY_PROJECT, CLERKS, COMPARE, COST, CURRENCY, DIGESTS, DURABLE, ELECTION,
-    JOURNAL, KEEP_VOTERS, LEAST, LEFT_BY, OTHER_FILE, OUTPUT, PROGRESS, PROJECT, QUIET,
-    QUIET_BALLOTS, QUIET_DESK, QUIET_SERVE, RECOUNT, REQUIRE_SHUT, ROLL, SCRIPT, SERVED, SHUT,
-    STRICT, TITLE, VOTER, VOTERS, WORDS, of_count, of_result,
+    HISTORY, JOURNAL, KEEP_FILE, KEEP_VOTERS, LEAST, LEFT_BY, NO_SHUT, OTHER_FILE, OUTPUT,
+    PROGRESS, PROJECT, QUIET, QUIET_BALLOTS, QUIET_DESK, QUIET_SERVE, RECOUNT, REQUIRE_SHUT, ROLL,
+    SCRIPT, SERVED, SHUT, STRICT, TITLE, VOTER, VOTERS, WORDS, of_count, of_result,
 };
 use crate::helps::{AFTER_BALLOTS, AFTER_SERVE};
 
@@ -197,7 +197,7 @@ const DESK: &CommandForm = &CommandForm {
     notes: "Manual pages: man pb_app-election, man pb_app-script, man pb_app-journal.",
     about: "Runs a file of requests (a script) on a new desk, and prints the journal",
     parts: &[Part::Own(&[
-        ELECTION, SCRIPT, CLERKS, SHUT, BY_ID, ROLL, LEAST, OUTPUT, QUIET_DESK, PROGRESS,
+        ELECTION, SCRIPT, CLERKS, SHUT, BY_ID, ROLL, LEAST, KEEP_FILE, OUTPUT, QUIET_DESK, PROGRESS,
     ])],
 };
 
@@ -230,6 +230,7 @@ const BALLOTS: &CommandForm = &CommandForm {
         ELECTION,
         JOURNAL,
         VOTER,
+        HISTORY,
         OTHER_FILE,
         OUTPUT,
         QUIET_BALLOTS,
@@ -246,5 +247,15 @@ const SERVE: &CommandForm = &CommandForm {
     name: "serve",
     notes: AFTER_SERVE,
     about: "Runs a desk: takes requests from standard input, and writes each to the journal on disk before it answers",
-    parts: &[Part::Own(&[SERVED, DURABLE, OTHER_FILE, BY_ID, ROLL, LEAST, QUIET_SERVE])],
+    parts: &[Part::Own(&[
+        SERVED,
+        DURABLE,
+        OTHER_FILE,
+        BY_ID,
+        ROLL,
+        LEAST,
+        KEEP_FILE,
+        NO_SHUT,
+        QUIET_SERVE,
+    ])],
 };

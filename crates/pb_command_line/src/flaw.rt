@@ -2,7 +2,7 @@
 
 use crate::address::{is_address, lacks_scheme};
 use crate::currency::is_currency;
-use crate::task::{OneChange, PageRun, Source, Task, WhatIfRun};
+use crate::task::{BallotsRun, OneChange, PageRun, Source, Task, WhatIfRun};
 use pb_core::money::Money;
 
 /// Why arguments are refused although each has its form.
@@ -22,6 +22,8 @@ pub(crate) enum Flaw<'a> {
     Currency(&'a str),
     /// No project can have the one cost that is tried.
     Cost,
+    /// No voter has the id whose history is asked for: it is empty.
+    NoVoter,
 }
 
 impl<'a> Flaw<'a> {
@@ -44,6 +46,9 @@ impl<'a> Flaw<'a> {
         }
         if has_no_cost(task) {
             return Some(Flaw::Cost);
+        }
+        if has_no_voter(task) {
+            return Some(Flaw::NoVoter);
         }
         None
     }
@@ -72,6 +77,9 @@ impl<'a> Flaw<'a> {
             Flaw::Cost => eprintln!(rt;
                 "error: --cost must be an amount from 0.01 to 10000000000000. Write it with digits only, like 53.66: no currency, nothing between thousands, at most two decimals."
             ),
+            Flaw::NoVoter => {
+                eprintln!(rt; "error: --history needs the id of a voter. Give it with --voter.")
+            }
         };
     }
 }
@@ -133,6 +141,20 @@ fn has_no_cost(task: &Task<'_>) -> bool {
                 ..
             },
         ) => *cost == Money(0),
+        _ => false,
+    }
+}
+
+/// Whether the history of a voter is asked for whose id is empty.
+fn has_no_voter(task: &Task<'_>) -> bool {
+    match task {
+        Task::Ballots(
+            BallotsRun {
+                voter: Some(voter),
+                history: true,
+                ..
+            },
+        ) => voter.trim().is_empty(),
         _ => false,
     }
 }

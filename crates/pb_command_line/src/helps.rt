@@ -61,13 +61,24 @@ pub(crate) const AFTER_SERVE: &str =
   VOTER    the voter's id; empty for shut
   PLACES   the positions of the projects in FILE, counted from 0, with `,` between them; empty for withdraw and shut
 
-One request of each kind:
+For example:
   0;cast;ann;0,2
   0;replace;ann;1
   0;withdraw;ann;
-  0;shut;;
 
-The answer to a request is its row of the journal, printed as soon as that row is on the disk.
+When the voting is over, the row 0;shut;; shuts the desk. That is final: no row opens it again.
+
+The answer to a request is its row of the journal, printed as soon as that row is on the disk. Its last field says what
+came of the request:
+  done             it was carried out
+  desk-shut        not carried out: the desk is shut
+  unknown-place N  not carried out: no project has the position N
+  too-long         not carried out: the ballot names more projects than FILE allows
+  already-cast     cast not carried out: the voter has a ballot already
+  voter-limit      cast not carried out: the desk has 1,000,000 ballots
+  no-ballot        replace or withdraw not carried out: the voter has no ballot
+
+With --by-id, standard error at a terminal also says each answer in words, with the voter and the ids of the projects.
 
 A refused row is not recorded. Its answer is fault;script;CODE;NAME;ROW. Standard error explains it in words. If the
 requests come from a file or from another program, it explains only the first five rows that are not valid requests.
@@ -77,6 +88,8 @@ Why a row is refused:
   5;UnknownId  with --by-id: no project has this id
   6;NotOnRoll  with --roll: the voter is not on the roll
   7;TooFew     with --min: the ballot names too few projects
+  8;FromFile   with --keep-file-ballots: the voter's ballot came with FILE
+  9;NoShut     with --no-shut: the row shuts the desk
 
 The output begins with the row entries;N;open or entries;N;shut: the journal has N entries. If the journal ended in an
 incomplete row (after a crash), serve moves that end to JOURNAL.torn, and prints the row torn;BYTES first. BYTES is how
@@ -108,10 +121,15 @@ pub(crate) const AFTER_BALLOTS: &str =
 ballot, counted from 1. If it is empty, the ballot is still the one in FILE. The third field, `project_ids`, has the ids
 of the ballot's projects, with `,` between them. You can run this command while pb_app serve is using JOURNAL.
 
+With --history, each row is number;clerk;request;places;answer;has;ballot: an entry of the journal for this voter, and what
+the voter had after it. `has` is 1 if the voter had a ballot, which may name no project, and 0 if not. `ballot` has the
+positions of its projects. The first row has the number 0, and what the voter has in FILE.
+
 The table shows who votes for what. If --output creates a new file, only you can read that file.
 
 Examples:
   pb_app ballots city.pb city.journal
   pb_app ballots city.pb city.journal --voter ann
+  pb_app ballots city.pb city.journal --voter ann --history
 
 Manual pages: man pb_app-election, man pb_app-journal, man 5 pb_app-ballots.";

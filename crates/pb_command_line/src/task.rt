@@ -40,6 +40,10 @@ pub struct Admits<'a> {
     pub roll: Option<&'a str>,
     /// How many projects a ballot has at least.
     pub least: u32,
+    /// No request is for a voter whom the file lists.
+    pub keeps_file: bool,
+    /// A request may shut the desk.
+    pub may_shut: bool,
 }
 
 /// A desk of a .pb file that stands on a journal; standard input asks.
@@ -92,6 +96,8 @@ pub struct BallotsRun<'a> {
     pub journal: Source<'a>,
     /// The voter whose ballot is asked for, as it was given; with none all are.
     pub voter: Option<&'a str>,
+    /// What the voter's ballot was is asked for, entry by entry.
+    pub history: bool,
 }
 
 /// A check of a .pb file.
@@ -230,6 +236,8 @@ impl<'a> Task<'a> {
                 by_id: false,
                 roll: None,
                 least: 0,
+                keeps_file: false,
+                may_shut: true,
             },
         }
     }

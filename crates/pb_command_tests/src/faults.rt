@@ -88,6 +88,14 @@ const FAULTS: &[(ScriptFault, &str)] = &[
         ScriptFault::TooFew(7),
         "7 TooFew: the ballot of row 7 has too few projects",
     ),
+    (
+        ScriptFault::FromFile(7),
+        "8 FromFile: the ballot of the voter of row 7 came with the file, and is kept",
+    ),
+    (
+        ScriptFault::NoShut(7),
+        "9 NoShut: row 7 shuts the desk, and no row may",
+    ),
 ];
 
 /// The fault's number, name and text are these.

@@ -1,8 +1,8 @@
 //! What a count tells of its raises while it is done.
 
 use crate::checks::{THREE_VOTERS, same};
-use pb_commands::Counting;
-use pb_commands::run_count::run_count_watched;
+use pb_commands::run_table::run_table;
+use pb_commands::{Counting, Inputs, Table};
 use pb_core::gate::Gate;
 use pb_core::money::Money;
 use pb_read::NoWatch;
@@ -63,7 +63,11 @@ fn a_count_tells_of_its_raises(rt: HostRuntime) {
         gate: &told,
         rule: &rule,
     };
-    let counted = run_count_watched(&counting, file, &mut NoWatch, &mut report);
+    let inputs = Inputs {
+        file,
+        journal: None::<&[u8]>,
+    };
+    let counted = run_table(&counting, inputs, &mut NoWatch, &mut report, Table::Report);
     same(&rt, counted.is_ok(), true, "a count");
     drop(report);
     same(

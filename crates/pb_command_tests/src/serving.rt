@@ -12,7 +12,7 @@ use pb_durable::{Device, DeviceFault, DurableDesk, JournalFile, OpenedDesk, open
 use pb_read::read_pb;
 use pb_script::{Admission, NoNotice, Notice, RequestRows, RowRefusal, ScriptFault};
 use pb_serving::run_serve::run_serve;
-use pb_serving::{Always, Pace, Session};
+use pb_serving::{Always, RowsAtHand, Session};
 use std::alloc::Global;
 use std::cell::Cell;
 use std::io::{Read, Result, Write};
@@ -96,7 +96,7 @@ impl Read for Clerk<'_> {
 /// The pace of a clerk who types a row at a time.
 struct Never;
 
-impl Pace for Never {
+impl RowsAtHand for Never {
     fn has_row(&self) -> bool {
         false
     }
@@ -226,7 +226,7 @@ fn opened<'a>(
 }
 
 /// Serves the rows of this input on a desk that is open to all; nobody listens.
-fn served<R: Read + Drop, P: Pace, W: Write>(
+fn served<R: Read + Drop, P: RowsAtHand, W: Write>(
     alloc: Global,
     opened: (DurableDesk<Disk<'_>>, usize),
     input: R,
@@ -237,7 +237,7 @@ fn served<R: Read + Drop, P: Pace, W: Write>(
 }
 
 /// Serves the rows of this input on a desk that is open to all, and tells the notice.
-fn served_to<R: Read + Drop, P: Pace, N: Notice, W: Write>(
+fn served_to<R: Read + Drop, P: RowsAtHand, N: Notice, W: Write>(
     alloc: Global,
     (mut desk, torn): (DurableDesk<Disk<'_>>, usize),
     input: R,

@@ -27,6 +27,8 @@ use Rattle.pb_commands.specs.Closed.{Gives}
 use Rattle.pb_commands.specs.Ends.{IsOutsideFault}
 use Rattle.pb_faults.specs.Fault.{merged}
 use Rattle.pb_commands.specs.Report.{report_of}
+use Rattle.pb_commands.specs.Tables.{IsTableOf, table_of}
+use Rattle.pb_commands.specs.declared.table.Table.TheVariants.{Report}
 use Rattle.pb_script.specs.declared.roll.RollFault.{RollFault}
 use Rattle.pb_script.specs.declared.roll.RollFault.TheVariants as roll
 use Rattle.pb_script.specs.declared.script_fault.ScriptFault.{ScriptFault}
@@ -109,7 +111,11 @@ one_report rule e a b first second =
     first.2 ∙ ap (report_of e) one.2 ∙ ap (λ o. report_of e (counted e rule.fill_up o)) outcome
     ∙ report_of_other e rule.fill_up other.0 one.0.priced ∙ ap (report_of e) (sym other.2) ∙ sym second.2
 
-pub one_text : (rule : Rule) (bytes : List ℕ) (a b : List ℕ) → Gives (IsTold report_of rule) bytes None a → Gives (IsTold report_of rule) bytes None b → a ≡ b
+report_told : (rule : Rule) (e : ElectionView) (text : List ℕ) → IsTableOf Report rule e text → IsTold report_of rule e text
+unfolding table_of
+report_told rule e text is = (is.0, is.1, is.3)
+
+pub one_text : (rule : Rule) (bytes : List ℕ) (a b : List ℕ) → Gives (IsTableOf Report rule) bytes None a → Gives (IsTableOf Report rule) bytes None b → a ≡ b
 one_text rule bytes a b first second =
     let report = rw (one_election (records_of bytes) second.0 first.0 second.1 first.1) at second.2 in
-    one_report rule first.0 a b first.2 report
+    one_report rule first.0 a b (report_told rule first.0 a first.2) (report_told rule first.0 b report)

@@ -1,10 +1,11 @@
--- A file and a journal have one table of ballots.
-use Rattle.std.proofs.Common.{◌≡◌, ℕ, List, Option, sym, ◌∙◌, ap}
-use Rattle.pb_commands.specs.Ballots.{BallotsWrites, ballots_table}
+-- A file and a journal have one text of each table of their desk.
+use Rattle.std.proofs.Common.{◌≡◌, ℕ, List, sym, ◌∙◌, ap}
+use Rattle.pb_desk.specs.Desk.{DeskView}
+use Rattle.pb_commands.specs.Ballots.{BallotsWrites}
 use Rattle.pb_commands.proofs.AuditAccepted.{one_desk}
 
 -- a file and a journal have one table
-pub one_table : (voter : Option (List ℕ)) (bytes journal first second : List ℕ) → BallotsWrites voter bytes journal first → BallotsWrites voter bytes journal second
+pub one_table : (table : DeskView → List ℕ) (bytes journal first second : List ℕ) → BallotsWrites table bytes journal first → BallotsWrites table bytes journal second
     → first ≡ second
-one_table voter bytes journal first second one other =
-    one.2 ∙ ap (ballots_table voter) (one_desk bytes journal one.0 other.0 one.1 other.1) ∙ sym other.2
+one_table table bytes journal first second one other =
+    one.2 ∙ ap table (one_desk bytes journal one.0 other.0 one.1 other.1) ∙ sym other.2

@@ -58,6 +58,10 @@ script_from_outside a clerks records said fault is fails = by fault fails.1 fail
     by (script.NotOnRoll row) (fields ∷ rest) are next = absurd (none fields rest are next.0 next.3)
     by (script.TooFew row) [] are next = absurd next
     by (script.TooFew row) (fields ∷ rest) are next = absurd (none fields rest are next.0 next.3)
+    by (script.FromFile row) [] are next = absurd next
+    by (script.FromFile row) (fields ∷ rest) are next = absurd (none fields rest are next.0 next.3)
+    by (script.NoShut row) [] are next = absurd next
+    by (script.NoShut row) (fields ∷ rest) are next = absurd (none fields rest are next.0 next.3)
     by script.TooManyRows [] are next = absurd next
     by script.TooManyRows (fields ∷ rest) are next = let few = is.few in absurd (omega (arith, next, ap length are, length-append fails.0 (fields ∷ rest)))
     by script.NoMemory left are next = refl

@@ -20,6 +20,7 @@ pub mod BallotsRuns
 pub mod LastGiven
 pub mod BallotsOnce
 pub mod GivenBallots
+pub mod Histories
 pub mod BallotRows
 pub mod IdsText
 mod Exports

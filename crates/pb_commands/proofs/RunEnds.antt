@@ -23,9 +23,8 @@ use Rattle.pb_commands.proofs.CountEnds.{Outcomes, count_late, count_of_any, non
 use Rattle.pb_commands.proofs.Endings.{Bars, FailsAs, IsElectionFile, known_all, known_map, late_end, memory_end, passed_on}
 use Rattle.pb_commands.proofs.InputEnds.{file_of, one_left}
 use Rattle.pb_commands.specs.Audited.{AuditWrites, IsDeskOf, IsTextOf}
-use Rattle.pb_commands.specs.Ballots.{BallotsWrites, ballots_table}
+use Rattle.pb_commands.specs.Ballots.{BallotsWrites}
 use Rattle.pb_commands.specs.Closed.{CountRefuses, Gives, Leaves, LeavesNone}
-use Rattle.pb_commands.specs.Counted.{IsTold}
 use Rattle.pb_commands.specs.declared.demand.Demand.{Demand}
 use Rattle.pb_commands.specs.declared.demand.Demand.TheVariants.{Shut}
 use Rattle.pb_commands.specs.Ends.{Ends, FailsBy, IfBothKnown, IsOutsideFault}
@@ -58,11 +57,7 @@ writes_of IsSuch files journals e text leaves such =
 pub is_count_by : (x : CountedElectionView) (rule : Rule) → IsCountedElection x → x.rule ≡ rule → IsCountBy rule x.election x.counted
 is_count_by x rule is same = subst (λ (rule : Rule). IsCountBy rule x.election x.counted) same (x.counted.outcome, is.is_count, is.is_filled_up)
 
--- what is told of a count
-pub told_counts : (told : ElectionView → CountedView → List ℕ) (rule : Rule) (e : ElectionView) (text : List ℕ) → IsTold told rule e text → (o : OutcomeView) × IsCountOf e rule.options o
-told_counts told rule e text is = let count = is.1 in (count.0, count.1)
-
--- a table
+-- a report or a table
 pub table_counts : (table : Table) (rule : Rule) (e : ElectionView) (text : List ℕ) → IsTableOf table rule e text → (o : OutcomeView) × IsCountOf e rule.options o
 table_counts table rule e text told = let count = told.1 in (count.0, count.1)
 
@@ -139,15 +134,15 @@ module _ (rule : Rule) (files : Option (List ℕ)) (journals : Option (Option (L
 
 -- an audit, and its ballots
 module _ (files journals : Option (List ℕ)) (warning : Option Warning) where
-  pub ballots_pass : (voter : Option (List ℕ)) {T A : Type 0} (fault : AppFault) → fault ≢ Write → Ends {T = T} IsDeskOf (λ bytes rows. LeavesNone bytes (Some rows)) files journals warning (Err fault)
-      → Ends {T = A} (BallotsWrites voter) (λ bytes rows. LeavesNone bytes (Some rows)) files journals warning (Err fault)
-  ballots_pass voter fault reads ends =
-      passed_on (λ (rows : List ℕ). rows) IsDeskOf (λ bytes rows. LeavesNone bytes (Some rows)) (BallotsWrites voter) (λ bytes rows. LeavesNone bytes (Some rows)) files journals journals warning fault
+  pub ballots_pass : (table : DeskView → List ℕ) {T A : Type 0} (fault : AppFault) → fault ≢ Write → Ends {T = T} IsDeskOf (λ bytes rows. LeavesNone bytes (Some rows)) files journals warning (Err fault)
+      → Ends {T = A} (BallotsWrites table) (λ bytes rows. LeavesNone bytes (Some rows)) files journals warning (Err fault)
+  ballots_pass table fault reads ends =
+      passed_on (λ (rows : List ℕ). rows) IsDeskOf (λ bytes rows. LeavesNone bytes (Some rows)) (BallotsWrites table) (λ bytes rows. LeavesNone bytes (Some rows)) files journals journals warning fault
       (λ rows is. is) (λ bytes rows e refused. refused) (λ bytes rows text writes. (writes.0, writes.1)) reads ends
 
-  pub ballots_known : (d : DeskView) → IfBothKnown files journals (λ bytes rows. IsDeskOf bytes rows d) → (voter : Option (List ℕ)) (text : List ℕ) → text ≡ ballots_table voter d
-      → IfBothKnown files journals (λ bytes rows. BallotsWrites voter bytes rows text)
-  ballots_known d is voter text told = known_map (λ bytes rows. IsDeskOf bytes rows d) (λ bytes rows. BallotsWrites voter bytes rows text) files journals (λ bytes rows is. (d, is, told)) is
+  pub ballots_known : (d : DeskView) → IfBothKnown files journals (λ bytes rows. IsDeskOf bytes rows d) → (table : DeskView → List ℕ) (text : List ℕ) → text ≡ table d
+      → IfBothKnown files journals (λ bytes rows. BallotsWrites table bytes rows text)
+  ballots_known d is table text told = known_map (λ bytes rows. IsDeskOf bytes rows d) (λ bytes rows. BallotsWrites table bytes rows text) files journals (λ bytes rows is. (d, is, told)) is
 
 -- what refuses the count of a shut desk's ballots refuses its audit
 refused_count : (options : CountOptions) (bytes rows : List ℕ) (d : DeskView) (fault : CountFault) → IsRefusedDesk d options fault → IsDeskOf bytes rows d

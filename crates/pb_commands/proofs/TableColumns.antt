@@ -4,7 +4,7 @@ use Rattle.std.specs.Prelude.{if◌then◌else◌, slice_index_or}
 use Rattle.std.specs.List.{range_with_len}
 use Rattle.std.proofs.lemmas.List.FromFn.{map-range_with_len_more}
 use Rattle.std.proofs.lemmas.List.{get_or-map, map-append}
-use Rattle.pb_core.specs.Election.{ElectionView, ProjectView, VoterView, project_ids, voter_ids}
+use Rattle.pb_core.specs.Election.{ElectionView, ProjectView, VoterView}
 use Rattle.pb_core.specs.MoneyText.{money_text}
 use Rattle.pb_price.specs.Supporters.{support_of}
 use Rattle.pb_reasons.proofs.WinnerSums.{cost_at-known}

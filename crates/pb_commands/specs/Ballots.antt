@@ -37,6 +37,6 @@ unfoldable pub ballots_table : Option (List ℕ) → DeskView → List ℕ
 ballots_table voter d = table_text (ballot_columns d)
     (filter (λ b. option_map_or (bytes_eq b.0) voter true) (standing_of d).ballots)
 
--- what these bytes make a run of `ballots` write
-abbrev pub BallotsWrites : Option (List ℕ) → List ℕ → List ℕ → List ℕ → Type 0
-BallotsWrites voter bytes journal text = (d : DeskView) × IsDeskOf bytes journal d × (text ≡ ballots_table voter d)
+-- what these bytes make a run of `ballots` write: this table of their desk
+abbrev pub BallotsWrites : (DeskView → List ℕ) → List ℕ → List ℕ → List ℕ → Type 0
+BallotsWrites table bytes journal text = (d : DeskView) × IsDeskOf bytes journal d × (text ≡ table d)

@@ -1,6 +1,7 @@
 -- What a run of `desk` writes, and what it refuses.
-use Rattle.std.specs.Prelude.{ℕ, Bool, List, None, Some, if◌then◌else◌}
-use Rattle.pb_core.specs.Election.{ElectionView, project_ids}
+use Rattle.std.specs.Prelude.{ℕ, Bool, List, None, Some, fold, if◌then◌else◌}
+use Rattle.std.specs.FinMap as table
+use Rattle.pb_core.specs.Election.{ElectionView, project_ids, voter_ids}
 use Rattle.pb_rows.specs.Reading.{records_of}
 use Rattle.pb_script.specs.Served.{IsServeFault, IsServed}
 use Rattle.pb_script.specs.declared.admission.Admission.{Admission}
@@ -10,9 +11,12 @@ use Rattle.pb_commands.specs.declared.run_desk.Rules.{Rules}
 use Rattle.pb_faults.specs.declared.fault.AppFault.{AppFault}
 use Rattle.pb_faults.specs.declared.fault.AppFault.TheVariants.{Script, ClerkCount}
 
--- which requests these rules admit on the desk of an election
+-- which requests these rules admit on the desk of an election: the voters who are kept are its voters
 abbrev pub admission_on : Rules → ElectionView → Admission
-admission_on rules e = if rules.by_id then record rules.admission { ids = Some (project_ids e) } else rules.admission
+admission_on rules e = record rules.admission {
+  ids = if rules.by_id then Some (project_ids e) else rules.admission.ids;
+  kept = if rules.keeps_file then Some (fold (λ ids id. table.insert ids id 0) table.empty (voter_ids e)) else rules.admission.kept;
+}
 
 -- what these bytes, as a file and as a script for this many clerks, make a run of `desk` by these rules write
 -- that shuts the desk at its end, or does not

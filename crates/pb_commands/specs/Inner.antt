@@ -5,6 +5,7 @@ pub mod Ballots
 pub mod Checked
 pub mod DeskRun
 pub mod Exporting
+pub mod History
 pub mod Report
 pub mod Tables
 pub mod WhatIf

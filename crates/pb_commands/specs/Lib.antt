@@ -9,5 +9,6 @@ pub mod DeskRun
 pub mod Checked
 pub mod Closed
 pub mod Exported
+pub mod History
 pub mod WhatIf
 pub mod Inner

@@ -1,4 +1,5 @@
--- The tables of a count by their columns: of projects, of voters, and beside most votes first.
+-- What is written of a count: its report, or a table by its columns, of projects, of voters, or beside most
+-- votes first.
 use Rattle.std.specs.Prelude.{◌≡◌, ℕ, List, [], ◌∷◌, ◌++◌, codes, decimal, if◌then◌else◌, length, map}
 use Rattle.std.specs.Prelude.{slice_index_or}
 use Rattle.std.specs.List.{join_with_byte, range_with_len}
@@ -20,8 +21,9 @@ use Rattle.pb_rounds.specs.PriceSystem.{IsPriceSystem}
 use Rattle.pb_rounds.specs.RuleNames.{fills_up}
 use Rattle.pb_rounds.specs.declared.rule.Rule.{Rule}
 use Rattle.pb_rows.specs.Tables.{Column, table_text}
+use Rattle.pb_commands.specs.Report.{report_of}
 use Rattle.pb_commands.specs.declared.table.Table.{Table}
-use Rattle.pb_commands.specs.declared.table.Table.TheVariants.{Projects, RuledProjects, Rules, Voters}
+use Rattle.pb_commands.specs.declared.table.Table.TheVariants.{Projects, Report, RuledProjects, Rules, Voters}
 
 -- the columns that begin each table of projects, each by its place
 abbrev pub project_head : ElectionView → List (Column ℕ)
@@ -75,16 +77,18 @@ ruled_columns e c = project_head e
     ++ (codes "equal_shares", λ place. decimal (if is_taken (winners_of c) place then 1 else 0))
     ∷ (codes "most_votes", λ place. decimal (if is_taken (elected_by_votes e) place then 1 else 0)) ∷ []
 
--- a table of a count, as text: rows in the order of the file; of rules the count's comes before the other
+-- a report or a table of a count, as text: rows in the order of the file; of rules the count's comes before
+-- the other
 unfoldable pub table_of : Table → ElectionView → CountedView → List ℕ
+table_of Report e c = report_of e c
 table_of Projects e c = table_text (project_columns e c) (range_with_len 0 (length e.projects))
 table_of Voters e c = table_text (voter_columns e c) (range_with_len 0 (length e.voters))
 table_of Rules e c = table_text rule_columns
     ((codes "equal shares", (beside_votes e c).own) ∷ (codes "most votes", (beside_votes e c).other) ∷ [])
 table_of RuledProjects e c = table_text (ruled_columns e c) (range_with_len 0 (length e.projects))
 
--- the text is this table of a count of the election by this rule; the payments that it tells are a price system
--- of the elected
+-- the text is this report or table of a count of the election by this rule; the payments of the count are a
+-- price system of the elected
 abbrev pub IsTableOf : Table → Rule → ElectionView → List ℕ → Type 0
 IsTableOf table rule e text = (c : CountedView) × IsCountBy rule e c × IsPriceSystem (support_of e) c.outcome.share
     c.outcome.elected c.outcome.rests (all_payments e c.outcome) × (text ≡ table_of table e c)

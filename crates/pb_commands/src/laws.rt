@@ -22,26 +22,27 @@ ghost use Rattle.pb_faults.specs.DeskRow.{entries_row};
 ghost use Rattle.pb_commands.specs.Audited.{AuditWrites, IsDeskOf, IsTextOf};
 ghost use Rattle.pb_commands.specs.Ballots.{BallotsWrites, last_given};
 ghost use Rattle.pb_commands.specs.Closed.{Gives};
-ghost use Rattle.pb_commands.specs.Counted.{IsTold};
 ghost use Rattle.pb_commands.specs.declared.demand.Demand.{Demand};
 ghost use Rattle.pb_commands.specs.declared.demand.Demand.TheVariants.{Any};
 ghost use Rattle.pb_commands.specs.DeskRun.{DeskWrites, admission_on};
 ghost use Rattle.pb_commands.specs.declared.run_desk.Rules.{Rules};
 ghost use Rattle.pb_commands.specs.Report.{report_of};
+ghost use Rattle.pb_commands.specs.Tables.{IsTableOf};
+ghost use Rattle.pb_commands.specs.declared.table.Table.TheVariants.{Report};
 
 use pb_core::answer::Answer;
 
 /// What is written is a function of the bytes that are read and of the rule: a file has one report at
-/// most, and a file and a journal have one text and one table of ballots at most.
+/// most, and a file and a journal have one text at most, and one table of ballots of each kind.
 pub fn one_report()
     ensures counted { (bytes : List ℕ) (rule : Rule) (first second : List ℕ)
-        → Gives (IsTold report_of rule) bytes None first → Gives (IsTold report_of rule) bytes None second
+        → Gives (IsTableOf Report rule) bytes None first → Gives (IsTableOf Report rule) bytes None second
         → first ≡ second }
     ensures audited { (demand : Demand) (rule : Rule) (bytes journal first second : List ℕ)
         → AuditWrites demand rule bytes journal first → AuditWrites demand rule bytes journal second
         → first ≡ second }
-    ensures ballots { (voter : Option (List ℕ)) (bytes journal first second : List ℕ)
-        → BallotsWrites voter bytes journal first → BallotsWrites voter bytes journal second
+    ensures ballots { (table : DeskView → List ℕ) (bytes journal first second : List ℕ)
+        → BallotsWrites table bytes journal first → BallotsWrites table bytes journal second
         → first ≡ second }
 {}
 

@@ -91,7 +91,7 @@ fn put_project(
 
 /// The fields on how a project ended; those of another ending are empty.
 #[derive(Clone, Copy)]
-struct Said {
+struct EndingFields {
     round: Field<'static>,
     price: Field<'static>,
     collected: Field<'static>,
@@ -102,7 +102,7 @@ struct Said {
 }
 
 /// No field.
-const NOTHING: Said = Said {
+const NOTHING: EndingFields = EndingFields {
     round: Field::Empty,
     price: Field::Empty,
     collected: Field::Empty,
@@ -113,25 +113,25 @@ const NOTHING: Said = Said {
 };
 
 /// The fields on how a project ended.
-fn said_of(ending: Ending) -> Said
+fn said_of(ending: Ending) -> EndingFields
     ensures { (e : ElectionView) (c : CountedView) (place : ℕ) → ending ≡ (project_reason e c place).ending
         → field_text result.round ∷ field_text result.price ∷ field_text result.collected
         ∷ field_text result.in_full ∷ field_text result.left ∷ field_text result.missing
         ∷ field_text result.added ∷ [] ≡ drop 5 (row_of (all_columns e c) place) }
 {
     match ending {
-        Ending::Won(won) => Said {
+        Ending::Won(won) => EndingFields {
             round: Field::number(won.round),
             price: Field::amount(won.price),
             collected: Field::amount(won.collected),
             in_full: Field::number(won.in_full),
             ..NOTHING
         },
-        Ending::Added(added) => Said {
+        Ending::Added(added) => EndingFields {
             added: Field::Number(added.number),
             ..NOTHING
         },
-        Ending::Lost(lost) => Said {
+        Ending::Lost(lost) => EndingFields {
             left: Field::amount(lost.left),
             missing: Field::amount(lost.missing),
             ..NOTHING

@@ -2,7 +2,7 @@
 
 ghost use Rattle.std.specs.Prelude.{◌≢◌, IfErr, None, Some};
 ghost use Rattle.std.specs.Option.{option_copied};
-ghost use Rattle.pb_commands.specs.Ballots.{BallotsWrites};
+ghost use Rattle.pb_commands.specs.Ballots.{BallotsWrites, ballots_table};
 ghost use Rattle.pb_commands.specs.Closed.{LeavesNone};
 ghost use Rattle.pb_commands.specs.Ends.{Runs};
 
@@ -26,7 +26,7 @@ pub fn run_ballots<P: Read + Drop, J: Read + Drop, W: Write>(
     voter: Option<&str>,
     writer: &mut W,
 ) -> Result<(), AppFault>
-    ensures runs { Runs (BallotsWrites (option_copied voter.entry))
+    ensures runs { Runs (BallotsWrites (ballots_table (option_copied voter.entry)))
         (λ bytes rows. LeavesNone bytes (Some rows)) (P.remaining file) (J.remaining journal) None
         W.contents writer.old writer.new result }
 

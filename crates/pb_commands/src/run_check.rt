@@ -8,9 +8,9 @@ ghost use Rattle.pb_rows.specs.Reading.{records_of};
 ghost use Rattle.pb_rows.specs.Writing.{text_of_row, text_of_rows};
 ghost use Rattle.pb_read.specs.Listed.{AreListed};
 ghost use Rattle.pb_read.specs.StandsFor.{StandsFor};
-ghost use Rattle.pb_commands.specs.Checked.{IsTextOfCheck};
+ghost use Rattle.pb_commands.specs.Checked.{IsTextOfCheck, warning_row};
 ghost use Rattle.pb_commands.specs.Closed.{Gives};
-ghost use Rattle.pb_commands.specs.Inner.Checked.{CheckFails, fault_row, warning_row};
+ghost use Rattle.pb_commands.specs.Inner.Checked.{CheckFails, fault_row};
 ghost use Rattle.pb_commands.specs.Ends.{HasWritten};
 
 use crate::counting::{Counting, counted};
@@ -38,12 +38,12 @@ pub fn run_check<R: Read + Drop, W: Write, N: Warn>(
     writer: &mut W,
     notes: &mut N,
 ) -> Result<Vec<ReadFault>, AppFault>
-    // Where the reader's bytes are known, the faults that are answered are theirs, and the rows are those of
-    // the faults.
+    // Where the reader's bytes are known, the faults that are answered are theirs. The rows are those of the
+    // faults, and of the warnings that who looks on has answered.
     ensures faults { IfSome (R.remaining reader) (λ bytes.
         IfOk result (λ faults. AreListed 0 (records_of bytes) faults.items)) }
     ensures written { IfOk result (λ faults.
-        HasWritten (IsTextOfCheck faults.items) (W.contents writer.old) (W.contents writer.new)) }
+        HasWritten (IsTextOfCheck faults.items (N.warns notes.new)) (W.contents writer.old) (W.contents writer.new)) }
 
     // It fails only where the writer fails or memory is refused. It writes nothing, unless the fault is the
     // writer's.
@@ -71,12 +71,12 @@ pub fn run_check_against<T: Threads + Sync, R: Read + Drop, G: Gate, W: Write, N
     writer: &mut W,
     notes: &mut N,
 ) -> Result<Vec<ReadFault>, AppFault>
-    // Where the reader's bytes are known, the faults that are answered are theirs, and the rows are those of
-    // the faults.
+    // Where the reader's bytes are known, the faults that are answered are theirs. The rows are those of the
+    // faults, and of the warnings that who looks on has answered.
     ensures faults { IfSome (R.remaining reader) (λ bytes.
         IfOk result (λ faults. AreListed 0 (records_of bytes) faults.items)) }
     ensures written { IfOk result (λ faults.
-        HasWritten (IsTextOfCheck faults.items) (W.contents writer.old) (W.contents writer.new)) }
+        HasWritten (IsTextOfCheck faults.items (N.warns notes.new)) (W.contents writer.old) (W.contents writer.new)) }
 
     // Where there is no fault, what the file claims was compared with the winners of its count by the rule.
     ensures compared { IfSome (R.remaining reader) (λ bytes. IfOk result (λ faults. faults.items ≡ [] →
@@ -112,7 +112,7 @@ fn put_checked<T: Threads + Sync, G: Gate, W: Write, N: Compare>(
     notes: &mut N,
 ) -> Result<(), AppFault>
     ensures written { OnOk result
-        (HasWritten (IsTextOfCheck faults.now) (W.contents writer.old) (W.contents writer.new)) }
+        (HasWritten (IsTextOfCheck faults.now (N.warns notes.new)) (W.contents writer.old) (W.contents writer.new)) }
     ensures compared { OnOk result (IfSome election (λ e.
         (c : CountedView) × IsCountBy counting.now.rule.now e c × N.has_compared notes.new (winners_of c))) }
     ensures fault { IfErr result (CheckFails (λ e. election ≡ Some e) counting.now.rule.now.options) }
@@ -132,6 +132,7 @@ fn warnings_against<T: Threads + Sync, G: Gate, N: Compare>(
 ) -> Result<Vec<WarningRow>, AppFault>
     ensures compared { OnOk result (IfSome election (λ e.
         (c : CountedView) × IsCountBy counting.now.rule.now e c × N.has_compared notes.new (winners_of c))) }
+    ensures rows { IfOk result (λ rows. N.warns notes.new rows.items) }
     ensures fault { IfErr result (CheckFails (λ e. election ≡ Some e) counting.now.rule.now.options) }
 {
     let Some(election) = election else {
@@ -150,7 +151,7 @@ fn put_out<W: Write, N: Warn>(
     faults: &[ReadFault],
     notes: &mut N,
 ) -> Result<(), AppFault>
-    ensures ok { OnOk result (HasWritten (IsTextOfCheck faults.now) (W.contents writer.old)
+    ensures ok { OnOk result (HasWritten (IsTextOfCheck faults.now (N.warns notes.new)) (W.contents writer.old)
         (W.contents writer.new)) }
     ensures fault { IfErr result (λ fault. (fault ≡ AppFault.Write) ⊎ (fault ≡ AppFault.Memory)) }
     ensures unchanged { IfErr result (λ fault. fault ≢ AppFault.Write → writer.new ≡ writer.old) }
@@ -168,7 +169,7 @@ fn put_rows<W: Write>(
     faults: &[ReadFault],
     warnings: &[WarningRow],
 ) -> Result<(), AppFault>
-    ensures ok { OnOk result (HasWritten (IsTextOfCheck faults.now) (W.contents writer.old)
+    ensures ok { OnOk result (HasWritten (IsTextOfCheck faults.now (λ rows. rows ≡ warnings.now)) (W.contents writer.old)
         (W.contents writer.new)) }
     ensures fault { IfErr result (λ fault. (fault ≡ AppFault.Write) ⊎ (fault ≡ AppFault.Memory)) }
     ensures unchanged { IfErr result (λ fault. fault ≢ AppFault.Write → writer.new ≡ writer.old) }
@@ -183,7 +184,7 @@ fn check_text(
     faults: &[ReadFault],
     warnings: &[WarningRow],
 ) -> Result<Vec<u8>, NoMemory>
-    ensures { IfOk result (λ text. IsTextOfCheck faults.now text.items) }
+    ensures { IfOk result (λ text. IsTextOfCheck faults.now (λ rows. rows ≡ warnings.now) text.items) }
 {
     let mut rows = RowsWriter::start(alloc);
     match put_check(&mut rows, faults, warnings) {
@@ -202,7 +203,7 @@ fn put_check(
     warnings: &[WarningRow],
 ) -> Result<(), NoMemory>
     ensures { OnOk result ((text : List ℕ)
-        × IsTextOfCheck faults.now text × (rows.new.text ≡ rows.old.text ++ text)) }
+        × IsTextOfCheck faults.now (λ rows. rows ≡ warnings.now) text × (rows.new.text ≡ rows.old.text ++ text)) }
 {
     put_faults(rows, faults)?;
     put_warnings(rows, warnings)

@@ -1,6 +1,7 @@
 //! The command `desk`: a script's requests, served by the clerks of one desk.
 
-ghost use Rattle.std.specs.Prelude.{◌≡◌, false, IfOk, None};
+ghost use Rattle.std.specs.Prelude.{◌≡◌, false, IfOk, None, Some};
+ghost use Rattle.pb_core.specs.Election.{project_ids};
 ghost use Rattle.pb_script.specs.Admission.{open_to_all};
 ghost use Rattle.pb_commands.specs.DeskRun.{DeskRefuses, DeskWrites, admission_on};
 ghost use Rattle.pb_commands.specs.Inner.DeskRun.{unserved};
@@ -13,7 +14,7 @@ use pb_core::no_memory::NoMemory;
 use pb_faults::{AppFault, write_out};
 use pb_read::{NoWatch, ProjectIds};
 use pb_script::serve_script::serve_admitted;
-use pb_script::{Admission, NoNotice, Notice, ScriptRun, ServeFault};
+use pb_script::{Admission, NoNotice, Notice, ScriptRun, ServeFault, voters_of};
 use std::alloc::Global;
 use std::io::{Read, Write};
 use std::thread::Threads;
@@ -23,7 +24,9 @@ use std::thread::Threads;
 pub struct Rules {
     /// Rows name projects by the ids of the election's projects.
     pub by_id: bool,
-    /// What is admitted but for that.
+    /// No request is for a voter of the election.
+    pub keeps_file: bool,
+    /// What is admitted but for these.
     pub admission: Admission,
 }
 
@@ -50,12 +53,13 @@ pub fn run_desk<T: Threads + Sync, P: Read + Drop, S: Read + Drop, G: Gate, W: W
     writer: &mut W,
 ) -> Result<(), AppFault>
     ensures { Runs (λ bytes rows. DeskWrites
-        (record { by_id = false; admission = open_to_all }) bytes rows clerks shuts)
-        (λ _ rows. DeskRefuses (record { by_id = false; admission = open_to_all }) rows clerks)
+        (record { by_id = false; keeps_file = false; admission = open_to_all }) bytes rows clerks shuts)
+        (λ _ rows. DeskRefuses (record { by_id = false; keeps_file = false; admission = open_to_all }) rows clerks)
         (P.remaining file) (S.remaining script) None W.contents writer.old writer.new result }
 {
     let open = Rules {
         by_id: false,
+        keeps_file: false,
         admission: Admission::open(),
     };
     run_admitted_desk(
@@ -122,10 +126,36 @@ pub fn run_admitted_desk<
 pub fn admission_of(alloc: Global, rules: Rules, election: &Election) -> Result<Admission, NoMemory>
     ensures { IfOk result (λ admission. admission ≡ admission_on rules election.now) }
 {
-    let Rules { by_id, admission } = rules;
-    if !by_id {
-        return Ok(admission);
+    let Rules {
+        by_id,
+        keeps_file,
+        admission,
+    } = rules;
+    let named = if by_id {
+        name_by_id(alloc, admission, election)?
+    } else {
+        admission
+    };
+    if !keeps_file {
+        return Ok(named);
     }
+    match voters_of(alloc, election) {
+        Ok(voters) => Ok(named.keeping(voters)),
+        Err(refused) => {
+            drop(named);
+            Err(refused)
+        }
+    }
+}
+
+/// What is admitted, where rows name projects by the ids of this election.
+fn name_by_id(
+    alloc: Global,
+    admission: Admission,
+    election: &Election,
+) -> Result<Admission, NoMemory>
+    ensures { IfOk result (λ named. named ≡ record admission { ids = Some (project_ids election.now) }) }
+{
     match ProjectIds::of(alloc, election) {
         Ok(ids) => Ok(admission.by_ids(ids)),
         Err(refused) => {

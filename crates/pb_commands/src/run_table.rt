@@ -1,5 +1,5 @@
-//! Runs that write a table: who won and why, who lost and by how much, who paid, and what another rule
-//! elects.
+//! Runs that write the report of a count, or a table: who won and why, who lost and by how much, who paid,
+//! and what another rule elects.
 
 ghost use Rattle.std.specs.Prelude.{◌≡◌, ◌++◌, IfOk, OnOk};
 ghost use Rattle.pb_commands.specs.Closed.{CountRefuses, Gives};
@@ -9,7 +9,7 @@ ghost use Rattle.pb_commands.specs.Tables.{IsTableOf, table_of};
 use crate::counting::{Counting, count_inputs};
 use crate::inputs::Inputs;
 use crate::projects_table::put_projects;
-use crate::report::whole;
+use crate::report::{put_report, whole};
 use crate::ruled_projects_table::put_ruled_projects;
 use crate::rules_table::put_rules;
 use crate::table::Table;
@@ -24,7 +24,7 @@ use std::alloc::Global;
 use std::io::{Read, Write};
 use std::thread::Threads;
 
-/// Reads an election, counts it by the rule, and writes this table of the count.
+/// Reads an election, counts it by the rule, and writes the report or this table of the count.
 ///
 /// The file is refused before the journal, the journal before an open desk, and that before the options.
 /// Nothing is written but the whole table. Where the fault is `Write` some of the table may have gone out; on
@@ -77,6 +77,7 @@ fn put_outcome(
         ≡ rows.old.text ++ table_of table count.now.election count.now.counted) }
 {
     match table {
+        Table::Report => put_report(rows, count),
         Table::Projects => put_projects(rows, count),
         Table::Voters => put_voters(rows, alloc, count),
         Table::Rules => put_rules(rows, alloc, count),

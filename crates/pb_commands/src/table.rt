@@ -1,8 +1,10 @@
-//! The tables that a run writes.
+//! What a run writes of a count.
 
-/// A table that a run writes.
+/// What a run writes of a count: its report, or a table.
 #[derive(Clone, Copy)]
 pub enum Table {
+    /// What was counted, who won and at which price, and what is spent.
+    Report,
     /// Who won and why, and who lost and by how much: a row for each project.
     Projects,
     /// Who paid: a row for each voter.

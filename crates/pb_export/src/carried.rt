@@ -10,7 +10,7 @@ use csv::ByteRecord;
 use pb_core::election::Election;
 use pb_core::no_memory::NoMemory;
 use pb_ids::IdTable;
-use pb_read::{Part, ReadFault, Section, Stage, VoteColumns, Watch};
+use pb_read::{Part, Refusal, Section, Stage, VoteColumns, Watch};
 use std::alloc::Global;
 use std::{mem, str};
 
@@ -222,7 +222,7 @@ impl Watch for Carried {
         }
     }
 
-    fn refuse(&mut self, _record: &ByteRecord, _fault: ReadFault, _stage: &Stage) {}
+    fn refuse(&mut self, _record: &ByteRecord, _refusal: Refusal, _stage: &Stage) {}
 
     fn end(&mut self, _election: &Election) {}
 }

@@ -119,6 +119,8 @@ pub fn write_refused_row<W: Write>(writer: &mut W, why: RowRefusal, row: u64) ->
         RowRefusal::UnknownId => write_at(writer, "script", 5, "UnknownId", row),
         RowRefusal::NotOnRoll => write_at(writer, "script", 6, "NotOnRoll", row),
         RowRefusal::TooFew => write_at(writer, "script", 7, "TooFew", row),
+        RowRefusal::FromFile => write_at(writer, "script", 8, "FromFile", row),
+        RowRefusal::NoShut => write_at(writer, "script", 9, "NoShut", row),
     }
 }
 

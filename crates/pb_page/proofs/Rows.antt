@@ -6,34 +6,15 @@ use Rattle.std.proofs.lemmas.List.Sums.{sum_by-cons}
 use Rattle.pb_core.specs.Election.{ElectionView, ProjectView}
 use Rattle.pb_page.specs.Filling.{Filling}
 use Rattle.pb_page.specs.declared.markup.form.Form.{Form}
-use Rattle.pb_page.specs.declared.facts.Facts.{Facts}
 use Rattle.pb_price.specs.Supporters.{cost_at, support_of}
-use Rattle.pb_reasons.specs.CountedElection.{CountedElectionView}
-use Rattle.pb_reasons.specs.Reasons.{project_reason}
-use Rattle.pb_reasons.specs.declared.project_reason.ProjectReason.{ProjectReason}
 use Rattle.pb_reasons.proofs.PlaceSums.{IsPlaced}
 use Rattle.pb_page.specs.Inner.Grown.{Grows}
 use Rattle.pb_page.proofs.Grown.{grown_as, then}
-use Rattle.pb_page.specs.Inner.Pieces.{block, lost_rows, won_rows}
-use Rattle.pb_page.specs.Page.{blocks, lost_row, project_at, won_row}
+use Rattle.pb_page.specs.Inner.Pieces.{block}
+use Rattle.pb_page.specs.Page.{blocks, project_at}
 
 pub the_project : (e : ElectionView) (place : ℕ) (p : ProjectView) → place < length e.projects → p ≡ get_or e.projects place p → p ≡ project_at e place
 the_project e place p known is = is ∙ get_or_default e.projects place p (record { id = []; name = []; cost = 0 }) known
-
--- the row of a project that did not win, as it is told
-pub lost_told : (facts : Facts) (x : CountedElectionView) (place : ℕ) (p : ProjectView) → place < length x.election.projects → p ≡ get_or x.election.projects place p
-    → (reason : ProjectReason) → reason ≡ project_reason x.election x.counted place → lost_row facts place p reason.votes reason.ending ≡ lost_rows facts x place
-lost_told facts x place p known is reason told =
-    ap (λ (r : ProjectReason). lost_row facts place p r.votes r.ending) told
-    ∙ ap (λ (q : ProjectView). lost_row facts place q (project_reason x.election x.counted place).votes (project_reason x.election x.counted place).ending) (the_project x.election place p known is)
-
--- the row of a winner, as it is told
-pub won_told : (facts : Facts) (x : CountedElectionView) (place : ℕ) (p : ProjectView) → place < length x.election.projects → p ≡ get_or x.election.projects place p
-    → (reason : ProjectReason) → reason ≡ project_reason x.election x.counted place
-    → won_row facts x.election.budget place p reason.votes reason.ending ≡ won_rows facts x place
-won_told facts x place p known is reason told =
-    ap (λ (r : ProjectReason). won_row facts x.election.budget place p r.votes r.ending) told
-    ∙ ap (λ (q : ProjectView). won_row facts x.election.budget place q (project_reason x.election x.counted place).votes (project_reason x.election x.counted place).ending) (the_project x.election place p known is)
 
 -- the parts of the winners with one more
 blocks_more : (form : Form) (e : ElectionView) (before total : ℕ) (xs : List ℕ) (place : ℕ) → total ≡ before + sum_by (cost_at (support_of e)) xs

@@ -25,6 +25,7 @@ use Rattle.pb_reasons.specs.declared.rule_row.RuleRow.{RuleRow}
 use Rattle.pb_reasons.specs.declared.project_reason.Ending.{Ending}
 use Rattle.pb_reasons.specs.declared.project_reason.Ending.TheVariants.{Won, Added, Lost}
 use Rattle.pb_reasons.specs.declared.tie.Tie.{Tie}
+use Rattle.pb_rounds.specs.MostVotes.{is_taken}
 use Rattle.pb_rounds.specs.RuleNames.{by_completion, by_measure, completion_name, fills_up, measure_name}
 use Rattle.pb_rounds.specs.declared.rule.Rule.{Rule}
 use Rattle.pb_page.specs.declared.categories.Categories.{Categories}
@@ -32,23 +33,21 @@ use Rattle.pb_page.specs.declared.facts.Facts.{Facts}
 use Rattle.pb_page.specs.declared.keys.TheConstants as key
 use Rattle.pb_page.specs.declared.language.Language.{Language}
 use Rattle.pb_page.specs.declared.style.TheConstants.{HEAD}
-use Rattle.pb_page.specs.declared.templates.TheConstants.{TEXT, NUMBER, AMOUNT, NAMELESS, LEAD_NEXT, NOTHING}
-use Rattle.pb_page.specs.declared.templates.TheConstants.{BUDGET_OPENING, BLOCKS_OPENING, BUDGET_PART}
-use Rattle.pb_page.specs.declared.templates.TheConstants.{BLOCKS_CLOSING, BUDGET_CLOSING, HEAD_CATEGORY}
-use Rattle.pb_page.specs.declared.templates.TheConstants.{HEAD_CLOSING, ROW_CATEGORY, ROW_CLOSING}
-use Rattle.pb_page.specs.declared.templates.TheConstants.{WINNERS_OPENING, WINNER, NONE_WON, ADDED_OPENING}
-use Rattle.pb_page.specs.declared.templates.TheConstants.{ADDED, OTHERS_OPENING, OTHER, OTHER_CLOSING}
-use Rattle.pb_page.specs.declared.templates.TheConstants.{NONE_LOST, TABLE_CLOSING, CATEGORIES_OPENING}
-use Rattle.pb_page.specs.declared.templates.TheConstants.{CATEGORY, VOTERS_OPENING, VOTERS_TABLE, VOTERS_ROW}
-use Rattle.pb_page.specs.declared.templates.TheConstants.{VOTERS_ROW_CLOSING, COMPARED_OPENING, COMPARED_ROW}
-use Rattle.pb_page.specs.declared.templates.TheConstants.{RULE_OPENING, RULE_NEXT, ITEM, ITEM_OPENING}
-use Rattle.pb_page.specs.declared.templates.TheConstants.{ONLY_THEN_OPENING, ONLY_THEN, LIST_CLOSING, CALLED}
-use Rattle.pb_page.specs.declared.templates.TheConstants.{TIES_OPENING, ITEM_CLOSING, CHECK_OPENING}
+use Rattle.pb_page.specs.declared.templates.TheConstants.{TEXT, NUMBER, AMOUNT, BUDGET_PART, LEAD_NEXT}
+use Rattle.pb_page.specs.declared.templates.TheConstants.{NOTHING, BUDGET_OPENING, BLOCKS_OPENING}
+use Rattle.pb_page.specs.declared.templates.TheConstants.{BLOCKS_CLOSING, BUDGET_CLOSING, WINNER, ADDED}
+use Rattle.pb_page.specs.declared.templates.TheConstants.{OTHER, OTHER_CLOSING, ROW_CATEGORY, ROW_CLOSING}
+use Rattle.pb_page.specs.declared.templates.TheConstants.{HEAD_CATEGORY, HEAD_CLOSING, TABLE_CLOSING}
+use Rattle.pb_page.specs.declared.templates.TheConstants.{NONE_WON, WINNERS_OPENING, ADDED_OPENING, NONE_LOST}
+use Rattle.pb_page.specs.declared.templates.TheConstants.{OTHERS_OPENING, CATEGORY, CATEGORIES_OPENING}
+use Rattle.pb_page.specs.declared.templates.TheConstants.{VOTERS_ROW, VOTERS_ROW_CLOSING, VOTERS_OPENING}
+use Rattle.pb_page.specs.declared.templates.TheConstants.{VOTERS_TABLE, COMPARED_ROW, COMPARED_OPENING, ITEM}
+use Rattle.pb_page.specs.declared.templates.TheConstants.{ITEM_OPENING, ONLY_THEN_OPENING, ONLY_THEN}
+use Rattle.pb_page.specs.declared.templates.TheConstants.{LIST_CLOSING, RULE_OPENING, RULE_NEXT, NAMELESS}
+use Rattle.pb_page.specs.declared.templates.TheConstants.{ITEM_CLOSING, CALLED, TIES_OPENING, CHECK_OPENING}
 use Rattle.pb_page.specs.declared.templates.TheConstants.{CHECK_FILE, CHECK_JOURNAL, RECOUNT_OPENING}
-use Rattle.pb_page.specs.declared.templates.TheConstants.{RECOUNT_LINK, RECOUNT_CLOSING, NO_RECOUNT, COUNT}
-use Rattle.pb_page.specs.declared.templates.TheConstants.{AUDIT, OPTION_COST, OPTION_PLAIN}
-use Rattle.pb_page.specs.declared.templates.TheConstants.{OPTION_UTILITARIAN, OPTION_ADD1U, COMMAND_CLOSING}
-use Rattle.pb_page.specs.declared.templates.TheConstants.{MADE_BY_OPENING, CLOSING}
+use Rattle.pb_page.specs.declared.templates.TheConstants.{RECOUNT_CLOSING, RECOUNT_LINK, NO_RECOUNT, AUDIT}
+use Rattle.pb_page.specs.declared.templates.TheConstants.{COUNT, OPTIONS, MADE_BY_OPENING, CLOSING}
 
 -- one of the program's own pieces of markup, and what stands in its places
 abbrev pub filling : List ℕ → List (List ℕ) → Filling
@@ -127,42 +126,34 @@ category_of g place = slice_index_or g.of_project.now place (length g.names.now)
 abbrev pub category_name : Categories → ℕ → List ℕ
 category_name g k = option_map_or (λ text. text.now) (slice_get g.names.now k) []
 
--- the end of a project's row, and a table of projects, by its head and its rows: where there are categories,
--- with a column for them
-abbrev pub row_end : Facts → (place : ℕ) → List Filling
-row_end facts place = option_map_or (λ g. filling ROW_CATEGORY.now (at facts.language key.CATEGORY
-    ∷ category_name g (category_of g place) ∷ []) ∷ []) facts.categories [] ++ filling ROW_CLOSING.now [] ∷ []
+-- what the rows of projects share: their id, name, bar, cost and votes
+abbrev pub cells : Language → ProjectView → (bar votes : ℕ) → List (List ℕ)
+cells l p bar votes = p.id ∷ p.name ∷ decimal bar ∷ at l key.COST ∷ money_text p.cost ∷ shown l.costs p.cost
+    ∷ at l key.VOTES ∷ decimal votes ∷ []
+
+-- the row of a project up to its category, by how it ended
+abbrev pub ended_row : Language → (whole : ℕ) → ProjectView → (votes : ℕ) → Ending → List Filling
+ended_row l whole p votes (Won w) = filling WINNER.now (p.id ∷ at l key.ROUND ∷ decimal w.round
+    ∷ (cells l p (width p.cost whole) votes ++ (at l key.PRICE ∷ money_text w.price ∷ shown l.amounts w.price
+    ∷ at l key.IN_FULL ∷ decimal w.in_full ∷ []))) ∷ []
+ended_row l whole p votes (Added a) =
+    filling ADDED.now (p.id ∷ at l key.NUMBER ∷ decimal a.number ∷ cells l p (width p.cost whole) votes) ∷ []
+ended_row l whole p votes (Lost lost) = between (filling OTHER.now (cells l p (width lost.left p.cost) votes
+    ++ (at l key.LEFT ∷ money_text lost.left ∷ shown l.amounts lost.left ∷ at l key.MISSING ∷ money_text lost.missing
+    ∷ []))) (filling OTHER_CLOSING.now []) l key.SHORT (text (shown l.amounts lost.missing) ∷ [])
+
+-- the row of the project at this place, and a table of projects by its head and its rows: where there are
+-- categories, with a column for them
+abbrev pub row_at : Facts → CountedElectionView → ℕ → List Filling
+row_at facts x place = let r = project_reason x.election x.counted place in
+    ended_row facts.language x.election.budget (project_at x.election place) r.votes r.ending
+    ++ (option_map_or (λ g. filling ROW_CATEGORY.now (at facts.language key.CATEGORY
+    ∷ category_name g (category_of g place) ∷ []) ∷ []) facts.categories [] ++ filling ROW_CLOSING.now [] ∷ [])
 
 abbrev pub table : Facts → (opening keys : List ℕ) → (rows : List Filling) → List Filling
 table facts opening keys rows = let l = facts.language in labels l opening keys ∷ ((option_map_or
     (λ g. labels l HEAD_CATEGORY.now (key.CATEGORY ∷ []) ∷ []) facts.categories [] ++ filling HEAD_CLOSING.now [] ∷ [])
     ++ (rows ++ filling TABLE_CLOSING.now [] ∷ []))
-
--- what the rows of a project share: its id, name, bar, cost and votes
-abbrev pub cells : Language → ProjectView → (bar votes : ℕ) → List (List ℕ)
-cells l p bar votes = p.id ∷ p.name ∷ decimal bar ∷ at l key.COST ∷ money_text p.cost ∷ shown l.costs p.cost
-    ∷ at l key.VOTES ∷ decimal votes ∷ []
-
--- the row of a winner, elected or added; what did not win has none
-abbrev pub won_row : Facts → (whole place : ℕ) → ProjectView → (votes : ℕ) → Ending → List Filling
-won_row facts whole place p votes (Won w) = let l = facts.language in filling WINNER.now
-    (p.id ∷ at l key.ROUND ∷ decimal w.round ∷ (cells l p (width p.cost whole) votes ++ (at l key.PRICE
-    ∷ money_text w.price ∷ shown l.amounts w.price ∷ at l key.IN_FULL ∷ decimal w.in_full ∷ []))) ∷ row_end facts place
-won_row facts whole place p votes (Added a) = let l = facts.language in filling ADDED.now
-    (p.id ∷ at l key.NUMBER ∷ decimal a.number ∷ cells l p (width p.cost whole) votes) ∷ row_end facts place
-won_row facts whole place p votes (Lost lost) = []
-
--- the row of a project that did not win; what won has none
-abbrev pub lost_row : Facts → (place : ℕ) → ProjectView → (votes : ℕ) → Ending → List Filling
-lost_row facts place p votes (Lost lost) = let l = facts.language in between (filling OTHER.now
-    (cells l p (width lost.left p.cost) votes ++ (at l key.LEFT ∷ money_text lost.left ∷ shown l.amounts lost.left
-    ∷ at l key.MISSING ∷ money_text lost.missing ∷ []))) (filling OTHER_CLOSING.now []) l key.SHORT
-    (text (shown l.amounts lost.missing) ∷ []) ++ row_end facts place
-lost_row facts place p votes won = []
-
--- one of these rows, of the project at this place
-abbrev pub row_of : (ℕ → ProjectView → ℕ → Ending → List Filling) → CountedElectionView → ℕ → List Filling
-row_of row x place = let r = project_reason x.election x.counted place in row place (project_at x.election place) r.votes r.ending
 
 -- the elected, in order of election; the added, in their order; and the other projects, in the order of the
 -- file: each behind a heading, a caption and the heads of the columns
@@ -170,17 +161,18 @@ unfoldable pub winners : Facts → CountedElectionView → List Filling
 winners facts x = let elected = x.counted.outcome.elected in if length elected == 0 then labels facts.language NONE_WON.now
     (key.WINNERS_HEADING ∷ (if fills_up x.rule.fill_up then key.NO_ELECTED else key.NO_WINNERS) ∷ []) ∷ []
     else table facts WINNERS_OPENING.now (key.WINNERS_HEADING ∷ key.WINNERS_CAPTION ∷ key.ROUND ∷ key.PROJECT ∷ key.COST
-    ∷ key.VOTES ∷ key.PRICE ∷ key.IN_FULL ∷ []) (flat_map (λ w. row_of (won_row facts x.election.budget) x w.place) elected)
+    ∷ key.VOTES ∷ key.PRICE ∷ key.IN_FULL ∷ []) (flat_map (λ w. row_at facts x w.place) elected)
 
 unfoldable pub added : Facts → CountedElectionView → List Filling
 added facts x = if length x.counted.added == 0 then [] else table facts ADDED_OPENING.now (key.ADDED_HEADING ∷ key.ADDED_CAPTION
-    ∷ key.NUMBER ∷ key.PROJECT ∷ key.COST ∷ key.VOTES ∷ []) (flat_map (row_of (won_row facts x.election.budget) x) x.counted.added)
+    ∷ key.NUMBER ∷ key.PROJECT ∷ key.COST ∷ key.VOTES ∷ []) (flat_map (row_at facts x) x.counted.added)
 
 unfoldable pub others : Facts → CountedElectionView → List Filling
 others facts x = if length (winners_of x.counted) == length x.election.projects
     then labels facts.language NONE_LOST.now (key.OTHERS_HEADING ∷ key.NO_OTHERS ∷ []) ∷ [] else table facts OTHERS_OPENING.now
     (key.OTHERS_HEADING ∷ key.OTHERS_CAPTION ∷ key.PROJECT ∷ key.COST ∷ key.VOTES ∷ key.LEFT ∷ key.MISSING ∷ [])
-    (flat_map (row_of (lost_row facts) x) (range_with_len 0 (length x.election.projects)))
+    (flat_map (λ place. if is_taken (winners_of x.counted) place then [] else row_at facts x place)
+    (range_with_len 0 (length x.election.projects)))
 
 -- the row of a category, by its number: how many of the winners are of it, and what these cost together
 abbrev pub category_row : Language → ElectionView → List ℕ → Categories → ℕ → Filling
@@ -275,13 +267,13 @@ check facts r = let l = facts.language in let o = r.options in
     (λ j. filling CHECK_JOURNAL.now (j.name.now ∷ j.digest.now ∷ []) ∷ []) facts.journal []) ++ (option_map_or
     (λ address. between (filling RECOUNT_OPENING.now []) (labels l RECOUNT_CLOSING.now (key.PROGRAM_TOO ∷ [])) l key.RECOUNT
     (filling RECOUNT_LINK.now (address.now ∷ at l key.LINK ∷ []) ∷ [])) facts.recount (labels l NO_RECOUNT.now (key.PROGRAM ∷ []) ∷ [])
-    ++ (filling (option_map_or (λ j. AUDIT.now) facts.journal COUNT.now) []
-    ∷ (by_measure o.measure [] (filling OPTION_COST.now [] ∷ []) ++ (by_completion o.completion r.fill_up
-    (filling OPTION_PLAIN.now [] ∷ []) [] (filling OPTION_UTILITARIAN.now [] ∷ []) (filling OPTION_ADD1U.now [] ∷ [])
-    ++ (between (filling COMMAND_CLOSING.now (decimal o.step ∷ decimal o.max_raises ∷ [])) (filling MADE_BY_OPENING.now []) l
-    key.OPTIONS (text (measure_name o.measure) ∷ text (completion_name o.completion r.fill_up)
-    ∷ amount l.amounts (codes "step") o.step ∷ number (codes "limit") o.max_raises ∷ [])
-    ++ (say l key.MADE_BY (text facts.program.now ∷ []) ++ filling CLOSING.now [] ∷ []))))))
+    ++ (filling (option_map_or (λ j. AUDIT.now) facts.journal COUNT.now) [] ∷ (between (filling OPTIONS.now
+    (by_measure o.measure [] (codes " --measure cost") ∷ by_completion o.completion r.fill_up (codes " --plain") []
+    (codes " --completion utilitarian") (codes " --completion add1u") ∷ decimal o.step ∷ decimal o.max_raises ∷ []))
+    (filling MADE_BY_OPENING.now []) l key.OPTIONS (text (measure_name o.measure)
+    ∷ text (completion_name o.completion r.fill_up) ∷ amount l.amounts (codes "step") o.step
+    ∷ number (codes "limit") o.max_raises ∷ [])
+    ++ (say l key.MADE_BY (text facts.program.now ∷ []) ++ filling CLOSING.now [] ∷ []))))
 
 -- the parts of the page, one after the other
 unfoldable pub parts : Facts → CountedElectionView → RaiseEnd → List Filling

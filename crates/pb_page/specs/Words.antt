@@ -18,7 +18,7 @@ form_of French n = if nat_lt n 2 then 0 else 2
 form_of Polish n = if n == 1 then 0 else (if ends_in_few n then 1 else 2)
 
 -- the sentence with this key, and the form for a number of the noun whose forms begin with this key
-abbrev pub sentence : Words → ℕ → List ℕ
+unfoldable pub sentence : Words → ℕ → List ℕ
 sentence w key = option_map_or (λ s. s.now) (slice_get w.sentences.now key) []
 
 abbrev pub noun : Words → ℕ → ℕ → List ℕ

@@ -3,8 +3,8 @@
 ghost use Rattle.std.specs.Prelude.{◌≡◌, ◌<◌, ◌^◌, [], ◌∷◌, All, IfOk, OnOk, length, map, sum_by};
 ghost use Rattle.std.specs.List.{range_with_len};
 ghost use Rattle.pb_page.specs.Inner.Grown.{Grows};
-ghost use Rattle.pb_page.specs.Inner.Pieces.{categories_head, category_said, category_table, in_category};
-ghost use Rattle.pb_page.specs.Inner.Pieces.{sum_rows, sums_table};
+ghost use Rattle.pb_page.specs.Inner.Pieces.{category_said, category_table, in_category, sum_rows};
+ghost use Rattle.pb_page.specs.Inner.Pieces.{sums_table};
 ghost use Rattle.pb_page.specs.Page.{categories};
 ghost use Rattle.pb_price.specs.Supporters.{cost_at, support_of};
 ghost use Rattle.pb_reasons.specs.Counted.{winners_of};
@@ -16,7 +16,7 @@ use crate::in_category::InCategory;
 use crate::keys;
 use crate::language::Language;
 use crate::markup::Value;
-use crate::put::put;
+use crate::put::{put, put_labels};
 use crate::templates::{CATEGORIES_OPENING, CATEGORY, TABLE_CLOSING};
 use pb_core::election::Election;
 use pb_core::money::Money;
@@ -100,26 +100,20 @@ fn put_table(
     ensures { OnOk result (Grows page.old.items page.new.items
         (sums_table language.now budget categories.now sums.now)) }
 {
-    put_head(page, language)?;
-    put_rows(page, language, budget, categories, sums)?;
-    put(page, TABLE_CLOSING, &[])
-}
-
-/// The head of their table.
-fn put_head(page: &mut Vec<u8>, language: &Language) -> Result<(), NoMemory>
-    ensures { OnOk result (Grows page.old.items page.new.items (categories_head language.now ∷ [])) }
-{
-    put(
+    put_labels(
         page,
+        language,
         CATEGORIES_OPENING,
         &[
-            Value::Text(language.text(keys::CATEGORIES_HEADING)),
-            Value::Text(language.text(keys::CATEGORIES_CAPTION)),
-            Value::Text(language.text(keys::CATEGORY)),
-            Value::Text(language.text(keys::CATEGORY_WON)),
-            Value::Text(language.text(keys::CATEGORY_COST)),
+            keys::CATEGORIES_HEADING,
+            keys::CATEGORIES_CAPTION,
+            keys::CATEGORY,
+            keys::CATEGORY_WON,
+            keys::CATEGORY_COST,
         ],
-    )
+    )?;
+    put_rows(page, language, budget, categories, sums)?;
+    put(page, TABLE_CLOSING, &[])
 }
 
 /// A row for each category.

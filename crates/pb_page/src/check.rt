@@ -2,26 +2,26 @@
 
 ghost use Rattle.std.specs.Prelude.{◌≡◌, [], ◌∷◌, OnOk};
 ghost use Rattle.pb_page.specs.Inner.Grown.{Grows};
-ghost use Rattle.pb_page.specs.Inner.Pieces.{command, command_closing, completion_option, journal_source};
-ghost use Rattle.pb_page.specs.Inner.Pieces.{link, made, measure_option, named, option_places, options_said};
+ghost use Rattle.pb_page.specs.Inner.Pieces.{command, completion_option, journal_source, link, made};
+ghost use Rattle.pb_page.specs.Inner.Pieces.{measure_option, named, option_places, options_piece, options_said};
 ghost use Rattle.pb_page.specs.Inner.Pieces.{recount, recounting, sources};
 ghost use Rattle.pb_page.specs.declared.keys.TheConstants as key;
-ghost use Rattle.pb_page.specs.declared.templates.TheConstants.{CHECK_OPENING, RECOUNT_LINK};
+ghost use Rattle.pb_page.specs.declared.templates.TheConstants.{RECOUNT_LINK};
 ghost use Rattle.pb_page.specs.Page.{at, check, filling, say, text};
 
 use crate::facts::{Facts, ReadText};
 use crate::keys;
 use crate::language::Language;
-use crate::markup::{Place, Value};
-use crate::put::{put, say};
+use crate::markup::Value;
+use crate::place::Place;
+use crate::put::{put, put_labels, say};
 use crate::templates::{
-    AMOUNT, AUDIT, CHECK_FILE, CHECK_JOURNAL, CHECK_OPENING, CLOSING, COMMAND_CLOSING, COUNT,
-    MADE_BY_OPENING, NO_RECOUNT, NUMBER, OPTION_ADD1U, OPTION_COST, OPTION_PLAIN,
-    OPTION_UTILITARIAN, RECOUNT_CLOSING, RECOUNT_LINK, RECOUNT_OPENING, TEXT,
+    AUDIT, CHECK_FILE, CHECK_JOURNAL, CHECK_OPENING, CLOSING, COUNT, MADE_BY_OPENING, NO_RECOUNT,
+    OPTIONS, RECOUNT_CLOSING, RECOUNT_LINK, RECOUNT_OPENING,
 };
 use pb_core::no_memory::NoMemory;
 use pb_rounds::measure::Measure;
-use pb_rounds::options::{Completion, CountOptions};
+use pb_rounds::options::Completion;
 use pb_rounds::rule::{FillUp, Rule};
 use pb_rounds::rule_names::{completion_name, measure_name};
 
@@ -45,25 +45,14 @@ fn put_sources(
     ensures { OnOk result (Grows page.old.items page.new.items
         (sources language.now file.entry journal.entry)) }
 {
-    put_heading(page, language)?;
+    put_labels(
+        page,
+        language,
+        CHECK_OPENING,
+        &[keys::CHECK_HEADING, keys::CHECK_BYTES],
+    )?;
     put_source(page, CHECK_FILE, file)?;
     put_journal(page, journal)
-}
-
-/// The heading.
-fn put_heading(page: &mut Vec<u8>, language: &Language) -> Result<(), NoMemory>
-    ensures { OnOk result (Grows page.old.items page.new.items
-        (filling CHECK_OPENING.now (at language.now key.CHECK_HEADING ∷ at language.now key.CHECK_BYTES
-        ∷ []) ∷ [])) }
-{
-    put(
-        page,
-        CHECK_OPENING,
-        &[
-            Value::Text(language.text(keys::CHECK_HEADING)),
-            Value::Text(language.text(keys::CHECK_BYTES)),
-        ],
-    )
 }
 
 /// The journal, if there is one.
@@ -94,7 +83,7 @@ fn put_link(page: &mut Vec<u8>, language: &Language, address: Option<&str>) -> R
 {
     match address {
         Some(address) => put_recount(page, language, address),
-        None => put_command_head(page, language, NO_RECOUNT, keys::PROGRAM),
+        None => put_labels(page, language, NO_RECOUNT, &[keys::PROGRAM]),
     }
 }
 
@@ -104,7 +93,7 @@ fn put_recount(page: &mut Vec<u8>, language: &Language, address: &str) -> Result
 {
     put(page, RECOUNT_OPENING, &[])?;
     say_recount(page, language, address)?;
-    put_command_head(page, language, RECOUNT_CLOSING, keys::PROGRAM_TOO)
+    put_labels(page, language, RECOUNT_CLOSING, &[keys::PROGRAM_TOO])
 }
 
 /// What is said of that page, with a link to it.
@@ -116,29 +105,12 @@ fn say_recount<'a>(
     ensures { OnOk result (Grows page.old.items page.new.items (say language.now key.RECOUNT
         (filling RECOUNT_LINK.now (address.now ∷ at language.now key.LINK ∷ []) ∷ []))) }
 {
-    let link = [Value::Text(address), Value::Text(language.text(keys::LINK))];
     say(
         page,
         language,
         keys::RECOUNT,
-        &[Place {
-            piece: RECOUNT_LINK,
-            values: &link,
-        }],
+        &[Place::Link(address, language.text(keys::LINK))],
     )
-}
-
-/// What is said above the command.
-fn put_command_head(
-    page: &mut Vec<u8>,
-    language: &Language,
-    piece: &'static str,
-    key: u16,
-) -> Result<(), NoMemory>
-    ensures { OnOk result (Grows page.old.items page.new.items
-        (filling piece.now (at language.now key ∷ []) ∷ [])) }
-{
-    put(page, piece, &[Value::Text(language.text(key))])
 }
 
 /// The command that recounts them, and what is said below it.
@@ -146,8 +118,6 @@ fn put_command(page: &mut Vec<u8>, facts: &Facts, rule: &Rule) -> Result<(), NoM
     ensures { OnOk result (Grows page.old.items page.new.items (command facts.now rule.now)) }
 {
     put_program(page, facts.journal)?;
-    put_measure(page, rule.options.measure)?;
-    put_completion(page, rule.options.completion, rule.fill_up)?;
     put_made(page, facts, rule)
 }
 
@@ -161,31 +131,25 @@ fn put_program(page: &mut Vec<u8>, journal: Option<ReadText<'_>>) -> Result<(), 
     }
 }
 
-/// The option for a measure.
-#[tactic(auto, using(crate::proofs::Grown::none))]
-fn put_measure(page: &mut Vec<u8>, measure: Measure) -> Result<(), NoMemory>
-    ensures { OnOk result (Grows page.old.items page.new.items (measure_option measure)) }
+/// The option for a measure, behind a space; nothing where none is needed.
+fn measure_option(measure: Measure) -> &'static str
+    ensures { result.now ≡ measure_option measure }
 {
     match measure {
-        Measure::Votes => Ok(()),
-        Measure::Cost => put(page, OPTION_COST, &[]),
+        Measure::Votes => "",
+        Measure::Cost => " --measure cost",
     }
 }
 
-/// The option for a completion.
-#[tactic(auto, using(crate::proofs::Grown::none))]
-fn put_completion(
-    page: &mut Vec<u8>,
-    completion: Completion,
-    fill_up: FillUp,
-) -> Result<(), NoMemory>
-    ensures { OnOk result (Grows page.old.items page.new.items (completion_option completion fill_up)) }
+/// The option for a completion, behind a space; nothing where none is needed.
+fn completion_option(completion: Completion, fill_up: FillUp) -> &'static str
+    ensures { result.now ≡ completion_option completion fill_up }
 {
     match (completion, fill_up) {
-        (Completion::Plain, FillUp::Nothing) => put(page, OPTION_PLAIN, &[]),
-        (Completion::Add1, FillUp::Nothing) => Ok(()),
-        (Completion::Plain, FillUp::MostVotes) => put(page, OPTION_UTILITARIAN, &[]),
-        (Completion::Add1, FillUp::MostVotes) => put(page, OPTION_ADD1U, &[]),
+        (Completion::Plain, FillUp::Nothing) => " --plain",
+        (Completion::Add1, FillUp::Nothing) => "",
+        (Completion::Plain, FillUp::MostVotes) => " --completion utilitarian",
+        (Completion::Add1, FillUp::MostVotes) => " --completion add1u",
     }
 }
 
@@ -199,23 +163,26 @@ fn put_made(page: &mut Vec<u8>, facts: &Facts, rule: &Rule) -> Result<(), NoMemo
     put(page, CLOSING, &[])
 }
 
-/// The end of the command, and the options in words.
+/// The options of the command, and the same in words.
 fn put_options(page: &mut Vec<u8>, language: &Language, rule: &Rule) -> Result<(), NoMemory>
     ensures { OnOk result (Grows page.old.items page.new.items (options_said language.now rule.now)) }
 {
-    put_command_closing(page, &rule.options)?;
+    put_options_piece(page, rule)?;
     say_options(page, language, rule)?;
     put(page, MADE_BY_OPENING, &[])
 }
 
-/// The end of the command.
-fn put_command_closing(page: &mut Vec<u8>, options: &CountOptions) -> Result<(), NoMemory>
-    ensures { OnOk result (Grows page.old.items page.new.items (command_closing options.now ∷ [])) }
+/// The options of the command.
+fn put_options_piece(page: &mut Vec<u8>, rule: &Rule) -> Result<(), NoMemory>
+    ensures { OnOk result (Grows page.old.items page.new.items (options_piece rule.now ∷ [])) }
 {
+    let options = &rule.options;
     put(
         page,
-        COMMAND_CLOSING,
+        OPTIONS,
         &[
+            Value::Text(measure_option(options.measure)),
+            Value::Text(completion_option(options.completion, rule.fill_up)),
             Value::Number(options.step.0),
             Value::Number(u64::from(options.max_raises)),
         ],
@@ -228,36 +195,15 @@ fn say_options(page: &mut Vec<u8>, language: &Language, rule: &Rule) -> Result<(
         (say language.now key.OPTIONS (option_places language.now rule.now))) }
 {
     let options = &rule.options;
-    let values: &[Value] = &[
-        Value::Text(measure_name(options.measure)),
-        Value::Text(completion_name(options.completion, rule.fill_up)),
-        Value::Text("step"),
-        Value::Amount(options.step),
-        Value::Shown(options.step, language.amounts),
-        Value::Text("limit"),
-        Value::Number(u64::from(options.max_raises)),
-    ];
     say(
         page,
         language,
         keys::OPTIONS,
         &[
-            Place {
-                piece: TEXT,
-                values: &values[0..1],
-            },
-            Place {
-                piece: TEXT,
-                values: &values[1..2],
-            },
-            Place {
-                piece: AMOUNT,
-                values: &values[2..5],
-            },
-            Place {
-                piece: NUMBER,
-                values: &values[5..7],
-            },
+            Place::Text(measure_name(options.measure)),
+            Place::Text(completion_name(options.completion, rule.fill_up)),
+            Place::Amount("step", options.step, language.amounts),
+            Place::Number("limit", u64::from(options.max_raises)),
         ],
     )
 }
@@ -271,14 +217,5 @@ fn say_made_by<'a>(
     ensures { OnOk result (Grows page.old.items page.new.items
         (say language.now key.MADE_BY (text program.now ∷ []))) }
 {
-    let program = [Value::Text(program)];
-    say(
-        page,
-        language,
-        keys::MADE_BY,
-        &[Place {
-            piece: TEXT,
-            values: &program,
-        }],
-    )
+    say(page, language, keys::MADE_BY, &[Place::Text(program)])
 }

@@ -2,14 +2,14 @@
 
 ghost use Rattle.std.specs.Prelude.{◌≡◌, [], ◌∷◌, OnOk};
 ghost use Rattle.pb_page.specs.Inner.Grown.{Grows};
-ghost use Rattle.pb_page.specs.Inner.Pieces.{compared, compared_head};
+ghost use Rattle.pb_page.specs.Inner.Pieces.{compared};
 ghost use Rattle.pb_page.specs.Page.{besides, compared_row};
 
 use crate::facts::Facts;
 use crate::keys;
 use crate::language::Language;
 use crate::markup::Value;
-use crate::put::put;
+use crate::put::{put, put_labels};
 use crate::templates::{COMPARED_OPENING, COMPARED_ROW, TABLE_CLOSING};
 use pb_core::no_memory::NoMemory;
 use pb_reasons::{Comparison, CountedElection, RuleRow, compare_with_votes};
@@ -34,28 +34,22 @@ pub(crate) fn put_besides(
 fn put_compared(page: &mut Vec<u8>, language: &Language, rules: &Comparison) -> Result<(), NoMemory>
     ensures { OnOk result (Grows page.old.items page.new.items (compared language.now rules.now)) }
 {
-    put_head(page, language)?;
+    put_labels(
+        page,
+        language,
+        COMPARED_OPENING,
+        &[
+            keys::COMPARED_HEADING,
+            keys::COMPARED_CAPTION,
+            keys::COMPARED_RULE,
+            keys::COMPARED_WON,
+            keys::WITHOUT,
+            keys::MORE,
+        ],
+    )?;
     put_row(page, language, keys::EQUAL_SHARES, &rules.own)?;
     put_row(page, language, keys::MOST_VOTES, &rules.other)?;
     put(page, TABLE_CLOSING, &[])
-}
-
-/// The head of their table.
-fn put_head(page: &mut Vec<u8>, language: &Language) -> Result<(), NoMemory>
-    ensures { OnOk result (Grows page.old.items page.new.items (compared_head language.now ∷ [])) }
-{
-    put(
-        page,
-        COMPARED_OPENING,
-        &[
-            Value::Text(language.text(keys::COMPARED_HEADING)),
-            Value::Text(language.text(keys::COMPARED_CAPTION)),
-            Value::Text(language.text(keys::COMPARED_RULE)),
-            Value::Text(language.text(keys::COMPARED_WON)),
-            Value::Text(language.text(keys::WITHOUT)),
-            Value::Text(language.text(keys::MORE)),
-        ],
-    )
 }
 
 /// The row of a rule.

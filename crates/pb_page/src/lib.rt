@@ -3,7 +3,6 @@
 //! have.
 #![tactic(auto)]
 
-mod added;
 mod by_category;
 mod categories;
 mod check;
@@ -17,13 +16,14 @@ mod keys;
 mod language;
 mod made;
 pub mod markup;
-mod others;
-mod own_category;
+mod place;
 mod project_row;
+mod project_tables;
 mod put;
 mod raises_ended;
 mod rule;
 mod sentence;
+mod sentences;
 mod speech;
 mod style;
 mod table;
@@ -31,7 +31,6 @@ mod templates;
 mod ties;
 mod top;
 mod voters;
-mod winners;
 mod words_fault;
 
 pub use categories::Categories;

@@ -1,13 +1,15 @@
-//! A page that grows by pieces.
+//! A page that grows by pieces and by sentences.
 
 ghost use Rattle.std.specs.Prelude.{[], ◌∷◌, OnOk, map};
 ghost use Rattle.pb_page.specs.Filling.{text_of};
-ghost use Rattle.pb_page.specs.Sentence.{at_place};
 ghost use Rattle.pb_page.specs.Inner.Grown.{Grows};
-ghost use Rattle.pb_page.specs.Page.{filling, say};
+ghost use Rattle.pb_page.specs.Inner.Pieces.{at_place};
+ghost use Rattle.pb_page.specs.Page.{filling, labels, say};
 
 use crate::language::Language;
-use crate::markup::{Place, Value, fill};
+use crate::markup::{Value, fill, fill_words};
+use crate::place::Place;
+use crate::sentences::write_sentence;
 use pb_core::no_memory::NoMemory;
 
 /// Puts a piece after a page, filled with these values.
@@ -16,6 +18,20 @@ pub(crate) fn put(page: &mut Vec<u8>, piece: &'static str, values: &[Value]) -> 
         (filling piece.now (map text_of values.now) ∷ [])) }
 {
     fill(page, piece, values)?;
+    Ok(())
+}
+
+/// Puts a piece after a page, filled with the sentences at these keys.
+pub(crate) fn put_labels(
+    page: &mut Vec<u8>,
+    language: &Language,
+    piece: &'static str,
+    keys: &[u16],
+) -> Result<(), NoMemory>
+    ensures { OnOk result (Grows page.old.items page.new.items
+        (labels language.now piece.now keys.now ∷ [])) }
+{
+    fill_words(page, piece, &language.words, keys)?;
     Ok(())
 }
 
@@ -29,6 +45,6 @@ pub(crate) fn say(
     ensures { OnOk result (Grows page.old.items page.new.items
         (say language.now key (map at_place places.now))) }
 {
-    crate::markup::say(page, language.text(key), places)?;
+    write_sentence(page, language.text(key), places)?;
     Ok(())
 }

@@ -3,16 +3,16 @@
 ghost use Rattle.std.specs.Prelude.{◌<◌, [], ◌∷◌, All, OnOk, codes, length, map};
 ghost use Rattle.pb_page.specs.Inner.Grown.{Grows};
 ghost use Rattle.pb_page.specs.Inner.Pieces.{KnowsPlaces, only_then, over_said};
-ghost use Rattle.pb_page.specs.Page.{amount, at, filling, project_at, raises_ended, say};
+ghost use Rattle.pb_page.specs.Page.{amount, project_at, raises_ended, say};
 ghost use Rattle.pb_page.specs.declared.keys.TheConstants as key;
-ghost use Rattle.pb_page.specs.declared.templates.TheConstants.{ONLY_THEN_OPENING};
 
 use crate::keys;
 use crate::language::Language;
-use crate::markup::{Place, Value};
-use crate::put::{put, say};
+use crate::markup::Value;
+use crate::place::Place;
+use crate::put::{put, put_labels, say};
 use crate::rule::put_item;
-use crate::templates::{AMOUNT, ITEM_OPENING, LIST_CLOSING, ONLY_THEN, ONLY_THEN_OPENING};
+use crate::templates::{ITEM_OPENING, LIST_CLOSING, ONLY_THEN, ONLY_THEN_OPENING};
 use pb_core::election::Election;
 use pb_core::money::Money;
 use pb_core::no_memory::NoMemory;
@@ -65,7 +65,7 @@ fn put_sentence(
 {
     put(page, ITEM_OPENING, &[])?;
     say_over(page, language, share, cost)?;
-    put_head(page, language)
+    put_labels(page, language, ONLY_THEN_OPENING, &[keys::ONLY_THEN])
 }
 
 /// That it would cost more than the budget.
@@ -79,40 +79,14 @@ fn say_over(
         (amount language.now.amounts (codes "next_share") share ∷ amount language.now.costs
         (codes "next_cost") cost ∷ []))) }
 {
-    let values: &[Value] = &[
-        Value::Text("next_share"),
-        Value::Amount(share),
-        Value::Shown(share, language.amounts),
-        Value::Text("next_cost"),
-        Value::Amount(cost),
-        Value::Shown(cost, language.costs),
-    ];
     say(
         page,
         language,
         keys::OVER,
         &[
-            Place {
-                piece: AMOUNT,
-                values: &values[0..3],
-            },
-            Place {
-                piece: AMOUNT,
-                values: &values[3..6],
-            },
+            Place::Amount("next_share", share, language.amounts),
+            Place::Amount("next_cost", cost, language.costs),
         ],
-    )
-}
-
-/// The head of the list of projects.
-fn put_head(page: &mut Vec<u8>, language: &Language) -> Result<(), NoMemory>
-    ensures { OnOk result (Grows page.old.items page.new.items
-        (filling ONLY_THEN_OPENING.now (at language.now key.ONLY_THEN ∷ []) ∷ [])) }
-{
-    put(
-        page,
-        ONLY_THEN_OPENING,
-        &[Value::Text(language.text(keys::ONLY_THEN))],
     )
 }
 

@@ -6,16 +6,16 @@ ghost use Rattle.pb_page.specs.Amount.{shown};
 ghost use Rattle.pb_page.specs.Inner.Grown.{Grows};
 ghost use Rattle.pb_page.specs.Inner.Pieces.{KnowsPlaces, filled_up, item, method_key, method_said, order};
 ghost use Rattle.pb_page.specs.Inner.Pieces.{raises_key, rounds_said, share_rule};
-ghost use Rattle.pb_page.specs.Page.{amount, at, filling, noun_at, number, rule, say};
+ghost use Rattle.pb_page.specs.Page.{amount, filling, noun_at, number, rule, say};
 ghost use Rattle.pb_page.specs.declared.keys.TheConstants as key;
-ghost use Rattle.pb_page.specs.declared.templates.TheConstants.{NAMELESS, RULE_NEXT, RULE_OPENING};
+ghost use Rattle.pb_page.specs.declared.templates.TheConstants.{NAMELESS};
 
 use crate::keys;
 use crate::language::Language;
-use crate::markup::{Place, Value};
-use crate::put::{put, say};
+use crate::place::Place;
+use crate::put::{put_labels, say};
 use crate::raises_ended::put_end;
-use crate::templates::{AMOUNT, ITEM, NAMELESS, NUMBER, RULE_NEXT, RULE_OPENING, TEXT};
+use crate::templates::{ITEM, NAMELESS, RULE_NEXT, RULE_OPENING};
 use pb_core::money::Money;
 use pb_core::no_memory::NoMemory;
 use pb_reasons::{CountedElection, RaiseEnd};
@@ -102,21 +102,9 @@ fn put_share(
 ) -> Result<(), NoMemory>
     ensures { OnOk result (Grows page.old.items page.new.items (share_rule language.now step share raised)) }
 {
-    put_heading(page, language)?;
+    put_labels(page, language, RULE_OPENING, &[keys::RULE_HEADING])?;
     say_share(page, language, step, share, u64::from(raised))?;
-    put_supporters(page, language)
-}
-
-/// The heading.
-fn put_heading(page: &mut Vec<u8>, language: &Language) -> Result<(), NoMemory>
-    ensures { OnOk result (Grows page.old.items page.new.items
-        (filling RULE_OPENING.now (at language.now key.RULE_HEADING ∷ []) ∷ [])) }
-{
-    put(
-        page,
-        RULE_OPENING,
-        &[Value::Text(language.text(keys::RULE_HEADING))],
-    )
+    put_labels(page, language, RULE_NEXT, &[keys::SUPPORTERS])
 }
 
 /// How the share came about.
@@ -132,50 +120,16 @@ fn say_share(
         ∷ filling NAMELESS.now (money_text step ∷ shown language.now.amounts step ∷ [])
         ∷ noun_at language.now key.TIMES raises ∷ []))) }
 {
-    let values: &[Value] = &[
-        Value::Text("share"),
-        Value::Amount(share),
-        Value::Shown(share, language.amounts),
-        Value::Text("raises"),
-        Value::Number(raises),
-        Value::Amount(step),
-        Value::Shown(step, language.amounts),
-        Value::Text(language.noun(keys::TIMES, raises)),
-    ];
     say(
         page,
         language,
         keys::SHARE,
         &[
-            Place {
-                piece: AMOUNT,
-                values: &values[0..3],
-            },
-            Place {
-                piece: NUMBER,
-                values: &values[3..5],
-            },
-            Place {
-                piece: NAMELESS,
-                values: &values[5..7],
-            },
-            Place {
-                piece: TEXT,
-                values: &values[7..8],
-            },
+            Place::Amount("share", share, language.amounts),
+            Place::Number("raises", raises),
+            Place::Nameless(step, language.amounts),
+            Place::Text(language.noun(keys::TIMES, raises)),
         ],
-    )
-}
-
-/// Who can be paid.
-fn put_supporters(page: &mut Vec<u8>, language: &Language) -> Result<(), NoMemory>
-    ensures { OnOk result (Grows page.old.items page.new.items
-        (filling RULE_NEXT.now (at language.now key.SUPPORTERS ∷ []) ∷ [])) }
-{
-    put(
-        page,
-        RULE_NEXT,
-        &[Value::Text(language.text(keys::SUPPORTERS))],
     )
 }
 
@@ -183,7 +137,7 @@ fn put_supporters(page: &mut Vec<u8>, language: &Language) -> Result<(), NoMemor
 pub(crate) fn put_item(page: &mut Vec<u8>, language: &Language, key: u16) -> Result<(), NoMemory>
     ensures { OnOk result (Grows page.old.items page.new.items (item language.now key ∷ [])) }
 {
-    put(page, ITEM, &[Value::Text(language.text(key))])
+    put_labels(page, language, ITEM, &[key])
 }
 
 /// Which project is elected first.

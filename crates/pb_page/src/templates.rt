@@ -272,17 +272,9 @@ pb_app projects FILE";
 
 pub(crate) const AUDIT: &str = "pb_app audit FILE JOURNAL --digests --require-shut";
 
-/// Its options that are given or not.
-pub(crate) const OPTION_COST: &str = " --measure cost";
-
-pub(crate) const OPTION_PLAIN: &str = " --plain";
-
-pub(crate) const OPTION_UTILITARIAN: &str = " --completion utilitarian";
-
-pub(crate) const OPTION_ADD1U: &str = " --completion add1u";
-
-/// Its other options, and the end of the command. Values: the step in hundredths, the limit of raises.
-pub(crate) const COMMAND_CLOSING: &str = " --step ~ --raises ~</code></pre>
+/// Its options, and the end of the command. Values: the option for the measure and that for the completion,
+/// each with a space before it, or nothing; the step in hundredths; the limit of raises.
+pub(crate) const OPTIONS: &str = "~~ --step ~ --raises ~</code></pre>
 <p>";
 
 /// What stands between the sentence on the options and that on the program.

@@ -4,16 +4,15 @@ ghost use Rattle.std.specs.Prelude.{◌≡◌, [], ◌∷◌, OnOk, flat_map};
 ghost use Rattle.pb_page.specs.Inner.Grown.{Grows};
 ghost use Rattle.pb_page.specs.Inner.Pieces.{tie_called, tie_list, tie_said, ties_told};
 ghost use Rattle.pb_rounds.specs.RuleNames.{by_measure};
-ghost use Rattle.pb_page.specs.Page.{at, called, filling, project_at, tie, ties};
+ghost use Rattle.pb_page.specs.Page.{called, project_at, tie, ties};
 ghost use Rattle.pb_page.specs.declared.keys.TheConstants as key;
-ghost use Rattle.pb_page.specs.declared.templates.TheConstants.{TIES_OPENING};
 
 use crate::forms::called;
 use crate::keys;
 use crate::language::Language;
-use crate::markup::{Place, Value};
-use crate::put::{put, say};
-use crate::templates::{CALLED, ITEM_CLOSING, ITEM_OPENING, LIST_CLOSING, NUMBER, TIES_OPENING};
+use crate::place::Place;
+use crate::put::{put, put_labels, say};
+use crate::templates::{ITEM_CLOSING, ITEM_OPENING, LIST_CLOSING, TIES_OPENING};
 use pb_core::election::Election;
 use pb_core::no_memory::NoMemory;
 use pb_reasons::{CountedElection, Tie, ties_of};
@@ -59,21 +58,9 @@ fn put_some(
     ensures { OnOk result (Grows page.old.items page.new.items
         (tie_list language.now count.now told.now)) }
 {
-    put_heading(page, language)?;
+    put_labels(page, language, TIES_OPENING, &[keys::TIES])?;
     put_each(page, language, count, told)?;
     put(page, LIST_CLOSING, &[])
-}
-
-/// What heads them.
-fn put_heading(page: &mut Vec<u8>, language: &Language) -> Result<(), NoMemory>
-    ensures { OnOk result (Grows page.old.items page.new.items
-        (filling TIES_OPENING.now (at language.now key.TIES ∷ []) ∷ [])) }
-{
-    put(
-        page,
-        TIES_OPENING,
-        &[Value::Text(language.text(keys::TIES))],
-    )
 }
 
 /// One after the other.
@@ -135,29 +122,14 @@ fn say_called<'a>(
         (tie_called language.now key round names.entry.0.now names.entry.1.now)) }
 {
     let (winner, other) = names;
-    let values: &[Value] = &[
-        Value::Text("round"),
-        Value::Number(round),
-        Value::Text(winner),
-        Value::Text(other),
-    ];
     say(
         page,
         language,
         key,
         &[
-            Place {
-                piece: NUMBER,
-                values: &values[0..2],
-            },
-            Place {
-                piece: CALLED,
-                values: &values[2..3],
-            },
-            Place {
-                piece: CALLED,
-                values: &values[3..4],
-            },
+            Place::Number("round", round),
+            Place::Called(winner),
+            Place::Called(other),
         ],
     )
 }

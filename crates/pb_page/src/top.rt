@@ -8,7 +8,6 @@ ghost use Rattle.pb_page.specs.Inner.Pieces.{result_said, whole_said};
 ghost use Rattle.pb_page.specs.Page.{amount, at, blocks, filling, noun_at, number, say, text};
 ghost use Rattle.pb_page.specs.declared.keys.TheConstants as key;
 ghost use Rattle.pb_page.specs.declared.style.TheConstants.{HEAD};
-ghost use Rattle.pb_page.specs.declared.templates.TheConstants.{BUDGET_OPENING};
 ghost use Rattle.pb_price.specs.Supporters.{cost_at, support_of};
 ghost use Rattle.pb_reasons.specs.Counted.{winners_of};
 
@@ -16,12 +15,12 @@ use crate::figures::Figures;
 use crate::forms::{called, width};
 use crate::keys;
 use crate::language::Language;
-use crate::markup::{Form, Place, Value};
-use crate::put::{put, say};
+use crate::markup::{Form, Value};
+use crate::place::Place;
+use crate::put::{put, put_labels, say};
 use crate::style::HEAD;
 use crate::templates::{
-    AMOUNT, BLOCKS_CLOSING, BLOCKS_OPENING, BUDGET_CLOSING, BUDGET_OPENING, BUDGET_PART, LEAD_NEXT,
-    NOTHING, NUMBER, TEXT,
+    BLOCKS_CLOSING, BLOCKS_OPENING, BUDGET_CLOSING, BUDGET_OPENING, BUDGET_PART, LEAD_NEXT, NOTHING,
 };
 use pb_core::election::Election;
 use pb_core::money::Money;
@@ -69,42 +68,16 @@ fn put_voted(page: &mut Vec<u8>, language: &Language, figures: &Figures) -> Resu
         ∷ noun_at language.now key.PEOPLE figures.now.voters
         ∷ noun_at language.now key.TOPICS figures.now.projects ∷ []))) }
 {
-    let values: &[Value] = &[
-        Value::Text("voters"),
-        Value::Number(figures.voters),
-        Value::Text("projects"),
-        Value::Number(figures.projects),
-        Value::Text("budget"),
-        Value::Amount(figures.budget),
-        Value::Shown(figures.budget, language.costs),
-        Value::Text(language.noun(keys::PEOPLE, figures.voters)),
-        Value::Text(language.noun(keys::TOPICS, figures.projects)),
-    ];
     say(
         page,
         language,
         keys::VOTED,
         &[
-            Place {
-                piece: NUMBER,
-                values: &values[0..2],
-            },
-            Place {
-                piece: NUMBER,
-                values: &values[2..4],
-            },
-            Place {
-                piece: AMOUNT,
-                values: &values[4..7],
-            },
-            Place {
-                piece: TEXT,
-                values: &values[7..8],
-            },
-            Place {
-                piece: TEXT,
-                values: &values[8..9],
-            },
+            Place::Number("voters", figures.voters),
+            Place::Number("projects", figures.projects),
+            Place::Amount("budget", figures.budget, language.costs),
+            Place::Text(language.noun(keys::PEOPLE, figures.voters)),
+            Place::Text(language.noun(keys::TOPICS, figures.projects)),
         ],
     )
 }
@@ -148,19 +121,11 @@ fn say_left(page: &mut Vec<u8>, language: &Language, left: Money) -> Result<(), 
     ensures { OnOk result (Grows page.old.items page.new.items (say language.now key.NONE_WON
         (amount language.now.costs (codes "left") left ∷ []))) }
 {
-    let values: &[Value] = &[
-        Value::Text("left"),
-        Value::Amount(left),
-        Value::Shown(left, language.costs),
-    ];
     say(
         page,
         language,
         keys::NONE_WON,
-        &[Place {
-            piece: AMOUNT,
-            values,
-        }],
+        &[Place::Amount("left", left, language.costs)],
     )
 }
 
@@ -171,38 +136,15 @@ fn put_won(page: &mut Vec<u8>, language: &Language, figures: &Figures) -> Result
         ∷ amount language.now.costs (codes "left") figures.now.left
         ∷ noun_at language.now key.WINNERS figures.now.won ∷ []))) }
 {
-    let values: &[Value] = &[
-        Value::Text("won"),
-        Value::Number(figures.won),
-        Value::Text("spent"),
-        Value::Amount(figures.spent),
-        Value::Shown(figures.spent, language.costs),
-        Value::Text("left"),
-        Value::Amount(figures.left),
-        Value::Shown(figures.left, language.costs),
-        Value::Text(language.noun(keys::WINNERS, figures.won)),
-    ];
     say(
         page,
         language,
         keys::WON,
         &[
-            Place {
-                piece: NUMBER,
-                values: &values[0..2],
-            },
-            Place {
-                piece: AMOUNT,
-                values: &values[2..5],
-            },
-            Place {
-                piece: AMOUNT,
-                values: &values[5..8],
-            },
-            Place {
-                piece: TEXT,
-                values: &values[8..9],
-            },
+            Place::Number("won", figures.won),
+            Place::Amount("spent", figures.spent, language.costs),
+            Place::Amount("left", figures.left, language.costs),
+            Place::Text(language.noun(keys::WINNERS, figures.won)),
         ],
     )
 }
@@ -215,21 +157,9 @@ pub(crate) fn put_picture(
 ) -> Result<(), NoMemory>
     ensures { OnOk result (Grows page.old.items page.new.items (picture language.now figures.now)) }
 {
-    put_heading(page, language)?;
+    put_labels(page, language, BUDGET_OPENING, &[keys::BUDGET_HEADING])?;
     put_description(page, language, figures)?;
     put(page, BLOCKS_OPENING, &[])
-}
-
-/// The heading above it.
-fn put_heading(page: &mut Vec<u8>, language: &Language) -> Result<(), NoMemory>
-    ensures { OnOk result (Grows page.old.items page.new.items
-        (filling BUDGET_OPENING.now (at language.now key.BUDGET_HEADING ∷ []) ∷ [])) }
-{
-    put(
-        page,
-        BUDGET_OPENING,
-        &[Value::Text(language.text(keys::BUDGET_HEADING))],
-    )
 }
 
 /// What it says to those who can't see it.
@@ -243,28 +173,14 @@ fn put_description(
         ∷ text (shown language.now.costs figures.now.spent)
         ∷ text (shown language.now.costs figures.now.left) ∷ []))) }
 {
-    let values: &[Value] = &[
-        Value::Shown(figures.budget, language.costs),
-        Value::Shown(figures.spent, language.costs),
-        Value::Shown(figures.left, language.costs),
-    ];
     say(
         page,
         language,
         keys::PICTURE,
         &[
-            Place {
-                piece: TEXT,
-                values: &values[0..1],
-            },
-            Place {
-                piece: TEXT,
-                values: &values[1..2],
-            },
-            Place {
-                piece: TEXT,
-                values: &values[2..3],
-            },
+            Place::Shown(figures.budget, language.costs),
+            Place::Shown(figures.spent, language.costs),
+            Place::Shown(figures.left, language.costs),
         ],
     )
 }
@@ -289,34 +205,14 @@ fn put_spent(page: &mut Vec<u8>, language: &Language, figures: &Figures) -> Resu
         (codes "left") figures.now.left
         ∷ amount language.now.amounts (codes "surplus") figures.now.surplus ∷ []))) }
 {
-    let values: &[Value] = &[
-        Value::Text("spent"),
-        Value::Amount(figures.spent),
-        Value::Shown(figures.spent, language.costs),
-        Value::Text("left"),
-        Value::Amount(figures.left),
-        Value::Shown(figures.left, language.costs),
-        Value::Text("surplus"),
-        Value::Amount(figures.surplus),
-        Value::Shown(figures.surplus, language.amounts),
-    ];
     say(
         page,
         language,
         caption_key(figures),
         &[
-            Place {
-                piece: AMOUNT,
-                values: &values[0..3],
-            },
-            Place {
-                piece: AMOUNT,
-                values: &values[3..6],
-            },
-            Place {
-                piece: AMOUNT,
-                values: &values[6..9],
-            },
+            Place::Amount("spent", figures.spent, language.costs),
+            Place::Amount("left", figures.left, language.costs),
+            Place::Amount("surplus", figures.surplus, language.amounts),
         ],
     )
 }

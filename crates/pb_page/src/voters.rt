@@ -3,19 +3,18 @@
 ghost use Rattle.std.specs.Prelude.{[], ◌∷◌, ◌<◌, ◌^◌, OnOk, decimal, flat_map, length};
 ghost use Rattle.std.specs.List.{range_with_len};
 ghost use Rattle.pb_page.specs.Inner.Grown.{Grows};
-ghost use Rattle.pb_page.specs.Inner.Pieces.{exact_row, got, got_said, histogram, row_closing, shown_row, voters_table};
-ghost use Rattle.pb_page.specs.Page.{at, ballots_row, filling, say, text, voters};
-ghost use Rattle.pb_page.specs.declared.keys.TheConstants as key;
-ghost use Rattle.pb_page.specs.declared.templates.TheConstants.{VOTERS_OPENING};
+ghost use Rattle.pb_page.specs.Inner.Pieces.{exact_row, got, got_said, histogram, row_closing, shown_row};
+ghost use Rattle.pb_page.specs.Page.{ballots_row, say, text, voters};
 
 use crate::forms::width;
 use crate::histogram::{BallotsRow, at_least, exactly, won_by_voter};
 use crate::keys;
 use crate::language::Language;
-use crate::markup::{Place, Value};
-use crate::put::{put, say};
+use crate::markup::Value;
+use crate::place::Place;
+use crate::put::{put, put_labels, say};
 use crate::templates::{
-    NUMBER, TABLE_CLOSING, TEXT, VOTERS_OPENING, VOTERS_ROW, VOTERS_ROW_CLOSING, VOTERS_TABLE,
+    TABLE_CLOSING, VOTERS_OPENING, VOTERS_ROW, VOTERS_ROW_CLOSING, VOTERS_TABLE,
 };
 use pb_core::no_memory::NoMemory;
 use pb_reasons::CountedElection;
@@ -60,22 +59,15 @@ fn put_got(page: &mut Vec<u8>, language: &Language, won: &[u32]) -> Result<(), N
     requires { length won.now < 2 ^ 64 }
     ensures { OnOk result (Grows page.old.items page.new.items (got language.now won.now)) }
 {
-    put_heading(page, language)?;
+    put_labels(page, language, VOTERS_OPENING, &[keys::VOTERS_HEADING])?;
     let with = at_least(1, won);
     let without = exactly(0, won);
     say_got(page, language, with, won.len() as u64, without)?;
-    put_table_head(page, language)
-}
-
-/// The heading.
-fn put_heading(page: &mut Vec<u8>, language: &Language) -> Result<(), NoMemory>
-    ensures { OnOk result (Grows page.old.items page.new.items
-        (filling VOTERS_OPENING.now (at language.now key.VOTERS_HEADING ∷ []) ∷ [])) }
-{
-    put(
+    put_labels(
         page,
-        VOTERS_OPENING,
-        &[Value::Text(language.text(keys::VOTERS_HEADING))],
+        language,
+        VOTERS_TABLE,
+        &[keys::VOTERS_CAPTION, keys::CHOSEN, keys::VOTERS],
     )
 }
 
@@ -89,59 +81,17 @@ fn say_got(
 ) -> Result<(), NoMemory>
     ensures { OnOk result (Grows page.old.items page.new.items (got_said language.now with voters without)) }
 {
-    let values: &[Value] = &[
-        Value::Number(with),
-        Value::Text("voters"),
-        Value::Number(voters),
-        Value::Number(without),
-        Value::Text(language.noun(keys::ALL, voters)),
-        Value::Text(language.noun(keys::HAVE, with)),
-        Value::Text(language.noun(keys::LACK, without)),
-    ];
     say(
         page,
         language,
         keys::GOT,
         &[
-            Place {
-                piece: TEXT,
-                values: &values[0..1],
-            },
-            Place {
-                piece: NUMBER,
-                values: &values[1..3],
-            },
-            Place {
-                piece: TEXT,
-                values: &values[3..4],
-            },
-            Place {
-                piece: TEXT,
-                values: &values[4..5],
-            },
-            Place {
-                piece: TEXT,
-                values: &values[5..6],
-            },
-            Place {
-                piece: TEXT,
-                values: &values[6..7],
-            },
-        ],
-    )
-}
-
-/// The head of the histogram.
-fn put_table_head(page: &mut Vec<u8>, language: &Language) -> Result<(), NoMemory>
-    ensures { OnOk result (Grows page.old.items page.new.items (voters_table language.now ∷ [])) }
-{
-    put(
-        page,
-        VOTERS_TABLE,
-        &[
-            Value::Text(language.text(keys::VOTERS_CAPTION)),
-            Value::Text(language.text(keys::CHOSEN)),
-            Value::Text(language.text(keys::VOTERS)),
+            Place::Digits(with),
+            Place::Number("voters", voters),
+            Place::Digits(without),
+            Place::Text(language.noun(keys::ALL, voters)),
+            Place::Text(language.noun(keys::HAVE, with)),
+            Place::Text(language.noun(keys::LACK, without)),
         ],
     )
 }
@@ -208,16 +158,7 @@ fn say_number(
     ensures { OnOk result (Grows page.old.items page.new.items
         (say language.now said (text (decimal number) ∷ []))) }
 {
-    let shown = [Value::Number(u64::from(number))];
-    say(
-        page,
-        language,
-        said,
-        &[Place {
-            piece: TEXT,
-            values: &shown,
-        }],
-    )
+    say(page, language, said, &[Place::Digits(u64::from(number))])
 }
 
 /// The rest of a row of this many ballots.

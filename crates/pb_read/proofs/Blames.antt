@@ -19,6 +19,7 @@ use Rattle.pb_read.specs.Stages.{Next}
 use Rattle.pb_read.specs.StandsFor.{most_records}
 use Rattle.pb_read.specs.declared.check.Verdict.{Verdict}
 use Rattle.pb_read.specs.declared.check.Verdict.TheVariants.{Passes, LeavesOut, Ends, Done}
+use Rattle.pb_read.specs.declared.fault.ReadFault.{ReadFault}
 use Rattle.pb_read.specs.declared.fault.ReadKind.{ReadKind}
 use Rattle.pb_read.specs.declared.fault.ReadKind.TheVariants as kinds
 use Rattle.pb_read.specs.declared.progress.Stage.{Stage}
@@ -63,9 +64,9 @@ one_read None after found fields next = tt
 one_read (Some all) after found fields next = HasReadAtMost-more 1 all [] all after found fields refl (omega arith) next
 
 -- and so many before it
-pub few_read : (all left after : Option (List Fields)) (count : ℕ) (a b : Option (List Sight)) → Shows all left count a b → count ≤ most_records → HasReadAtMost 1 left after → HasReadAtMost 2000001 all after
-few_read None left after count a b shows few one = tt
-few_read (Some all) None after count a b shows few one = absurd shows
-few_read (Some all) (Some left) None count a b shows few one = tt
-few_read (Some all) (Some left) (Some after) count a b shows few one =
+pub few_read : (all left after : Option (List Fields)) (count : ℕ) (faults : List ReadFault) (p : Position) (a b : Option (List Sight)) → Shows all left count faults p a b → count ≤ most_records → HasReadAtMost 1 left after → HasReadAtMost 2000001 all after
+few_read None left after count faults p a b shows few one = tt
+few_read (Some all) None after count faults p a b shows few one = absurd shows
+few_read (Some all) (Some left) None count faults p a b shows few one = tt
+few_read (Some all) (Some left) (Some after) count faults p a b shows few one =
     omega (arith, ap length shows.cut, length-append shows.done left, shows.count_is, few, one)

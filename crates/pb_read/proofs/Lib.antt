@@ -20,3 +20,4 @@ pub mod Tracking
 pub mod Blames
 pub mod Checks
 pub mod Showing
+pub mod Blaming

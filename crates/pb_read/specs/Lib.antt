@@ -9,6 +9,7 @@ pub mod MetaKeys
 pub mod MetaRows
 pub mod Oddities
 pub mod Stages
+pub mod Refusals
 pub mod Rows
 pub mod Shown
 pub mod StandsFor

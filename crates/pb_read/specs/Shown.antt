@@ -1,29 +1,65 @@
 -- What is shown to who looks on while a file is read.
-use Rattle.std.specs.Prelude.{◌≡◌, ◌+◌, ◌-◌, ℕ, List, [], ◌∷◌, ◌++◌, map, take, Option, Some, IfSome}
+use Rattle.std.specs.Prelude.{◌≡◌, ◌+◌, ℕ, ⊤, false, List, [], ◌∷◌, ◌++◌, length, map, Option, Some, IfSome}
+use Rattle.std.specs.List.{slice_index_or}
 use Rattle.std.specs.Str.{trim}
+use Rattle.pb_core.specs.Election.{ElectionView}
 use Rattle.pb_rows.specs.Reading.{Fields}
+use Rattle.pb_read.specs.Listed.{leaves_out}
+use Rattle.pb_read.specs.Refusals.{refusal_of}
+use Rattle.pb_read.specs.Rows.{rows_of}
+use Rattle.pb_read.specs.Stages.{IsAt}
+use Rattle.pb_read.specs.StandsFor.{StandsFor}
 use Rattle.pb_read.specs.declared.fault.ReadFault.{ReadFault}
+use Rattle.pb_read.specs.declared.progress.Stage.{Stage}
+use Rattle.pb_read.specs.declared.refusal.Refusal.{Refusal}
 
--- a record by its number, from 1, and its fields without the white space at their ends; a refusal; or that the
--- file has ended, and may end there
+-- a record by its number, from 1, with its fields without the white space at their ends, and the election so
+-- far; a refusal; or that the file has ended, and may end there, with its election
 pub data Sight : Type 0 where
-  seen : ℕ → Fields → Sight
-  refused : ReadFault → Sight
-  ended : Sight
+  seen : ℕ → Fields → ElectionView → Sight
+  refused : Refusal → Sight
+  ended : ElectionView → Sight
 
--- where it is known what was shown before, these were shown after it
-abbrev pub Adds : List Sight → Option (List Sight) → Option (List Sight) → Type 0
-Adds more before after = IfSome before (λ old. after ≡ Some (old ++ more))
+-- where it is known what was shown before, this was shown after it; the last one comes first
+abbrev pub Adds : Sight → Option (List Sight) → Option (List Sight) → Type 0
+Adds sight before after = IfSome before (λ old. after ≡ Some (sight ∷ old))
 
--- all of these records, of which the first follows this many
-abbrev pub sights : ℕ → List Fields → List Sight
-sights done [] = []
-sights done (r ∷ rest) = seen (done + 1) (map trim r) ∷ sights (done + 1) rest
+-- the records that were seen, without those that were refused
+abbrev pub kept : List Fields → List Sight → List Fields
+kept records [] = []
+kept records (seen at row e ∷ before) = kept records before ++ slice_index_or records (length before) [] ∷ []
+kept records (sight ∷ before) = kept records before
 
--- all records of a file that stands for an election, and its end
-abbrev pub sights_to_end : List Fields → List Sight
-sights_to_end records = sights 0 records ++ ended ∷ []
+-- the faults that were shown, in the order of their records
+abbrev pub faults_of : List Sight → List ReadFault
+faults_of [] = []
+faults_of (refused r ∷ before) = faults_of before ++ r.fault ∷ []
+faults_of (sight ∷ before) = faults_of before
 
--- all records before a fault, and it
-abbrev pub sights_to : ReadFault → List Fields → List Sight
-sights_to fault records = sights 0 (take (fault.at - 1) records) ++ refused fault ∷ []
+-- a sight shows the next of these records, or their end, as it must: the election of a row of PROJECTS has the
+-- terms and the projects of the rows up to here, that of a row of VOTES also their voters, and a refusal tells
+-- what its fault is about
+abbrev pub IsNextSight : List Fields → List Sight → Sight → Type 0
+IsNextSight records before (seen at row e) =
+    (at ≡ length before + 1) × (row ≡ map trim (slice_index_or records (length before) []))
+    × ((stage : Stage) × IsAt (rows_of (kept records (seen at row e ∷ before))) (stage, e))
+IsNextSight records before (refused r) =
+    (r.fault.at ≡ length before + 1) × ((p : Stage × ElectionView) × IsAt (rows_of (kept records before)) p
+    × (r ≡ refusal_of p (map trim (slice_index_or records (length before) [])) r.fault))
+IsNextSight records before (ended e) = (length before ≡ length records) × StandsFor (kept records before) e
+
+abbrev pub AreShown : List Fields → List Sight → Type 0
+AreShown records [] = ⊤
+AreShown records (sight ∷ before) = IsNextSight records before sight × AreShown records before
+
+-- nothing is left to show: the file has ended, or was refused for good
+abbrev pub IsAll : List Fields → List Sight → Type 0
+IsAll records (ended e ∷ before) = ⊤
+IsAll records (refused r ∷ before) =
+    (p : Stage × ElectionView) × IsAt (rows_of (kept records before)) p × (leaves_out p.0 r.fault.kind ≡ false)
+IsAll records sights = ⊥
+
+-- where it is known what was shown before, these records were shown after it, with these faults
+abbrev pub WereShown : List Fields → List ReadFault → (List Sight → Type 0) → Option (List Sight) → Option (List Sight) → Type 0
+WereShown records faults Until before after = IfSome before (λ old.
+    (new : List Sight) × (after ≡ Some (new ++ old)) × AreShown records new × (faults_of new ≡ faults) × Until new)

@@ -1,14 +1,14 @@
 //! The check of a whole file: it goes on after a faulty row.
 
 ghost use Rattle.std.specs.Prelude.{◌≡◌, ◌≢◌, ◌≤◌, ◌<◌, ◌+◌, [], true, List, Option, None, Some, length};
-ghost use Rattle.std.specs.Prelude.{IfErr, IfOk, IfSome, MatchResult, OnOk};
+ghost use Rattle.std.specs.Prelude.{IfErr, IfOk, IfSome, OnOk};
 ghost use Rattle.pb_rows.specs.Reading.{Fields, records_of};
 ghost use Rattle.pb_rows.specs.Inner.Reading.{HasReadAtMost};
 ghost use Rattle.pb_read.specs.Inner.Checking.{Blames, GoesOn, IsGoing, IsRefusal, Judges, JudgesEnd, JudgesRow};
 ghost use Rattle.pb_read.specs.Inner.Checking.{Stops};
 ghost use Rattle.pb_read.specs.Listed.{AreListed, IsHandedOut, is_of_row};
-ghost use Rattle.pb_read.specs.Shown.{Adds, Sight, sights_to, sights_to_end};
-ghost use Rattle.pb_read.specs.Inner.Showing.{IsShownNext, IsShownRow, Shows};
+ghost use Rattle.pb_read.specs.Shown.{IsAll, Sight, WereShown};
+ghost use Rattle.pb_read.specs.Inner.Showing.{IsShownNext, IsShownRow, Shows, ShowsStop};
 ghost use Rattle.pb_read.specs.Inner.Progresses.{BlamesReader, IsReady, place_of};
 ghost use Rattle.pb_read.specs.Inner.Opening.{empty};
 ghost use Rattle.pb_read.specs.declared.fault.ReadFault.{ReadFault};
@@ -17,6 +17,7 @@ ghost use Rattle.pb_read.specs.declared.progress.Stage.TheVariants.{Start};
 use crate::fault::{ReadFault, ReadKind};
 use crate::progress::Progress;
 use crate::read::MOST_RECORDS;
+use crate::refusal::Refusal;
 use crate::row::{Found, Row};
 use crate::watch::Watch;
 use csv::ByteRecord;
@@ -69,9 +70,11 @@ pub fn check_pb<R: Read + Drop, W: Watch>(
     ensures election { IfSome (R.remaining reader) (λ bytes.
         IfOk result (λ checked. IsHandedOut (records_of bytes) checked.faults.items checked.election)) }
 
-    // Who looks on was shown all records and the end, where there is no fault.
-    ensures shown { IfSome (R.remaining reader) (λ bytes. IfOk result (λ checked. checked.faults.items ≡ [] →
-        Adds (sights_to_end (records_of bytes)) (W.shown watch.old) (W.shown watch.new))) }
+    // Who looks on was shown each record that was read, with these faults, and the end unless a fault ended
+    // the check; of 1,000 faults nothing is said.
+    ensures shown { IfSome (R.remaining reader) (λ bytes. IfOk result (λ checked.
+        length checked.faults.items < 1000 → WereShown (records_of bytes) checked.faults.items
+        (IsAll (records_of bytes)) (W.shown watch.old) (W.shown watch.new))) }
 {
     let mut records = Records::new(alloc, reader);
     let checked = check_records(alloc, &mut records, watch);
@@ -90,8 +93,9 @@ fn check_records<R: Read, W: Watch>(
         IfOk result (λ checked. AreListed 0 all checked.faults.items)) }
     ensures election { IfSome records.old.left (λ all.
         IfOk result (λ checked. IsHandedOut all checked.faults.items checked.election)) }
-    ensures shown { IfSome records.old.left (λ all. IfOk result (λ checked. checked.faults.items ≡ [] →
-        Adds (sights_to_end all) (W.shown watch.old) (W.shown watch.new))) }
+    ensures shown { IfSome records.old.left (λ all. IfOk result (λ checked.
+        length checked.faults.items < 1000 → WereShown all checked.faults.items (IsAll all)
+        (W.shown watch.old) (W.shown watch.new))) }
 {
     let mut faults = Vec::new(alloc);
     let mut check = Check::new(alloc);
@@ -166,8 +170,8 @@ impl Check {
         ensures faults { OnOk result (IfSome records.old.left (λ all. AreListed 0 all faults.new.items)) }
         ensures election { IfOk result (λ election.
             IfSome records.old.left (λ all. IsHandedOut all faults.new.items election)) }
-        ensures shown { OnOk result (IfSome records.old.left (λ all. faults.new.items ≡ [] →
-            Adds (sights_to_end all) (W.shown watch.old) (W.shown watch.new))) }
+        ensures shown { OnOk result (IfSome records.old.left (λ all. length faults.new.items < 1000 →
+            WereShown all faults.new.items (IsAll all) (W.shown watch.old) (W.shown watch.new))) }
     {
         let mut kept = 0;
         for left_out in 0..MOST_FAULTS as u32 {
@@ -239,11 +243,11 @@ impl Check {
         ensures stops { (all : Option (List Fields)) → (faults : List ReadFault) → length faults ≡ left_out →
             IsGoing all records.old.left (kept + left_out) faults (place_of self.old.progress) →
             Stops all records.new.left faults (place_of self.new.progress) result }
-        ensures shown { (all : Option (List Fields)) → (before : Option (List Sight)) →
-            Shows all records.old.left (kept + left_out) before (W.shown watch.old) →
-            IfSome all (λ records. MatchResult result
-            (λ _. Adds (sights_to_end records) before (W.shown watch.new))
-            (λ refused. Adds (sights_to refused.fault records) before (W.shown watch.new))) }
+        ensures shown { (all : Option (List Fields)) → (faults : List ReadFault) →
+            (before : Option (List Sight)) → length faults ≡ left_out →
+            Shows all records.old.left (kept + left_out) faults (place_of self.old.progress) before
+            (W.shown watch.old) →
+            ShowsStop all records.new.left faults (place_of self.new.progress) before (W.shown watch.new) result }
         ensures blame { records.old.fault ≡ None →
             IfErr result (λ refused. BlamesReader refused.fault.kind records.new.fault) }
         ensures read { kept ≡ 0 → left_out ≡ 0 → HasReadAtMost 2000001 records.old.left records.new.left }
@@ -286,8 +290,8 @@ impl Check {
         ensures judged { Judges kept records.old.left records.new.left
             (place_of self.old.progress) (place_of self.new.progress) result }
         ensures ready { GoesOn result → IsReady self.new.progress }
-        ensures shown { IsShownNext records.old.left records.new.left at
-            (W.shown watch.old) (W.shown watch.new) result }
+        ensures shown { IsShownNext records.old.left records.new.left at (place_of self.old.progress)
+            (place_of self.new.progress) (W.shown watch.old) (W.shown watch.new) result }
         ensures blame { records.old.fault ≡ None → Blames result records.new.fault }
         ensures goes_on { GoesOn result → records.new.fault ≡ None }
         ensures read { HasReadAtMost 1 records.old.left records.new.left }
@@ -296,7 +300,8 @@ impl Check {
             Ok(Found::Text) => self.judge(watch, kept, at),
             Ok(Found::NoText) => {
                 let kind = ReadKind::NotText;
-                watch.refuse(&self.raw, ReadFault { kind, at }, &self.progress.stage);
+                let refusal = Refusal::of(ReadFault { kind, at });
+                watch.refuse(&self.raw, refusal, &self.progress.stage);
                 self.refused_by(kind)
             }
             Ok(Found::End) => self.judge_end(watch, at),
@@ -307,7 +312,8 @@ impl Check {
                     RecordsFault::ReadFailed | RecordsFault::NotText => ReadKind::ReadFailed,
                 };
                 self.raw.clear();
-                watch.refuse(&self.raw, ReadFault { kind, at }, &self.progress.stage);
+                let refusal = Refusal::of(ReadFault { kind, at });
+                watch.refuse(&self.raw, refusal, &self.progress.stage);
                 Verdict::Ends(kind)
             }
         }
@@ -319,16 +325,14 @@ impl Check {
         ensures judged { JudgesRow kept self.old.row
             (place_of self.old.progress) (place_of self.new.progress) result }
         ensures ready { GoesOn result → IsReady self.new.progress }
-        ensures shown { IsShownRow self.old.row at (W.shown watch.old) (W.shown watch.new) result }
+        ensures shown { IsShownRow self.old.row at (place_of self.old.progress)
+            (place_of self.new.progress) (W.shown watch.old) (W.shown watch.new) result }
         ensures blame { Blames result None }
     {
         if kept == MOST_RECORDS {
             let kind = ReadKind::TooManyRecords;
-            watch.refuse(
-                self.row.bytes(),
-                ReadFault { kind, at },
-                &self.progress.stage,
-            );
+            let refusal = Refusal::of(ReadFault { kind, at });
+            watch.refuse(self.row.bytes(), refusal, &self.progress.stage);
             return Verdict::Ends(kind);
         }
         match self.progress.read(&self.row) {
@@ -337,11 +341,8 @@ impl Check {
                 Verdict::Passes
             }
             Err(kind) => {
-                watch.refuse(
-                    self.row.bytes(),
-                    ReadFault { kind, at },
-                    &self.progress.stage,
-                );
+                let refusal = self.progress.refusal(&self.row, ReadFault { kind, at });
+                watch.refuse(self.row.bytes(), refusal, &self.progress.stage);
                 self.refused_by(kind)
             }
         }
@@ -350,13 +351,15 @@ impl Check {
     /// Judges the end of the file, where record `at` would stand.
     fn judge_end<W: Watch>(&self, watch: &mut W, at: u32) -> Verdict
         ensures judged { JudgesEnd (place_of self.now.progress) result }
-        ensures shown { IsShownRow [] at (W.shown watch.old) (W.shown watch.new) result }
+        ensures shown { IsShownRow [] at (place_of self.now.progress) (place_of self.now.progress)
+            (W.shown watch.old) (W.shown watch.new) result }
         ensures blame { Blames result None }
     {
         match self.progress.may_end() {
             Ok(()) => Verdict::Done,
             Err(kind) => {
-                watch.refuse(&self.raw, ReadFault { kind, at }, &self.progress.stage);
+                let refusal = Refusal::of(ReadFault { kind, at });
+                watch.refuse(&self.raw, refusal, &self.progress.stage);
                 Verdict::Ends(kind)
             }
         }

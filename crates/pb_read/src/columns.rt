@@ -1,5 +1,6 @@
 //! Where the columns of PROJECTS and VOTES stand.
 
+use crate::column::Column;
 use crate::fault::ReadKind;
 use crate::row::Row;
 use pb_core::money::Money;
@@ -33,8 +34,8 @@ impl ProjectColumns {
     pub(crate) fn of(header: &Row) -> Option<ProjectColumns>
         ensures { result ≡ project_columns header.now }
     {
-        let id = header.column("project_id")?;
-        let cost = header.column("cost")?;
+        let id = header.column(Column::ProjectId.text())?;
+        let cost = header.column(Column::Cost.text())?;
         let name = header.column("name");
         Some(ProjectColumns { id, cost, name })
     }
@@ -84,8 +85,8 @@ impl VoteColumns {
     pub(crate) fn of(header: &Row) -> Option<VoteColumns>
         ensures { result ≡ vote_columns header.now }
     {
-        let voter = header.column("voter_id")?;
-        let vote = header.column("vote")?;
+        let voter = header.column(Column::VoterId.text())?;
+        let vote = header.column(Column::Vote.text())?;
         Some(VoteColumns { voter, vote })
     }
 

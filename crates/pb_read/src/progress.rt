@@ -5,8 +5,8 @@ ghost use Rattle.pb_read.specs.Listed.{is_in_rows, leaves_out};
 ghost use Rattle.pb_read.specs.Stages.{head, next_row, plain, the_end};
 ghost use Rattle.pb_core.specs.Election.{opening};
 ghost use Rattle.pb_read.specs.Inner.Machine.{meta_checks, terms_said};
-ghost use Rattle.pb_read.specs.Inner.Progresses.{Advances, EndsWith, IsRead, IsReady, Refuses, Stays};
-ghost use Rattle.pb_read.specs.Inner.Progresses.{place_of};
+ghost use Rattle.pb_read.specs.Inner.Progresses.{Advances, EndsWith, IsOfNoValue, IsRead, IsReady, Refuses};
+ghost use Rattle.pb_read.specs.Inner.Progresses.{Stays, place_of};
 ghost use Rattle.pb_read.specs.Inner.Opening.{empty};
 ghost use Rattle.pb_read.specs.declared.progress.Stage.TheVariants.{Start, Header};
 ghost use Rattle.pb_read.specs.declared.section.Section.TheVariants.{Projects};
@@ -174,6 +174,7 @@ impl Progress {
         ensures end { MatchResult result (λ _. EndsWith (place_of self.now) self.now.draft.election)
             (Refuses self.now the_end) }
         ensures no_row { IfErr result (λ kind. leaves_out self.now.stage kind ≡ false) }
+        ensures no_value { IfErr result IsOfNoValue }
     {
         match self.stage {
             Stage::InVotes(_) => Ok(()),

@@ -1,18 +1,18 @@
 //! The reader of a whole file.
 
-ghost use Rattle.std.specs.Prelude.{◌≡◌, None, IfOk, IfErr, IfSome, MatchResult};
+ghost use Rattle.std.specs.Prelude.{◌≡◌, [], ◌∷◌, length, None, Some, IfOk, IfErr, IfSome, MatchResult};
 ghost use Rattle.pb_rows.specs.Reading.{records_of};
 ghost use Rattle.pb_rows.specs.Inner.Reading.{HasReadAtMost};
 ghost use Rattle.pb_read.specs.FirstFault.{IsFaultAt, ReadsTo};
 ghost use Rattle.pb_read.specs.Inner.Progresses.{BlamesReader};
 ghost use Rattle.pb_read.specs.StandsFor.{StandsFor};
-ghost use Rattle.pb_read.specs.Shown.{Adds, sights_to, sights_to_end};
+ghost use Rattle.pb_read.specs.Shown.{IsAll, WereShown};
 
 use crate::check::Check;
-use crate::fault::ReadFault;
+use crate::fault::{ReadFault, ReadKind};
 use crate::watch::{NoWatch, Watch};
 use pb_core::election::Election;
-use pb_rows::Records;
+use pb_rows::{Records, RecordsFault};
 use std::alloc::Global;
 use std::io::Read;
 
@@ -45,11 +45,32 @@ pub fn read_pb_watched<R: Read + Drop, W: Watch>(
 
     // Who looks on was shown all records and the end, or the records before the fault, and the fault.
     ensures shown { IfSome (R.remaining reader) (λ bytes. MatchResult result
-        (λ _. Adds (sights_to_end (records_of bytes)) (W.shown watch.old) (W.shown watch.new))
-        (λ fault. Adds (sights_to fault (records_of bytes)) (W.shown watch.old) (W.shown watch.new))) }
+        (λ _. WereShown (records_of bytes) [] (IsAll (records_of bytes)) (W.shown watch.old) (W.shown watch.new))
+        (λ fault. WereShown (records_of bytes) (fault ∷ []) (λ new. length new ≡ fault.at)
+        (W.shown watch.old) (W.shown watch.new))) }
 {
     let mut records = Records::new(alloc, reader);
-    read_records(alloc, &mut records, watch)
+    read_pb_records(alloc, &mut records, watch)
+}
+
+/// Reads these records as `read_pb_watched` reads those of a text. Where it blames the reader, the reader has
+/// failed.
+pub fn read_pb_records<R: Read, W: Watch>(
+    alloc: Global,
+    records: &mut Records<R>,
+    watch: &mut W,
+) -> Result<Election, ReadFault>
+    ensures ok { IfSome records.old.left (λ all. IfOk result (λ e. StandsFor all e)) }
+    ensures fault { IfSome records.old.left (λ all.
+        IfErr result (λ fault. IsFaultAt all fault.kind fault.at)) }
+    ensures blame { records.old.fault ≡ None → IfErr result (λ fault.
+        fault.kind ≡ ReadKind.ReadFailed → records.new.fault ≡ Some RecordsFault.ReadFailed) }
+    ensures shown { IfSome records.old.left (λ all. MatchResult result
+        (λ _. WereShown all [] (IsAll all) (W.shown watch.old) (W.shown watch.new))
+        (λ fault. WereShown all (fault ∷ []) (λ new. length new ≡ fault.at)
+        (W.shown watch.old) (W.shown watch.new))) }
+{
+    read_records(alloc, records, watch)
 }
 
 /// Reads these records up to the first fault, or to the end: the check, stopped where it would list a fault.
@@ -58,15 +79,16 @@ fn read_records<R: Read, W: Watch>(
     records: &mut Records<R>,
     watch: &mut W,
 ) -> Result<Election, ReadFault>
-    requires { records.old.fault ≡ None }
     ensures ok { IfSome records.old.left (λ all. IfOk result (λ e. StandsFor all e)) }
     ensures fault { IfSome records.old.left (λ all.
         IfErr result (λ fault. IsFaultAt all fault.kind fault.at)) }
-    ensures blame { IfErr result (λ fault. BlamesReader fault.kind records.new.fault) }
+    ensures blame { records.old.fault ≡ None →
+        IfErr result (λ fault. BlamesReader fault.kind records.new.fault) }
     ensures read { HasReadAtMost 2000001 records.old.left records.new.left }
     ensures shown { IfSome records.old.left (λ all. MatchResult result
-        (λ _. Adds (sights_to_end all) (W.shown watch.old) (W.shown watch.new))
-        (λ fault. Adds (sights_to fault all) (W.shown watch.old) (W.shown watch.new))) }
+        (λ _. WereShown all [] (IsAll all) (W.shown watch.old) (W.shown watch.new))
+        (λ fault. WereShown all (fault ∷ []) (λ new. length new ≡ fault.at)
+        (W.shown watch.old) (W.shown watch.new))) }
 {
     let mut check = Check::new(alloc);
     let answer = match check.read_to_fault(records, watch, 0, 0) {

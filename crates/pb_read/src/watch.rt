@@ -1,14 +1,15 @@
 //! Who looks on while a file is read.
 
-ghost use Rattle.std.specs.Prelude.{◌≡◌, [], ◌∷◌, ℕ, List, map, Option, OnOk};
+ghost use Rattle.std.specs.Prelude.{◌≡◌, ℕ, List, map, Option, IfOk, OnOk};
 ghost use Rattle.std.specs.Str.{trim};
 ghost use Rattle.csv.specs.Records.{fields_of};
 ghost use Rattle.pb_read.specs.Shown.{Adds, Sight, ended, refused, seen};
 ghost use Rattle.pb_read.specs.declared.warning.Warning.{Warning};
+ghost use Rattle.pb_read.specs.declared.warning.WarningRow.{WarningRow};
 
 use crate::columns::{ProjectColumns, VoteColumns};
-use crate::fault::ReadFault;
 use crate::progress::Stage;
+use crate::refusal::Refusal;
 use crate::section::Section;
 use crate::warning::{Warning, WarningRow};
 use csv::ByteRecord;
@@ -36,29 +37,33 @@ pub enum Part {
 pub trait Watch {
     ghost use Rattle.std.specs.Prelude.{None};
 
-    /// What it was shown, in order, where it says so.
+    /// What it was shown, where it says so; the last comes first.
     ghost shown: { Self → Option (List Sight) } = { λ _. None };
 
     /// Sees the record with this number, from 1, as it stands in the file, and what it is. The reader has
     /// accepted it: a row of PROJECTS or of VOTES is the last project or voter of the election so far.
     fn see(&mut self, record: &ByteRecord, at: u32, part: Part, election: &Election)
-        ensures shown { Adds (seen at (map trim (fields_of record.now)) ∷ []) (shown self.old) (shown self.new) };
+        ensures shown { Adds (seen at (map trim (fields_of record.now)) election.now) (shown self.old) (shown self.new) };
 
     /// Sees the record that the reader refuses, why, and how far the file was read before it. The record has
     /// no field where there is none: the file ends, or its reader failed.
-    fn refuse(&mut self, record: &ByteRecord, fault: ReadFault, stage: &Stage)
-        ensures shown { Adds (refused fault ∷ []) (shown self.old) (shown self.new) };
+    fn refuse(&mut self, record: &ByteRecord, refusal: Refusal, stage: &Stage)
+        ensures shown { Adds (refused refusal) (shown self.old) (shown self.new) };
 
     /// Learns that the file has ended, and may end there: all of its rows were shown, and those that were
     /// accepted gave this election.
     fn end(&mut self, election: &Election)
-        ensures shown { Adds (ended ∷ []) (shown self.old) (shown self.new) };
+        ensures shown { Adds (ended election.now) (shown self.old) (shown self.new) };
 }
 
 /// Who looks on at a check, and then warns.
 pub trait Warn: Watch {
+    /// It has answered these as its warnings.
+    ghost warns: { Self → List WarningRow → Type 0 };
+
     /// The warnings of what was seen, in the order in which they are written.
-    fn warnings(&mut self) -> Result<Vec<WarningRow>, NoMemory>;
+    fn warnings(&mut self) -> Result<Vec<WarningRow>, NoMemory>
+        ensures { IfOk result (λ rows. warns self.new rows.items) };
 }
 
 /// Who looks on at a check, and then also warns of claims in the file that differ from a count.
@@ -70,7 +75,8 @@ pub trait Compare: Warn {
     /// which they are written. The winners are the places of the elected, in order of election, and then of
     /// the added in theirs.
     fn warnings_beside(&mut self, winners: &[u32]) -> Result<Vec<WarningRow>, NoMemory>
-        ensures { OnOk result (has_compared self.new winners.now) };
+        ensures compared { OnOk result (has_compared self.new winners.now) }
+        ensures rows { IfOk result (λ rows. Self.warns self.new rows.items) };
 }
 
 /// Who looks on at the file of a count, and may refuse it for a warning.
@@ -90,7 +96,7 @@ pub struct NoWatch;
 impl Watch for NoWatch {
     fn see(&mut self, _record: &ByteRecord, _at: u32, _part: Part, _election: &Election) {}
 
-    fn refuse(&mut self, _record: &ByteRecord, _fault: ReadFault, _stage: &Stage) {}
+    fn refuse(&mut self, _record: &ByteRecord, _refusal: Refusal, _stage: &Stage) {}
 
     fn end(&mut self, _election: &Election) {}
 }

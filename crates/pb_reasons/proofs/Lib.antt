@@ -12,6 +12,7 @@ pub mod Reasoned
 pub mod Listing
 mod Numbering
 pub mod RaiseEnds
+pub mod RaiseLimits
 pub mod Results
 pub mod VoterTold
 pub mod WinnerSums
@@ -29,3 +30,4 @@ pub mod NumberedIds
 pub mod Searches
 pub mod Tidy
 pub mod Ranges
+pub mod Doubling

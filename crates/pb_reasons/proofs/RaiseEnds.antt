@@ -79,13 +79,13 @@ run_can_be_summed m e share elected rests h run =
     }
 
 -- two runs at one share elect the same
-same_elected : (m : Measure) (s : SupportView) (share : ℕ) (one two : RunView) → IsRun m s share one.elected one.rests → IsRun m s share two.elected two.rests
+pub same_elected : (m : Measure) (s : SupportView) (share : ℕ) (one two : RunView) → IsRun m s share one.elected one.rests → IsRun m s share two.elected two.rests
     → one.elected ≡ two.elected
 same_elected m s share one two of_one of_two = ap (λ (r : RunView). r.elected) (only_run m s share one of_one ∙ sym (only_run m s share two of_two))
 
 module _ (e : ElectionView) (options : CountOptions) (o : OutcomeView) (h : IsCountOf e options o) where
   -- what holds of whom a run after so many raises elects, holds of whom this run at its share elects
-  such_are : (raises share : ℕ) (run : RunView) (IsSuch : List ElectedView → Type 0) → share ≡ opening_share e + raises * options.step
+  pub such_are : (raises share : ℕ) (run : RunView) (IsSuch : List ElectedView → Type 0) → share ≡ opening_share e + raises * options.step
       → IsRun options.measure (support_of e) share run.elected run.rests → After options.measure e options.step raises IsSuch → IsSuch run.elected
   such_are raises share run IsSuch share_is is (elected, rests, words, such) =
       let here = subst (λ (n : ℕ). IsRun options.measure (support_of e) n run.elected run.rests) share_is is in

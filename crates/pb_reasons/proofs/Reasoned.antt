@@ -1,10 +1,10 @@
 -- What reasons tell, from what they keep.
-use Rattle.std.proofs.Common.{◌≡◌, ℕ, ◌+◌, ◌-◌, ◌<◌, ◌≤◌, List, [], ◌∷◌, length, get_or, map, true, cond, Some, None, refl, sym, ◌∙◌, ap, subst, arith}
-use Rattle.std.specs.Prelude.{◌==◌, All, count_by, slice_index, slice_index_or, slice_get, replicate}
+use Rattle.std.proofs.Common.{◌≡◌, ℕ, ◌+◌, ◌-◌, ◌<◌, ◌≤◌, List, length, get_or, true, Some, None, refl, sym, ◌∙◌, ap, subst, arith}
+use Rattle.std.specs.Prelude.{◌==◌, count_by, slice_index, slice_get, replicate}
 use Rattle.std.proofs.lemmas.Bool.{cond-true, eq-eqb, true≢false}
-use Rattle.std.proofs.lemmas.List.{get_or-map, get_or_default, get_or_past, length-map}
-use Rattle.std.proofs.lemmas.List.Elements.{All-head, All-tail, Contains-get_or}
-use Rattle.std.proofs.lemmas.List.Sums.{fails_before_first, sum_by-cons}
+use Rattle.std.proofs.lemmas.List.{get_or-map, get_or_default, length-map}
+use Rattle.std.proofs.lemmas.List.Elements.{Contains-get_or}
+use Rattle.std.proofs.lemmas.List.Sums.{count_by-le-length, fails_before_first}
 use Rattle.std.proofs.lemmas.Option.{slice_get_read, slice_get_past}
 use Rattle.pb_core.specs.Election.{ElectionView, ProjectView}
 use Rattle.pb_price.proofs.SupporterLists.{support_form}
@@ -16,24 +16,14 @@ use Rattle.pb_rounds.specs.Run.{ElectedView}
 use Rattle.pb_rounds.proofs.Listed.{listed_from_contains}
 use Rattle.pb_rounds.proofs.Collected.{length-rises}
 use Rattle.pb_rounds.proofs.Explained.{supporters_rise}
-use Rattle.pb_reasons.specs.Reasons.{all_payments, paid_for, round_of}
+use Rattle.pb_reasons.specs.Reasons.{paid_for, round_of}
 use Rattle.pb_reasons.specs.Inner.OfOutcome.{outcome_ending, outcome_reason}
 use Rattle.pb_reasons.specs.Inner.Told.{CanBeTold}
 use Rattle.pb_reasons.specs.Inner.Kept.{AreReasons, ReasonsView}
-use Rattle.pb_reasons.specs.Inner.Replay.{paid_by_supporters}
 use Rattle.pb_reasons.specs.declared.project_reason.Ending.{Ending}
 use Rattle.pb_reasons.specs.declared.project_reason.Ending.TheVariants.{Won, Lost}
-use Rattle.pb_reasons.proofs.Told.{IsRow, length-paid_by_supporters, length-paid_in_turn, round_elects, row_at}
-
--- as many amounts are the price as supporters have that amount due
-full_count : (due paid : ℕ → ℕ) (price : ℕ) (supporters : List ℕ) → All (λ v. due v ≡ paid v) supporters
-    → count_by (λ amount. amount == price) (map due supporters) ≡ count_by (λ v. paid v == price) supporters
-full_count due paid price [] same = refl
-full_count due paid price (v ∷ supporters) same =
-    let here : due v ≡ paid v = All-head (λ u. due u ≡ paid u) v supporters same in
-    let later = full_count due paid price supporters (All-tail (λ u. due u ≡ paid u) v supporters same) in
-    sum_by-cons (λ amount. cond (amount == price) 1 0) (due v) (map due supporters)
-    ∙ rw (here, later) (sym (sum_by-cons (λ u. cond (paid u == price) 1 0) v supporters))
+use Rattle.pb_reasons.proofs.Told.{length-full_payers_by_round, round_elects, row_at}
+use Rattle.pb_reasons.proofs.VoterTold.{count_agree}
 
 module _ (e : ElectionView) (o : OutcomeView) (r : ReasonsView) (own : AreReasons e o r) where
   as_many_costs : length (support_of e).costs ≡ length e.projects
@@ -43,62 +33,42 @@ module _ (e : ElectionView) (o : OutcomeView) (r : ReasonsView) (own : AreReason
   pub has_place : (place : ℕ) → place < length e.projects → place < length r.supporters.costs
   has_place place known = rw (own.supporters, as_many_costs) known
 
-  pub as_many_rows : length r.paid ≡ length o.elected
-  as_many_rows = ap length own.paid ∙ length-paid_by_supporters (support_of e) (replicate (length e.voters) o.share) o.elected
+  pub as_many_rounds : length r.in_full ≡ length o.elected
+  as_many_rounds = ap length own.in_full ∙ length-full_payers_by_round (support_of e) (replicate (length e.voters) o.share) o.elected
 
   module _ (place : ℕ) (known : place < length e.projects) where
     pub round_is : slice_index r.rounds place ≡ round_of o.elected place
     round_is = own.rounds.numbered place known
 
-    -- the row of an elected project
-    pub row_of_round : round_of o.elected place < length o.elected
-        → IsRow (supporters_at (support_of e) place) (get_or r.paid (round_of o.elected place) []) (slice_index_or (all_payments e o) (round_of o.elected place) [])
-    row_of_round below =
-        let d : ElectedView = record { place = 0; price = 0; collected = 0 } in
-        let row = row_at (support_of e) (replicate (length e.voters) o.share) o.elected (round_of o.elected place) d below in
-        rw own.paid
-        (subst (λ p. IsRow (supporters_at (support_of e) p) (get_or (paid_by_supporters (support_of e) (replicate (length e.voters) o.share) o.elected) (round_of o.elected place) []) (slice_index_or (all_payments e o) (round_of o.elected place) []))
-        (round_elects o.elected place d below) row)
-
-    pub amount_is_paid : round_of o.elected place < length o.elected → (supporters amounts : List ℕ) → supporters ≡ supporters_at (support_of e) place
-        → amounts ≡ get_or r.paid (round_of o.elected place) [] → (voter amount : ℕ)
-        → ((f : ℕ → ℕ) → amounts ≡ map f supporters → amount ≡ cond (is_listed supporters voter) (f voter) 0)
-        → amount ≡ paid_for e o place voter
-    amount_is_paid below supporters amounts supporters_are amounts_are voter amount says =
-        let row = row_of_round below in
-        says row.due (amounts_are ∙ row.row_is ∙ ap (map row.due) (sym supporters_are))
-        ∙ ap (λ (l : List ℕ). cond (is_listed l voter) (row.due voter) 0) supporters_are ∙ sym (row.paid_is voter)
-
-    pub nothing_paid : length o.elected ≤ round_of o.elected place → (voter : ℕ) → paid_for e o place voter ≡ 0
-    nothing_paid past voter =
-        ap (λ (l : List ℕ). slice_index l voter)
-        (get_or_past (all_payments e o) (round_of o.elected place) [] (rw (length-paid_in_turn (support_of e) (replicate (length e.voters) o.share) o.elected) past))
-        ∙ get_or_past [] voter 0 (omega arith)
-
-    pub in_full_is : round_of o.elected place < length o.elected → (amounts : List ℕ) → amounts ≡ get_or r.paid (round_of o.elected place) [] → (price : ℕ)
-        → count_by (λ amount. amount == price) amounts ≡ count_by (λ voter. paid_for e o place voter == price) (supporters_at (support_of e) place)
-    in_full_is below amounts amounts_are price =
-        let row = row_of_round below in
+    -- the supporters of an elected project who paid its price are as many as the replay counted
+    in_full_is : (w : ElectedView) → w ≡ get_or o.elected (round_of o.elected place) w → round_of o.elected place < length o.elected
+        → get_or r.in_full (round_of o.elected place) 0 ≡ count_by (λ voter. paid_for e o place voter == w.price) (supporters_at (support_of e) place)
+    in_full_is w here below =
+        let row = row_at (support_of e) (replicate (length e.voters) o.share) o.elected (round_of o.elected place) w below in
         let supporters = supporters_at (support_of e) place in
-        ap (count_by (λ amount. amount == price)) (amounts_are ∙ row.row_is)
-        ∙ full_count row.due (paid_for e o place) price supporters (λ k d inside.
+        let at : supporters_at (support_of e) (get_or o.elected (round_of o.elected place) w).place ≡ supporters = ap (supporters_at (support_of e)) (round_elects o.elected place w below) in
+        let price : (get_or o.elected (round_of o.elected place) w).price ≡ w.price = ap (λ (v : ElectedView). v.price) (sym here) in
+        ap (λ (l : List ℕ). get_or l (round_of o.elected place) 0) own.in_full ∙ row.in_full_is
+        ∙ ap (λ (p : ℕ). count_by (λ voter. row.due voter == p) (supporters_at (support_of e) (get_or o.elected (round_of o.elected place) w).place)) price
+        ∙ ap (count_by (λ voter. row.due voter == w.price)) at
+        ∙ count_agree (λ voter. row.due voter == w.price) (λ voter. paid_for e o place voter == w.price) supporters (λ k d inside.
         let v = get_or supporters k d in
-        let listed : is_listed supporters v ≡ true = listed_from_contains supporters v (Contains-get_or supporters k d inside) in
-        sym (row.paid_is v ∙ cond-true _ _ _ listed))
+        let listed : is_listed (supporters_at (support_of e) (get_or o.elected (round_of o.elected place) w).place) v ≡ true =
+        ap (λ (l : List ℕ). is_listed l v) at ∙ listed_from_contains supporters v (Contains-get_or supporters k d inside) in
+        ap (λ (p : ℕ). p == w.price) (sym (row.paid_is v ∙ cond-true _ _ _ listed)))
 
     pub round_read : (round d : ℕ) → round ≡ get_or r.rounds place d → round ≡ round_of o.elected place
     round_read round d is = is ∙ get_or_default r.rounds place d 0 (rw own.rounds.one_each known) ∙ round_is
 
     pub project_won : (round : ℕ) → round ≡ round_of o.elected place → round < length o.elected → (w : ElectedView) → w ≡ get_or o.elected round w
-        → (supporters amounts : List ℕ) → supporters ≡ supporters_at (support_of e) place → amounts ≡ get_or r.paid round amounts
-        → (ending : Ending) → ending ≡ Won (record { round = round + 1; price = w.price; collected = w.collected; in_full = count_by (λ amount. amount == w.price) amounts })
+        → (supporters : List ℕ) (in_full d : ℕ) → supporters ≡ supporters_at (support_of e) place → in_full ≡ get_or r.in_full round d
+        → (ending : Ending) → ending ≡ Won (record { round = round + 1; price = w.price; collected = w.collected; in_full = in_full })
         → record { votes = length supporters; ending = ending } ≡ outcome_reason e o place
-    project_won round is below w here supporters amounts supporters_are amounts_are ending ending_is =
+    project_won round is below w here supporters in_full d supporters_are in_full_are ending ending_is =
         let found : slice_get o.elected (round_of o.elected place) ≡ Some w = ap (slice_get o.elected) (sym is) ∙ slice_get_read o.elected (length o.elected) round w refl below here in
-        let inside : round < length r.paid = rw as_many_rows below in
-        let row : amounts ≡ get_or r.paid (round_of o.elected place) [] = amounts_are ∙ get_or_default r.paid round amounts [] inside ∙ ap (λ n. get_or r.paid n []) is in
-        let full = in_full_is (rw (← is) below) amounts row w.price in
-        let end : ending ≡ outcome_ending e o place (Some w) = ending_is ∙ ap (λ n. Won (record { round = n + 1; price = w.price; collected = w.collected; in_full = count_by (λ amount. amount == w.price) amounts })) is
+        let full = in_full_are ∙ get_or_default r.in_full round d 0 (rw as_many_rounds below) ∙ ap (λ n. get_or r.in_full n 0) is
+        ∙ in_full_is w (here ∙ ap (λ n. get_or o.elected n w) is) (rw (← is) below) in
+        let end : ending ≡ outcome_ending e o place (Some w) = ending_is ∙ ap (λ n. Won (record { round = n + 1; price = w.price; collected = w.collected; in_full = in_full })) is
         ∙ ap (λ n. Won (record { round = round_of o.elected place + 1; price = w.price; collected = w.collected; in_full = n })) full in
         ap (λ (l : List ℕ). record { votes = length l; ending = ending }) supporters_are
         ∙ ap (λ (end : Ending). record { votes = length (supporters_at (support_of e) place); ending = end }) (end ∙ ap (outcome_ending e o place) (sym found))
@@ -128,13 +98,13 @@ module _ (e : ElectionView) (o : OutcomeView) (r : ReasonsView) (own : AreReason
         let few = length-rises (supporters_at (support_of e) place) 0 (length e.voters) (supporters_rise (support_of e) own_support place (rw as_many_costs known)) (omega arith) in
         rw is (omega (arith, few))
 
-    pub few_amounts : round_of o.elected place < length o.elected → (amounts : List ℕ) → amounts ≡ get_or r.paid (round_of o.elected place) []
-        → length amounts ≡ length (supporters_at (support_of e) place)
-    few_amounts below amounts is =
-        let row = row_of_round below in
-        let supporters = supporters_at (support_of e) place in
-        let mapped : length (map row.due supporters) ≡ length supporters = simp length-map in
-        ap length (is ∙ row.row_is) ∙ mapped
+    -- few pay in full
+    pub few_in_full : IsSupport r.supporters → (w : ElectedView) → w ≡ get_or o.elected (round_of o.elected place) w → round_of o.elected place < length o.elected
+        → get_or r.in_full (round_of o.elected place) 0 ≤ length e.voters
+    few_in_full h w here below =
+        let few = few_support h (supporters_at (support_of e) place) refl in
+        let all = count_by-le-length (λ voter. paid_for e o place voter == w.price) (supporters_at (support_of e) place) in
+        rw (in_full_is w here below) (omega (arith, few, all))
 
   -- projects and voters are few
   pub few_projects : IsSupport r.supporters → (length e.projects ≤ 10000) × (length e.voters ≤ 1000000)

@@ -7,6 +7,7 @@ pub mod OfOutcome
 pub mod Raises
 pub mod Replay
 pub mod Rounds
+pub mod Strides
 pub mod TieQueue
 pub mod Told
 pub mod Turns

@@ -1,5 +1,5 @@
 -- What the counts of a changed election say of a project, and what a search of such changes finds.
-use Rattle.std.specs.Prelude.{◌≡◌, ◌≢◌, ℕ, ◌+◌, ◌-◌, ◌*◌, ◌<◌, ◌≤◌, ◌⊎◌, List, [], ◌∷◌, ◌++◌, if◌then◌else◌}
+use Rattle.std.specs.Prelude.{◌≡◌, ◌≢◌, ℕ, ◌+◌, ◌-◌, ◌*◌, ◌^◌, ◌<◌, ◌≤◌, ◌⊎◌, List, [], ◌∷◌, ◌++◌, if◌then◌else◌}
 use Rattle.std.specs.Prelude.{length, map, min, replicate, slice_set}
 use Rattle.pb_core.specs.Election.{ElectionView, IsElection, most_voters}
 use Rattle.pb_core.specs.Money.{largest_money}
@@ -54,11 +54,18 @@ pub record IsFound (s : Seen) (q : Question) (change : Change) (low high : ℕ) 
   pub differ : a.verdict ≢ b.verdict → (low ≤ a.value) × (a.value < b.value) × (b.value ≤ high)
   pub step : a.verdict ≢ b.verdict → a.verdict ≢ Refused → b.verdict ≢ Refused → b.value ≡ a.value + 1
 
+-- with 1, 2, 4, 8 and so on further voters the project loses, up to the first row, and up to the second where
+-- that one loses too
+abbrev pub AreDoubled : Seen → Question → (a b : Row) → Type 0
+AreDoubled s q a b = (k : ℕ) → ((2 ^ k ≤ a.value) ⊎ (b.verdict ≡ Lost) × (2 ^ k ≤ b.value))
+    → IsTrue s q Voters (record { value = 2 ^ k; verdict = Lost })
+
 -- What is found for a project of this cost: for a winner a higher cost, up to ten times it, and for a loser a
--- lower one, or further voters, up to as many again.
+-- lower one, or further voters, up to as many again; with 1, 2, 4 and so on up to there it loses.
 abbrev pub IsWhatIf : ElectionView → Question → (cost : ℕ) → WhatIf → Type 0
 IsWhatIf e q cost w =
     Says e q Won × IsFound (seen e) q Cost cost (min (10 * cost) largest_money) w.cost.first w.cost.second
     × IsFound (seen e) q Voters 0 0 w.voters.first w.voters.second
     ⊎ Says e q Lost × IsFound (seen e) q Cost 1 cost w.cost.first w.cost.second × IsFound (seen e) q Voters 0
     (min (length e.voters) (most_voters - length e.voters)) w.voters.first w.voters.second
+    × AreDoubled (seen e) q w.voters.first w.voters.second

@@ -113,7 +113,11 @@ fn next_share(outcome: &Outcome, step: Money) -> Money
 }
 
 /// Whether each other project that has a supporter costs more than what the elected leave of the budget.
-fn is_exhausted(alloc: Global, election: &Election, outcome: &Outcome) -> Result<bool, NoMemory>
+pub(crate) fn is_exhausted(
+    alloc: Global,
+    election: &Election,
+    outcome: &Outcome,
+) -> Result<bool, NoMemory>
     requires { IsOutcome election.now outcome.now }
     ensures { IfOk result (TellsExhausted election.now outcome.now) }
 {

@@ -5,9 +5,8 @@ ghost use Rattle.pb_reasons.specs.Inner.Kept.{AreReasons};
 ghost use Rattle.pb_reasons.specs.Inner.Told.{CanBeTold};
 ghost use Rattle.pb_reasons.specs.Inner.OfOutcome.{outcome_reason};
 
-use crate::ending::{lost, won};
-use crate::paid_row::PaidRow;
-use crate::project_reason::{Ending, ProjectReason};
+use crate::ending::lost;
+use crate::project_reason::{Ending, ProjectReason, Won};
 use crate::replay::replay;
 use crate::rounds::rounds_of;
 use pb_core::election::Election;
@@ -17,12 +16,13 @@ use pb_rounds::outcome::Outcome;
 use std::alloc::Global;
 use std::marker::Model;
 
-/// Why an outcome is as it is: who paid what for each elected project.
+/// Why an outcome is as it is.
 #[derive(Drop)]
 pub(crate) struct Reasons {
     supporters: Supporters,
     rounds: Vec<u32>,
-    paid: Vec<PaidRow>,
+    /// How many paid the whole price for each of the elected, in order of election.
+    in_full: Vec<usize>,
 }
 
 impl Model for Reasons {
@@ -33,7 +33,7 @@ impl Model for Reasons {
     ghost view = { λ r. record {
       supporters = r.supporters;
       rounds = r.rounds.items;
-      paid = r.paid.items;
+      in_full = r.in_full.items;
     } };
 }
 
@@ -50,11 +50,11 @@ impl Reasons {
         let elected = outcome.elected.as_slice();
         let supporters = Supporters::build(alloc, election)?;
         let rounds = rounds_of(alloc, elected, election.projects().len())?;
-        let paid = replay(alloc, &supporters, outcome.share, elected)?;
+        let in_full = replay(alloc, &supporters, outcome.share, elected)?;
         Ok(Reasons {
             supporters,
             rounds,
-            paid,
+            in_full,
         })
     }
 
@@ -86,9 +86,14 @@ impl Reasons {
     {
         let supporters = self.supporters.of(place);
         let round = self.rounds[place as usize];
-        let ending = if (round as usize) < self.paid.len() {
-            let paid = &self.paid[round as usize];
-            Ending::Won(won(outcome.elected[round as usize], round, paid.amounts()))
+        let ending = if (round as usize) < self.in_full.len() {
+            let winner = outcome.elected[round as usize];
+            Ending::Won(Won {
+                round: round + 1,
+                price: winner.price,
+                collected: winner.collected,
+                in_full: self.in_full[round as usize] as u32,
+            })
         } else {
             let project = &election.projects()[place as usize];
             let cost = project.cost();

@@ -60,7 +60,7 @@ fn replay_ties(
             number: before + 1,
         };
         round.find(alloc, &rests, &mut bounds, &mut queue, &mut ties)?;
-        let _paid = pay(alloc, supporters.of(winner.place), winner.price, &mut rests)?;
+        pay(supporters.of(winner.place), winner.price, &mut rests);
     }
     Ok(ties)
 }

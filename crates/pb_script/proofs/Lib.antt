@@ -10,3 +10,4 @@ pub mod Servings
 pub mod Rooms
 pub mod DeskEntries
 pub mod Texts
+pub mod VotersNoted

@@ -1,5 +1,5 @@
 -- Which rows a desk admits, and how they name projects.
-use Rattle.std.specs.Prelude.{◌≡◌, ℕ, Bool, true, not, is_some, nat_le, List, [], ◌∷◌, length, Option, Some}
+use Rattle.std.specs.Prelude.{◌≡◌, ℕ, Bool, true, false, not, is_some, nat_le, List, [], ◌∷◌, length, Option, Some}
 use Rattle.std.specs.Prelude.{None, Result, Ok, Err, if◌then◌else◌}
 use Rattle.std.specs.FinMap.{get}
 use Rattle.std.specs.Option.{option_map_or}
@@ -14,10 +14,11 @@ use Rattle.pb_rows.specs.Reading.{Fields}
 use Rattle.pb_script.specs.declared.admission.Admission.{Admission}
 use Rattle.pb_script.specs.declared.admission.RowRefusal.{RowRefusal}
 use Rattle.pb_script.specs.declared.admission.RowRefusal.TheVariants.{Bad, UnknownId, NotOnRoll, TooFew}
+use Rattle.pb_script.specs.declared.admission.RowRefusal.TheVariants.{FromFile, NoShut}
 
 -- every request is admitted, and rows name projects by their places
 abbrev pub open_to_all : Admission
-open_to_all = record { ids = None; roll = None; least = 0 }
+open_to_all = record { ids = None; roll = None; least = 0; kept = None; may_shut = true }
 
 -- The row by places that a row stands for: itself, or where rows name projects by these ids, that of the
 -- places of the ids in its last field, which is read as a vote of a file. Place 0 stands for a field with
@@ -31,23 +32,24 @@ by_places ids row = row
 abbrev pub Says : Admission → ℕ → Fields → ScriptRowView → Type 0
 Says a clerks row x = AllText row × IsScriptRow clerks (by_places a.ids row) x
 
--- a request shuts the desk, or is for a voter of the roll; without a roll it is for anybody
-abbrev pub is_on_roll : Admission → RequestView → Bool
-is_on_roll a Shut = true
-is_on_roll a request = option_map_or (λ roll. is_some (get roll (voter_of request))) a.roll true
-
 -- a ballot that is cast, or replaces another, has this many projects at least
 abbrev pub has_enough : ℕ → RequestView → Bool
 has_enough least (Withdraw voter) = true
-has_enough least Shut = true
 has_enough least request = nat_le least (length (places_of request))
 
--- the first reason to refuse what a row asks: one of its ids is no project's, its voter, its ballot
+-- the first rule of the desk that a request breaks: it may not shut the desk; or its voter is not on the roll,
+-- its ballot has too few projects, or its voter is one of the file, for whom no request is taken
+abbrev pub broken_rule : Admission → RequestView → Option RowRefusal
+broken_rule a Shut = if a.may_shut then None else Some NoShut
+broken_rule a request =
+    if not (option_map_or (λ roll. is_some (get roll (voter_of request))) a.roll true) then Some NotOnRoll
+    else if not (has_enough a.least request) then Some TooFew
+    else if option_map_or (λ kept. is_some (get kept (voter_of request))) a.kept false then Some FromFile else None
+
+-- the first reason to refuse what a row asks: one of its ids is no project's, or it breaks a rule
 abbrev pub refusal_of : Admission → Fields → RequestView → Option RowRefusal
-refusal_of a row request =
-    if not (option_map_or (λ ids. names_only ids (field row 3)) a.ids true) then Some UnknownId
-    else if not (is_on_roll a request) then Some NotOnRoll
-    else if has_enough a.least request then None else Some TooFew
+refusal_of a row request = if option_map_or (λ ids. names_only ids (field row 3)) a.ids true
+    then broken_rule a request else Some UnknownId
 
 -- a row says this, and is admitted; or it says nothing; or it says something that is refused for this
 abbrev pub Judges : Admission → ℕ → Fields → Result ScriptRowView RowRefusal → Type 0

@@ -6,7 +6,7 @@ use Rattle.pb_script.specs.contracts.script_fault.ScriptFault.{the_type}
 use Rattle.pb_script.specs.declared.script_fault.ScriptFault.{ScriptFault}
 use Rattle.pb_script.specs.declared.script_fault.ScriptFault.TheVariants.{ReadFailed, BadRow, TooManyRows}
 use Rattle.pb_script.specs.declared.script_fault.ScriptFault.TheVariants.{NoMemory, UnknownId, NotOnRoll}
-use Rattle.pb_script.specs.declared.script_fault.ScriptFault.TheVariants.{TooFew}
+use Rattle.pb_script.specs.declared.script_fault.ScriptFault.TheVariants.{TooFew, FromFile, NoShut}
 use Rattle.pb_script.specs.declared.script_fault.TheConstants.{NAMES}
 
 -- the fault's number and name
@@ -22,3 +22,5 @@ at_row NoMemory = 0
 at_row (UnknownId row) = row
 at_row (NotOnRoll row) = row
 at_row (TooFew row) = row
+at_row (FromFile row) = row
+at_row (NoShut row) = row

@@ -10,7 +10,7 @@ use Rattle.pb_script.specs.declared.admission.RowRefusal.TheVariants as row
 use Rattle.pb_script.specs.declared.script_fault.ScriptFault.{ScriptFault}
 use Rattle.pb_script.specs.declared.script_fault.ScriptFault.TheVariants.{ReadFailed, BadRow, TooManyRows}
 use Rattle.pb_script.specs.declared.script_fault.ScriptFault.TheVariants.{NoMemory, UnknownId, NotOnRoll}
-use Rattle.pb_script.specs.declared.script_fault.ScriptFault.TheVariants.{TooFew}
+use Rattle.pb_script.specs.declared.script_fault.ScriptFault.TheVariants.{TooFew, FromFile, NoShut}
 
 -- the fault of a script whose row of this number is refused for this
 abbrev pub fault_of_row : RowRefusal → ℕ → ScriptFault
@@ -18,6 +18,8 @@ fault_of_row row.Bad at = BadRow at
 fault_of_row row.UnknownId at = UnknownId at
 fault_of_row row.NotOnRoll at = NotOnRoll at
 fault_of_row row.TooFew at = TooFew at
+fault_of_row row.FromFile at = FromFile at
+fault_of_row row.NoShut at = NoShut at
 
 -- the fault of the next record, where this many came before it: within a record a reader that fails comes
 -- first, then the limit, then why the row is refused

@@ -1,11 +1,13 @@
 //! Which requests are admitted, and how their rows name projects.
 
-ghost use Rattle.std.specs.Prelude.{◌≡◌, Some};
+ghost use Rattle.std.specs.FinMap.{get};
+ghost use Rattle.std.specs.Option.{option_map_or};
+ghost use Rattle.std.specs.Prelude.{◌≡◌, false, is_some, Some, true};
 ghost use Rattle.pb_core.specs.Request.{asked};
 ghost use Rattle.pb_read.specs.Rows.{field};
 ghost use Rattle.pb_rows.specs.Reading.{Fields};
-ghost use Rattle.pb_script.specs.Admission.{has_enough, is_on_roll, open_to_all, refusal_of};
-ghost use Rattle.pb_script.specs.Inner.Admission.{knows_ids};
+ghost use Rattle.pb_script.specs.Admission.{broken_rule, open_to_all, refusal_of};
+ghost use Rattle.pb_script.specs.Inner.Admission.{broken_for, knows_ids};
 ghost use Rattle.pb_script.specs.ScriptReading.{fault_of_row};
 
 use crate::script_fault::ScriptFault;
@@ -24,6 +26,10 @@ pub struct Admission {
     pub roll: Option<IdTable>,
     /// How many projects a ballot has at least.
     pub least: u32,
+    /// The voters of the file, for whom no request is admitted; where it is None there may be one for anybody.
+    pub kept: Option<IdTable>,
+    /// Whether a request may shut the desk.
+    pub may_shut: bool,
 }
 
 /// Why a row is refused, and changes nothing.
@@ -37,6 +43,10 @@ pub enum RowRefusal {
     NotOnRoll,
     /// Its ballot has too few projects.
     TooFew,
+    /// The ballot of its voter came with the file, and is kept.
+    FromFile,
+    /// It shuts the desk, and no request may.
+    NoShut,
 }
 
 impl RowRefusal {
@@ -49,6 +59,8 @@ impl RowRefusal {
             RowRefusal::UnknownId => ScriptFault::UnknownId(row),
             RowRefusal::NotOnRoll => ScriptFault::NotOnRoll(row),
             RowRefusal::TooFew => ScriptFault::TooFew(row),
+            RowRefusal::FromFile => ScriptFault::FromFile(row),
+            RowRefusal::NoShut => ScriptFault::NoShut(row),
         }
     }
 }
@@ -82,6 +94,8 @@ impl Admission {
             ids: None,
             roll: None,
             least: 0,
+            kept: None,
+            may_shut: true,
         }
     }
 
@@ -93,12 +107,37 @@ impl Admission {
             ids: before,
             roll,
             least,
+            kept,
+            may_shut,
         } = self;
         drop(before);
         Admission {
             ids: Some(ids),
             roll,
             least,
+            kept,
+            may_shut,
+        }
+    }
+
+    /// The same requests are admitted, but none for these voters.
+    pub fn keeping(self, voters: IdTable) -> Admission
+        ensures { result ≡ record self { kept = Some voters } }
+    {
+        let Admission {
+            ids,
+            roll,
+            least,
+            kept: before,
+            may_shut,
+        } = self;
+        drop(before);
+        Admission {
+            ids,
+            roll,
+            least,
+            kept: Some(voters),
+            may_shut,
         }
     }
 
@@ -121,41 +160,66 @@ impl Admission {
         ensures { (row : Fields) → is_known ≡ knows_ids self.now.ids (field row 3)
             → result ≡ refusal_of self.now row (asked request.now) }
     {
-        if !is_known {
+        if is_known {
+            self.broken_rule(request)
+        } else {
             Some(RowRefusal::UnknownId)
-        } else if !self.is_on_roll(request) {
+        }
+    }
+
+    /// The first rule of the desk that a request breaks, if it breaks one.
+    fn broken_rule(&self, request: &Request) -> Option<RowRefusal>
+        ensures { result ≡ broken_rule self.now (asked request.now) }
+    {
+        match request {
+            Request::Cast(voter, ballot) | Request::Replace(voter, ballot) => {
+                let has_enough = ballot.places().len() >= self.least as usize;
+                self.broken_for(voter.text(), has_enough)
+            }
+            Request::Withdraw(voter) => self.broken_for(voter.text(), true),
+            Request::Shut => {
+                if self.may_shut {
+                    None
+                } else {
+                    Some(RowRefusal::NoShut)
+                }
+            }
+        }
+    }
+
+    /// The same for a request of the voter with this id, whose ballot, if it has one, has enough projects or
+    /// not.
+    fn broken_for(&self, voter: &str, has_enough: bool) -> Option<RowRefusal>
+        ensures { result ≡ broken_for self.now voter.now has_enough }
+    {
+        if !self.is_on_roll(voter) {
             Some(RowRefusal::NotOnRoll)
-        } else if !self.has_enough(request) {
+        } else if !has_enough {
             Some(RowRefusal::TooFew)
+        } else if self.keeps(voter) {
+            Some(RowRefusal::FromFile)
         } else {
             None
         }
     }
 
-    /// Whether a request is for a voter of the roll, or shuts the desk.
-    fn is_on_roll(&self, request: &Request) -> bool
-        ensures { result ≡ is_on_roll self.now (asked request.now) }
+    /// Whether the voter with this id is on the roll; without a roll each is.
+    fn is_on_roll(&self, voter: &str) -> bool
+        ensures { result ≡ option_map_or (λ roll. is_some (get roll voter.now)) self.now.roll true }
     {
-        let Some(roll) = &self.roll else {
-            return true;
-        };
-        match request {
-            Request::Cast(voter, _) | Request::Replace(voter, _) | Request::Withdraw(voter) => {
-                roll.get(voter.text()).is_some()
-            }
-            Request::Shut => true,
+        match &self.roll {
+            Some(roll) => roll.get(voter).is_some(),
+            None => true,
         }
     }
 
-    /// Whether the ballot of a request, if it has one, has enough projects.
-    fn has_enough(&self, request: &Request) -> bool
-        ensures { result ≡ has_enough self.now.least (asked request.now) }
+    /// Whether the voter with this id is one of the file, for whom no request is taken.
+    fn keeps(&self, voter: &str) -> bool
+        ensures { result ≡ option_map_or (λ kept. is_some (get kept voter.now)) self.now.kept false }
     {
-        match request {
-            Request::Cast(_, ballot) | Request::Replace(_, ballot) => {
-                ballot.places().len() >= self.least as usize
-            }
-            Request::Withdraw(_) | Request::Shut => true,
+        match &self.kept {
+            Some(kept) => kept.get(voter).is_some(),
+            None => false,
         }
     }
 }

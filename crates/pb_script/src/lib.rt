@@ -4,6 +4,7 @@
 #![tactic(auto)]
 
 pub mod admission;
+pub mod file_voters;
 pub mod laws;
 pub mod request_rows;
 mod requests;
@@ -15,6 +16,7 @@ pub mod serve_fault;
 pub mod serve_script;
 
 pub use admission::{Admission, NoNotice, Notice, RowRefusal};
+pub use file_voters::voters_of;
 pub use request_rows::{RequestRow, RequestRows, RowsFault};
 pub use roll::{RollFault, read_roll};
 pub use script_fault::ScriptFault;

@@ -157,6 +157,7 @@ impl<R: Read> RequestRows<R> {
         let Some(row) = text_of(alloc, &mut self.raw) else {
             self.count = count;
             // A field is no text.
+            notice.refused(count, RowRefusal::Bad, "");
             return Ok(Some(RequestRow::Refused(RowRefusal::Bad)));
         };
         let judged = judge(alloc, &row, &mut self.places, admission, (count, notice));

@@ -10,7 +10,7 @@ use std::alloc::AllocError;
 use thiserror::Error;
 
 /// The names of `ScriptFault`, in the order of its variants.
-pub const NAMES: [&str; 7] = [
+pub const NAMES: [&str; 9] = [
     "ReadFailed",
     "BadRow",
     "TooManyRows",
@@ -18,6 +18,8 @@ pub const NAMES: [&str; 7] = [
     "UnknownId",
     "NotOnRoll",
     "TooFew",
+    "FromFile",
+    "NoShut",
 ];
 
 /// Why a script was not accepted. The first faulty row decides. Rows have their numbers from 1.
@@ -44,6 +46,12 @@ pub enum ScriptFault {
     /// The ballot of this row has too few projects.
     #[error("the ballot of row {0} has too few projects")]
     TooFew(u32),
+    /// The file lists the voter of this row, and the ballots that came with it are kept.
+    #[error("the ballot of the voter of row {0} came with the file, and is kept")]
+    FromFile(u32),
+    /// This row shuts the desk, and no row may.
+    #[error("row {0} shuts the desk, and no row may")]
+    NoShut(u32),
 }
 
 impl From<NoMemory> for ScriptFault {
@@ -81,6 +89,8 @@ impl ScriptFault {
             ScriptFault::UnknownId(_) => 5,
             ScriptFault::NotOnRoll(_) => 6,
             ScriptFault::TooFew(_) => 7,
+            ScriptFault::FromFile(_) => 8,
+            ScriptFault::NoShut(_) => 9,
         }
     }
 
@@ -100,7 +110,9 @@ impl ScriptFault {
             | ScriptFault::BadRow(row)
             | ScriptFault::UnknownId(row)
             | ScriptFault::NotOnRoll(row)
-            | ScriptFault::TooFew(row) => *row,
+            | ScriptFault::TooFew(row)
+            | ScriptFault::FromFile(row)
+            | ScriptFault::NoShut(row) => *row,
             ScriptFault::TooManyRows => MOST_ROWS + 1,
             ScriptFault::NoMemory => 0,
         }

@@ -1,16 +1,16 @@
 -- How a batch grows by a row.
 use Rattle.std.proofs.Common.{◌≡◌, ◌∙◌, ℕ, zero, suc, ◌+◌, ◌<◌, List, [], ◌∷◌, ◌++◌, Bool, true, false, Option, Some, None, Ok, Err, refl, sym, ap, subst, arith, append_assoc}
 use Rattle.std.specs.List.{All, AllZip}
-use Rattle.std.specs.Prelude.{if◌then◌else◌, not}
+use Rattle.std.specs.Prelude.{if◌then◌else◌}
 use Rattle.std.proofs.lemmas.List.{append-nil}
 use Rattle.std.proofs.lemmas.List.Elements.{All-append, All-cons, All-nil}
 use Rattle.pb_core.specs.Request.{EntryView, asked}
 use Rattle.pb_core.specs.declared.answer.Answer.{Answer}
 use Rattle.pb_durable.specs.DurableDesk.{entries_of}
-use Rattle.pb_script.specs.Admission.{is_on_roll}
+use Rattle.pb_script.specs.Admission.{broken_rule}
 use Rattle.pb_script.specs.declared.admission.RowRefusal.{RowRefusal}
 use Rattle.pb_script.specs.declared.admission.RowRefusal.TheVariants as refusal
-use Rattle.pb_serving.specs.Inner.OnRoll.{AddsOnRoll}
+use Rattle.pb_serving.specs.Inner.Admitted.{AddsAdmitted}
 use Rattle.pb_desk.specs.Replay.{most_clerks}
 use Rattle.pb_rows.specs.Reading.{Fields, IsNext}
 use Rattle.pb_script.specs.Inner.ScriptReading.{HaveGone}
@@ -97,32 +97,28 @@ asks_clerks ad (row ∷ rows) [] each k d below = absurd (omega (arith, below))
 asks_clerks ad (row ∷ rows) (a ∷ asks) each zero d below = let is = each.0.0.1.by_clerk in omega (arith, is.0)
 asks_clerks ad (row ∷ rows) (a ∷ asks) each (suc k) d below = asks_clerks ad rows asks each.1 k d (omega (arith, below))
 
-abbrev refusal_from : Bool → Bool → Bool → Option RowRefusal
-refusal_from known on_roll enough = if not known then Some refusal.UnknownId else if not on_roll then Some refusal.NotOnRoll else if enough then None else Some refusal.TooFew
+-- what is admitted breaks no rule
+breaks_none : (known : Bool) (rule : Option RowRefusal) → (if known then rule else Some refusal.UnknownId) ≡ None → rule ≡ None
+breaks_none true rule e = e
+breaks_none false rule e = cc
 
--- what is admitted is for a voter of the roll
-on_roll : (known on_roll enough : Bool) → refusal_from known on_roll enough ≡ None → on_roll ≡ true
-on_roll false b c e = cc
-on_roll true false c e = cc
-on_roll true true c e = refl
-
-pub entries_on_roll : (ad : Admission) (rows : List Fields) (asks : List ClerkRequest) (answers : List Answer) → AllZip (IsRowAsking ad) rows asks
-    → All (λ (x : EntryView). is_on_roll ad x.request ≡ true) (entries_of asks answers)
-entries_on_roll ad [] [] answers each = All-nil (λ (x : EntryView). is_on_roll ad x.request ≡ true)
-entries_on_roll ad [] (a ∷ asks) answers each = absurd each
-entries_on_roll ad (row ∷ rows) [] answers each = absurd each
-entries_on_roll ad (row ∷ rows) (a ∷ asks) [] each = All-nil (λ (x : EntryView). is_on_roll ad x.request ≡ true)
-entries_on_roll ad (row ∷ rows) (a ∷ asks) (x ∷ answers) each =
-    All-cons (λ (x : EntryView). is_on_roll ad x.request ≡ true) _ _ (on_roll _ (is_on_roll ad (asked a.request)) _ each.0.1)
-    (entries_on_roll ad rows asks answers each.1)
+pub entries_admitted : (ad : Admission) (rows : List Fields) (asks : List ClerkRequest) (answers : List Answer) → AllZip (IsRowAsking ad) rows asks
+    → All (λ (x : EntryView). broken_rule ad x.request ≡ None) (entries_of asks answers)
+entries_admitted ad [] [] answers each = All-nil (λ (x : EntryView). broken_rule ad x.request ≡ None)
+entries_admitted ad [] (a ∷ asks) answers each = absurd each
+entries_admitted ad (row ∷ rows) [] answers each = absurd each
+entries_admitted ad (row ∷ rows) (a ∷ asks) [] each = All-nil (λ (x : EntryView). broken_rule ad x.request ≡ None)
+entries_admitted ad (row ∷ rows) (a ∷ asks) (x ∷ answers) each =
+    All-cons (λ (x : EntryView). broken_rule ad x.request ≡ None) _ _ (breaks_none _ (broken_rule ad (asked a.request)) each.0.1)
+    (entries_admitted ad rows asks answers each.1)
 
 -- the journal with them has more entries of that kind
-pub adds_more : (ad : Admission) (old mid new entries : List EntryView) → AddsOnRoll ad old mid → new ≡ mid ++ entries → All (λ (x : EntryView). is_on_roll ad x.request ≡ true) entries → AddsOnRoll ad old new
-adds_more ad old mid new entries adds grown on_roll = (
+pub adds_more : (ad : Admission) (old mid new entries : List EntryView) → AddsAdmitted ad old mid → new ≡ mid ++ entries → All (λ (x : EntryView). broken_rule ad x.request ≡ None) entries → AddsAdmitted ad old new
+adds_more ad old mid new entries adds grown admitted = (
   adds.0 ++ entries,
   grown ∙ ap (λ (j : List EntryView). j ++ entries) adds.1 ∙ append_assoc old adds.0 entries,
-  All-append (λ (x : EntryView). is_on_roll ad x.request ≡ true) adds.0 entries adds.2 on_roll,
+  All-append (λ (x : EntryView). broken_rule ad x.request ≡ None) adds.0 entries adds.2 admitted,
 )
 
-pub adds_none : (ad : Admission) (journal : List EntryView) → AddsOnRoll ad journal journal
-adds_none ad journal = ([], sym (append-nil journal), All-nil (λ (x : EntryView). is_on_roll ad x.request ≡ true))
+pub adds_none : (ad : Admission) (journal : List EntryView) → AddsAdmitted ad journal journal
+adds_none ad journal = ([], sym (append-nil journal), All-nil (λ (x : EntryView). broken_rule ad x.request ≡ None))

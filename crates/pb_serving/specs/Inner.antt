@@ -1,5 +1,5 @@
 -- Words that only private contracts and the invariants of private fields speak of: nobody has to believe
 -- them.
+pub mod Admitted
 pub mod Batch
-pub mod OnRoll
 pub mod Rows

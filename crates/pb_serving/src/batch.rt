@@ -4,7 +4,7 @@ ghost use Rattle.std.specs.Prelude.{◌≡◌, ◌<◌, ◌≤◌, ◌+◌, [], 
 ghost use Rattle.pb_script.specs.RowsView.{HasFailed, HasGiven};
 ghost use Rattle.pb_serving.specs.Inner.Batch.{refused, IsBatch, IsNextAsk};
 
-use crate::pace::Pace;
+use crate::rows_at_hand::RowsAtHand;
 use crate::session::Session;
 use pb_durable::ClerkRequest;
 use pb_script::{Admission, Notice, RequestRow, RequestRows, RowRefusal, RowsFault};
@@ -31,7 +31,7 @@ pub(crate) enum BatchEnd {
 
 /// Reads the next rows that are served together into `asks`, and says why there are no more of them. Also
 /// where it ends by a fault, what was read before is to be served.
-pub(crate) fn next_batch<R: Read, P: Pace, N: Notice>(
+pub(crate) fn next_batch<R: Read, P: RowsAtHand, N: Notice>(
     alloc: Global,
     rows: &mut RequestRows<R>,
     session: &Session<'_, P, N>,

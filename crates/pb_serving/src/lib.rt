@@ -6,11 +6,11 @@
 
 mod batch;
 mod heading;
-pub mod pace;
 mod paced;
+pub mod rows_at_hand;
 pub mod run_serve;
 mod session;
 
-pub use pace::{Always, Pace};
 pub use paced::{AtHand, Paced};
+pub use rows_at_hand::{Always, RowsAtHand};
 pub use session::Session;

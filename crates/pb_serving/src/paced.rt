@@ -2,7 +2,7 @@
 
 ghost use Rattle.std.specs.Prelude.{◌<◌, ◌≤◌, length};
 
-use crate::pace::Pace;
+use crate::rows_at_hand::RowsAtHand;
 use pb_durable::row_position::RowPosition;
 use std::cell::Cell;
 
@@ -18,7 +18,7 @@ impl AtHand {
     }
 }
 
-impl Pace for AtHand {
+impl RowsAtHand for AtHand {
     fn has_row(&self) -> bool {
         self.0.get()
     }

@@ -12,17 +12,17 @@ ghost use Rattle.pb_durable.specs.DurableDesk.{entries_of, IsDurable};
 ghost use Rattle.pb_durable.specs.Inner.Either.{StandsForEither};
 ghost use Rattle.pb_rows.specs.Reading.{Fields};
 ghost use Rattle.pb_rows.specs.Writing.{text_of_rows};
-ghost use Rattle.pb_script.specs.Admission.{is_on_roll};
+ghost use Rattle.pb_script.specs.Admission.{broken_rule};
 ghost use Rattle.pb_script.specs.declared.script_fault.ScriptFault.TheVariants.{ReadFailed};
 ghost use Rattle.pb_script.specs.RowsView.{HasFailed, HasGiven};
 ghost use Rattle.pb_script.specs.ScriptReading.{fault_of_row};
 ghost use Rattle.pb_faults.specs.Fault.{line, told};
 ghost use Rattle.pb_serving.specs.Answered.{heading, Answers, Halts, HasNoRoom, IsBehind, StandsWithin};
-ghost use Rattle.pb_serving.specs.Inner.OnRoll.{AddsOnRoll};
+ghost use Rattle.pb_serving.specs.Inner.Admitted.{AddsAdmitted};
 
 use crate::batch::{BatchEnd, next_batch};
 use crate::heading::heading;
-use crate::pace::Pace;
+use crate::rows_at_hand::RowsAtHand;
 use crate::session::Session;
 use pb_core::answer::Answer;
 use pb_durable::{ClerkRequest, Device, DurableDesk, Recorded};
@@ -43,7 +43,7 @@ const MOST_BATCHES: u64 = 1 << 50;
 ///
 /// It ends early where the input or the writer fails, where the journal is not written, or out of memory.
 /// What was answered stands.
-pub fn run_serve<D: Device, R: Read, P: Pace, N: Notice, W: Write>(
+pub fn run_serve<D: Device, R: Read, P: RowsAtHand, N: Notice, W: Write>(
     alloc: Global,
     desk: &mut DurableDesk<D>,
     rows: &mut RequestRows<R>,
@@ -62,9 +62,9 @@ pub fn run_serve<D: Device, R: Read, P: Pace, N: Notice, W: Write>(
         (heading session.now.torn desk.old.desk ++ text)
         × (refused + length desk.new.desk.journal ≡ length records + length desk.old.desk.journal)) }
 
-    // Each entry that it adds is for a voter of the roll, or shuts the desk, however it ends.
-    ensures on_roll { (more : List EntryView) × (desk.new.desk.journal ≡ desk.old.desk.journal ++ more)
-        × All (λ x. is_on_roll session.now.admission.now x.request ≡ true) more }
+    // Each entry that it adds breaks none of the desk's rules, however it ends.
+    ensures admitted { (more : List EntryView) × (desk.new.desk.journal ≡ desk.old.desk.journal ++ more)
+        × All (λ x. broken_rule session.now.admission.now x.request ≡ None) more }
     ensures legal { IsLegal desk.new.desk.opening desk.new.desk.journal }
     ensures opening { desk.new.desk.opening ≡ desk.old.desk.opening }
     ensures closed { D.tells → OnOk result (D.seen desk.new.file.device
@@ -116,7 +116,7 @@ pub fn run_serve<D: Device, R: Read, P: Pace, N: Notice, W: Write>(
 }
 
 /// Answers the rows that are left.
-fn serve_rows<D: Device, R: Read, P: Pace, N: Notice, W: Write>(
+fn serve_rows<D: Device, R: Read, P: RowsAtHand, N: Notice, W: Write>(
     alloc: Global,
     desk: &mut DurableDesk<D>,
     rows: &mut RequestRows<R>,
@@ -136,7 +136,7 @@ fn serve_rows<D: Device, R: Read, P: Pace, N: Notice, W: Write>(
     ensures opening { desk.new.desk.opening ≡ desk.old.desk.opening }
     ensures blame { (i : ℕ) → IsErrOf result (AppFault.Script (ReadFailed i)) → HasFailed rows.new }
     ensures read { OnOk result (rows.new.fault ≡ None) }
-    ensures grown { AddsOnRoll session.now.admission.now desk.old.desk.journal desk.new.desk.journal }
+    ensures grown { AddsAdmitted session.now.admission.now desk.old.desk.journal desk.new.desk.journal }
     ensures stopped { IfErr result (λ fault. (kept : List EntryView) × (text : List ℕ)
         × Halts session.now.admission.now fault rows.old rows.new desk.old.desk.journal kept
         desk.new.desk.journal text

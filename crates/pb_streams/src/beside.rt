@@ -8,14 +8,14 @@ use std::io::{ErrorKind, Result};
 use std::path::Path;
 use std::rt::Files;
 
-/// The ends of the names that the program gives beside a journal; the last one may have a number behind it.
-const ENDS: &[&str] = &[".torn", ".file", ".kept"];
+/// The ends of the names of the files that belong to a journal: those of the clerks' window, and those of the
+/// program, the last of which may have a number behind it.
+const ENDS: &[&str] = &[".window", ".torn", ".file", ".kept"];
 
 /// So many files with a number are looked for.
 const MOST_KEPT: u32 = 10_000;
 
-/// Whether a path is one of the names that the program gives beside a journal, or leads to a file that has
-/// one. The journal may be named by a link, or be standard input.
+/// Whether a path is one of the names of the files that belong to a journal, or leads to a file that has one. The journal may be named by a link, or be standard input.
 pub(crate) fn stands_beside<R: Files + AllocGlobal>(
     rt: &R,
     path: &str,
@@ -54,7 +54,7 @@ fn is_beside<R: Files + AllocGlobal>(
     }
 }
 
-/// Whether the name at the end of a path is one that the program gives beside a journal.
+/// Whether the name at the end of a path is that of a file that belongs to a journal.
 fn has_such_name(path: &str, journal: &str) -> bool {
     let names = (Path::new(path).file_name(), Path::new(journal).file_name());
     let (Some(name), Some(journal)) = names else {
@@ -83,7 +83,7 @@ pub(crate) fn folder_of(path: &str) -> &str {
     }
 }
 
-/// Whether a file has one of the names that the program gives beside a journal.
+/// Whether a file has one of the names of the files that belong to a journal.
 fn is_linked<R: Files + AllocGlobal>(rt: &R, target: FileId, journal: &str) -> Result<bool> {
     for end in ENDS {
         if named(rt, journal, end, "")? == Some(target) {

@@ -2,6 +2,7 @@
 //! they come, and the file that gets a result whole or not at all.
 #![tactic(auto)]
 
+mod answered_rows;
 mod bar;
 mod beside;
 mod digested;

@@ -1,7 +1,10 @@
-//! Requests that come in: at a terminal it is said how to ask, and of a row why it is none or that it goes
-//! on; elsewhere it is said of the first rows that are none why.
+//! Requests that come in: at a terminal it is said how to ask, of a row why it is none or that it goes on,
+//! and by ids what its answer is; elsewhere it is said of the first rows that are none why.
 
+use crate::answered_rows::AnsweredRows;
+use pb_core::answer::Answer;
 use pb_witness::last_rows::LastRows;
+use pb_words::answer_words::answer_words;
 use pb_words::prompts::{OPEN_ROW, how_to_ask};
 use pb_words::script_words::last_row_words;
 use pb_words::{say, say_words};
@@ -15,7 +18,7 @@ pub enum Telling {
     Nothing,
     /// Of the first rows that are not of the form, why.
     FirstRows,
-    /// To whoever types, how to ask, and of each row that is not of the form, why.
+    /// To whoever types, how to ask, of each row that is not of the form, why, and by ids each answer.
     All,
 }
 
@@ -34,6 +37,9 @@ pub struct Typing {
     bad_rows: Cell<u64>,
     /// The numbers of those of them that are still to be explained; 0 is none.
     unexplained: Cell<[u64; 5]>,
+    /// The rows that were read last, once requests are read that may be typed.
+    rows: Cell<Option<LastRows>>,
+    answered: Cell<AnsweredRows>,
 }
 
 impl Typing {
@@ -44,6 +50,8 @@ impl Typing {
             is_shut: Cell::new(false),
             bad_rows: Cell::new(0),
             unexplained: Cell::new([0; 5]),
+            rows: Cell::new(None),
+            answered: Cell::new(AnsweredRows::new()),
         }
     }
 
@@ -79,6 +87,45 @@ impl Typing {
         self.bad_rows.set(self.bad_rows.get().saturating_add(1));
     }
 
+    /// Hears that the row with this number, from 1, is refused, for its form or by a rule.
+    pub fn hear_refused(&self, row: u64) {
+        let mut answered = self.answered.get();
+        answered.refuse(row);
+        self.answered.set(answered);
+    }
+
+    /// Hears the answer to the next row that is not refused. Whoever types by ids is told it in words.
+    pub fn hear_answer<R: Eprint + AllocGlobal>(&self, rt: &R, answer: Answer) {
+        let mut answered = self.answered.get();
+        let number = answered.answer();
+        self.answered.set(answered);
+        if self.by_id && self.is_told() {
+            if let Some(rows) = self.rows.replace(None) {
+                say_words(rt, answer_words(rt.alloc(), &rows, number, answer));
+                drop(self.rows.replace(Some(rows)));
+            }
+        }
+    }
+
+    /// Says why the row with this number, from 1, is none.
+    fn explain<R: Eprint + AllocGlobal>(&self, rt: &R, number: u64) {
+        if let Some(rows) = self.rows.replace(None) {
+            say_words(rt, last_row_words(rt.alloc(), &rows, number));
+            drop(self.rows.replace(Some(rows)));
+        }
+    }
+
+    /// Takes the next piece of the rows, and answers whether its last row goes on.
+    fn take(&self, piece: &[u8]) -> bool {
+        let Some(mut rows) = self.rows.replace(None) else {
+            return false;
+        };
+        rows.take(piece);
+        let is_open = rows.is_open();
+        drop(self.rows.replace(Some(rows)));
+        is_open
+    }
+
     /// Keeps the number of a row that is to be explained.
     fn keep(&self, number: u64) {
         let mut rows = self.unexplained.get();
@@ -99,7 +146,6 @@ pub struct TypedReader<'a, R: Input> {
     rt: &'a R,
     reader: R::Reader,
     typing: &'a Typing,
-    rows: LastRows,
     has_begun: bool,
     has_ended: bool,
 }
@@ -107,11 +153,11 @@ pub struct TypedReader<'a, R: Input> {
 impl<'a, R: Input + Eprint + AllocGlobal> TypedReader<'a, R> {
     /// Standard input, where somebody may type.
     pub fn new(rt: &'a R, typing: &'a Typing) -> TypedReader<'a, R> {
+        drop(typing.rows.replace(Some(LastRows::new(rt.alloc()))));
         TypedReader {
             rt,
             reader: rt.reader(),
             typing,
-            rows: LastRows::new(rt.alloc()),
             has_begun: false,
             has_ended: false,
         }
@@ -126,7 +172,7 @@ impl<'a, R: Input + Eprint + AllocGlobal> TypedReader<'a, R> {
         self.has_begun = true;
         for number in self.typing.unexplained.replace([0; 5]) {
             if number > 0 {
-                say_words(self.rt, last_row_words(self.rt.alloc(), &self.rows, number));
+                self.typing.explain(self.rt, number);
             }
         }
     }
@@ -141,8 +187,8 @@ impl<R: Input + Eprint + AllocGlobal> Read for TypedReader<'_, R> {
         let count = self.reader.read(buf)?;
         self.has_ended = count == 0 && !buf.is_empty();
         if self.typing.explains() && 0 < count && count <= buf.len() {
-            self.rows.take(&buf[..count]);
-            if self.typing.is_told() && self.rows.is_open() {
+            let is_open = self.typing.take(&buf[..count]);
+            if is_open && self.typing.is_told() {
                 say(self.rt, OPEN_ROW);
             }
         }

@@ -9,13 +9,15 @@ use crate::text::Text;
 use crate::witness::Refused;
 use csv::ByteRecord;
 use pb_core::money::Money;
-use pb_read::{ReadKind, Section, Stage};
+use pb_read::{ReadKind, Refusal, Section, Stage};
 use std::rt::Files;
 
 /// A record that was refused.
 #[derive(Clone, Copy)]
 pub struct FaultyRecord<'r> {
     pub kind: ReadKind,
+    /// What its fault is about.
+    pub refusal: Refusal,
     pub record: &'r ByteRecord,
     /// Where the record begins.
     pub mark: Mark,
@@ -29,7 +31,8 @@ impl<'r> FaultyRecord<'r> {
     /// The record that a witness kept.
     pub fn of(refused: &'r Refused) -> FaultyRecord<'r> {
         FaultyRecord {
-            kind: refused.fault.kind,
+            kind: refused.refusal.fault.kind,
+            refusal: refused.refusal,
             record: &refused.record,
             mark: refused.mark,
             stage: &refused.stage,
@@ -59,6 +62,12 @@ impl<'r> FaultyRecord<'r> {
     /// The row's other value; the empty text where it has none.
     pub fn value(&self) -> &'r str {
         text_at(self.record, self.places().1)
+    }
+
+    /// The piece of its vote that is no project's id; the empty text where its fault is about none.
+    pub fn piece(&self) -> &'r str {
+        let piece = self.refusal.piece.unwrap_or(usize::MAX);
+        self.value().split(',').nth(piece).unwrap_or("").trim()
     }
 
     /// What stands where its other value would be if a text before it had no `;`; the empty text where the

@@ -35,6 +35,16 @@ pub fn has_more(record: &ByteRecord) -> bool {
     false
 }
 
+/// Whether a record has nothing but white space.
+pub fn is_blank(record: &ByteRecord) -> bool {
+    for place in 0..record.len() {
+        if !text_at(record, place).is_empty() {
+            return false;
+        }
+    }
+    true
+}
+
 /// The first place at which the record has this word, in any case.
 pub fn column_of(record: &ByteRecord, name: &str) -> Option<usize> {
     for place in 0..record.len() {

@@ -36,6 +36,11 @@ impl Firsts {
         self.marks.get(self.places.get(id)? as usize).copied()
     }
 
+    /// Where the id stands that came first after this many others.
+    pub fn mark_at(&self, place: u32) -> Option<Mark> {
+        self.marks.get(place as usize).copied()
+    }
+
     /// Keeps where an id stands, unless it stood before.
     pub fn keep(&mut self, alloc: Global, id: &str, mark: Mark) -> Result<(), AllocError> {
         if self.has(id) {

@@ -6,7 +6,7 @@ use crate::mark::Mark;
 use crate::records::Records;
 use crate::text::Text;
 use csv::ByteRecord;
-use pb_read::{Section, Stage};
+use pb_read::{Column, Section, Stage};
 use std::io::Read;
 use std::rt::Files;
 
@@ -24,8 +24,13 @@ pub struct OddHead {
     pub has_names: bool,
 }
 
-/// The columns that a section needs.
-const COLUMNS: [&str; 6] = ["key", "value", "project_id", "cost", "voter_id", "vote"];
+/// The columns that PROJECTS and VOTES need.
+const COLUMNS: [Column; 4] = [
+    Column::ProjectId,
+    Column::Cost,
+    Column::VoterId,
+    Column::Vote,
+];
 
 /// The sections, in their order.
 const SECTIONS: [Section; 3] = [Section::Meta, Section::Projects, Section::Votes];
@@ -62,11 +67,11 @@ pub fn section_of(stage: &Stage) -> Section {
 /// Whether a word is a column that a section needs.
 fn is_column(word: &str) -> bool {
     for column in COLUMNS {
-        if word.eq_ignore_ascii_case(column) {
+        if word.eq_ignore_ascii_case(column.name()) {
             return true;
         }
     }
-    false
+    word.eq_ignore_ascii_case("key") || word.eq_ignore_ascii_case("value")
 }
 
 /// The head that a record seems to be meant as, where it is none: punctuation stands beside a section's name,

@@ -5,8 +5,9 @@ use crate::fields::{raw_text, text_at};
 use crate::firsts::Firsts;
 use crate::mark::Mark;
 use crate::swallowed::later_lines;
+use crate::voters::FirstRows;
 use csv::ByteRecord;
-use pb_read::{Part, Stage};
+use pb_read::{Part, ReadKind, Refusal, Stage};
 use std::alloc::{AllocError, Global};
 use std::cell::Cell;
 use strsim::levenshtein;
@@ -113,15 +114,15 @@ impl Ids {
         None
     }
 
-    /// The first id that a vote names and that no project has.
-    pub fn unknown_of<'v>(&self, vote: &'v str) -> &'v str {
+    /// Whether a text names projects alone.
+    pub fn are_all(&self, vote: &str) -> bool {
         for piece in vote.split(',') {
             let id = piece.trim();
             if !id.is_empty() && !self.projects.has(id) {
-                return id;
+                return false;
             }
         }
-        ""
+        true
     }
 
     /// Whether a piece of a vote is ids of projects that blanks separate.
@@ -153,7 +154,18 @@ impl Ids {
 pub struct Known<'i> {
     pub ids: &'i Ids,
     /// Where the first rows of the voters stand whose ids are repeated.
-    pub voters: &'i Firsts,
+    pub voters: &'i FirstRows,
+}
+
+impl Known<'_> {
+    /// Where the earlier row with the same id stands, where the fault is about one.
+    pub fn earlier(&self, refusal: &Refusal) -> Option<Mark> {
+        let place = refusal.earlier?;
+        match refusal.fault.kind {
+            ReadKind::RepeatedVoter => self.voters.mark(place),
+            _ => self.ids.projects.mark_at(place),
+        }
+    }
 }
 
 fn nearest<'i>(

@@ -1,7 +1,7 @@
 //! The rows of META that gave the keys that the desk or the count uses.
 
 use crate::mark::Mark;
-use pb_read::{MetaKey, ReadKind};
+use pb_read::MetaKey;
 
 /// The rows of META that gave a key: the first, and the last, which counts.
 #[derive(Clone, Copy)]
@@ -47,34 +47,5 @@ impl Keys {
     /// The rows that gave this key.
     pub fn given(&self, key: MetaKey) -> Option<Given> {
         self.given[key as usize]
-    }
-
-    /// The key whose value a fault at the head of PROJECTS is about, and the rows that gave it; none where
-    /// the fault is about no value, or the value is missing.
-    pub fn judged(&self, kind: ReadKind) -> Option<(MetaKey, Given)> {
-        let key = match kind {
-            ReadKind::BadMoney | ReadKind::MoneyTooFine | ReadKind::MoneyTooLarge =>
-                MetaKey::Budget,
-            ReadKind::VoteType => MetaKey::VoteType,
-            ReadKind::BadLength => MetaKey::MaxLength,
-            ReadKind::ReadFailed
-            | ReadKind::NotText
-            | ReadKind::TooManyRecords
-            | ReadKind::NoSection
-            | ReadKind::SectionOrder
-            | ReadKind::NoHeader
-            | ReadKind::MissingColumn
-            | ReadKind::MissingField
-            | ReadKind::MissingKey
-            | ReadKind::ZeroCost
-            | ReadKind::EmptyId
-            | ReadKind::RepeatedProject
-            | ReadKind::RepeatedVoter
-            | ReadKind::UnknownProject
-            | ReadKind::TooManyProjects
-            | ReadKind::TooManyVoters
-            | ReadKind::NoMemory => return None,
-        };
-        Some((key, self.given(key)?))
     }
 }

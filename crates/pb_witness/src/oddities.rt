@@ -110,6 +110,8 @@ pub struct Oddities {
     found: Vec<Odd>,
     counts: [u64; COUNT],
     firsts: [u64; COUNT],
+    /// Whether the file has no row of VOTES, as that of a desk that has not opened.
+    pub has_no_votes: bool,
     is_whole: bool,
 }
 
@@ -122,6 +124,7 @@ impl Oddities {
             found: Vec::new(alloc),
             counts: [0; COUNT],
             firsts: [0; COUNT],
+            has_no_votes: false,
             is_whole: true,
         }
     }
@@ -148,6 +151,11 @@ impl Oddities {
         self.is_whole
     }
 
+    /// Whether there are any of a kind.
+    pub fn has(&self, oddity: Oddity) -> bool {
+        self.counts[oddity as usize] > 0
+    }
+
     /// How many there are of a kind beyond those that are kept.
     pub fn more(&self, oddity: Oddity) -> u64 {
         self.counts[oddity as usize].saturating_sub(self.most)
@@ -161,7 +169,7 @@ impl Oddities {
     /// The first of the first kind that was found.
     pub fn first(&self) -> Option<Warning> {
         for oddity in ALL {
-            if self.counts[oddity as usize] > 0 {
+            if self.has(oddity) {
                 let at = self.firsts[oddity as usize];
                 return Some(Warning { oddity, at });
             }

@@ -5,7 +5,7 @@ use csv::ByteRecord;
 use pb_core::election::Election;
 use pb_core::no_memory::NoMemory;
 use pb_ids::IdTable;
-use pb_read::{Part, ReadFault, Section, Stage, Watch};
+use pb_read::{Part, Refusal, Section, Stage, Watch};
 use std::alloc::{AllocError, Global};
 use std::mem;
 
@@ -128,7 +128,7 @@ impl Watch for PageNotes {
         }
     }
 
-    fn refuse(&mut self, _record: &ByteRecord, _fault: ReadFault, _stage: &Stage) {}
+    fn refuse(&mut self, _record: &ByteRecord, _refusal: Refusal, _stage: &Stage) {}
 
     fn end(&mut self, _election: &Election) {}
 }

@@ -124,6 +124,7 @@ impl ResultOddities {
 
     /// Takes the end of the file, whose accepted rows give this election.
     pub fn end(&mut self, election: &Election) {
+        self.found.has_no_votes = self.votes == 0;
         let (votes, projects) = (self.claims.votes, self.claims.projects);
         self.take_broken(Oddity::VotesMissing, votes, self.votes);
         self.take_broken(Oddity::ProjectsMissing, projects, self.projects);

@@ -1,7 +1,7 @@
 //! Where the first rows of the voters stand whose ids are repeated.
 
-use crate::fields::text_at;
-use crate::firsts::Firsts;
+use crate::fields::is_blank;
+use crate::mark::Mark;
 use crate::records::Records;
 use crate::text::Text;
 use crate::witness::{Refused, Witness};
@@ -10,99 +10,91 @@ use std::alloc::{AllocError, Global};
 use std::io::Read;
 use std::rt::Files;
 
-/// Where the first rows of the voters stand whose ids are repeated, if the text is a file. A witness keeps no
-/// table of all voters, so the rows of VOTES are read again for them, until each was found.
-pub fn first_rows<R: Files>(text: &Text<'_, R>, witness: &Witness) -> Result<Firsts, AllocError> {
-    let wanted = repeated(text.alloc, witness)?;
-    let mut found = Firsts::new(text.alloc);
-    let searched = find_rows(text, witness, &wanted, &mut found);
-    drop(wanted);
-    searched?;
-    Ok(found)
+/// Where the rows of some voters stand.
+#[derive(Drop)]
+pub struct FirstRows {
+    /// The places of these voters among all, from 0, rising.
+    places: Vec<u32>,
+    /// Where their rows begin, as far as they were found.
+    marks: Vec<Mark>,
 }
 
-/// Finds the first rows that have these ids, if the text is a file.
-fn find_rows<R: Files>(
+impl FirstRows {
+    /// Where the row of the voter at this place stands, if it was found.
+    pub fn mark(&self, place: u32) -> Option<Mark> {
+        let found = self.places.binary_search(&place).ok()?;
+        self.marks.get(found).copied()
+    }
+
+    /// Takes where the row of the voter at this place stands, and answers whether more are looked for.
+    fn take(&mut self, place: u32, mark: Mark) -> Result<bool, AllocError> {
+        if self.places.get(self.marks.len()) == Some(&place) {
+            self.marks.push(mark)?;
+        }
+        Ok(self.marks.len() < self.places.len())
+    }
+}
+
+/// Finds where the first rows of the voters stand whose ids are repeated, if the text is a file. A witness keeps
+/// no mark of each voter, so the rows of VOTES are read again up to the last of them.
+pub fn first_rows<R: Files>(
     text: &Text<'_, R>,
     witness: &Witness,
-    wanted: &Firsts,
-    found: &mut Firsts,
+) -> Result<FirstRows, AllocError> {
+    let mut rows = FirstRows {
+        places: repeated(text.alloc, witness.refused.as_slice())?,
+        marks: Vec::new(text.alloc),
+    };
+    if rows.places.is_empty() {
+        return Ok(rows);
+    }
+    if let Some(mut records) = text.record_at(witness.names_mark()) {
+        let found = find(&mut records, witness.refused.as_slice(), &mut rows);
+        drop(records);
+        found?;
+    }
+    Ok(rows)
+}
+
+/// The places of the voters whose ids are repeated, rising and each once.
+fn repeated(alloc: Global, refused: &[Refused]) -> Result<Vec<u32>, AllocError> {
+    let mut places = Vec::new(alloc);
+    for row in refused {
+        if let (ReadKind::RepeatedVoter, Some(place)) = (
+            row.refusal.fault.kind,
+            row.refusal.earlier,
+        ) {
+            places.push(place)?;
+        }
+    }
+    places.sort_unstable();
+    places.dedup();
+    Ok(places)
+}
+
+/// Finds the rows: those of VOTES that are neither blank nor refused are of the voters, in their order.
+fn find<F: Read>(
+    records: &mut Records<F>,
+    refused: &[Refused],
+    rows: &mut FirstRows,
 ) -> Result<(), AllocError> {
-    if wanted.len() == 0 {
-        return Ok(());
-    }
-    let Some(records) = text.record_at(witness.names_mark()) else {
-        return Ok(());
-    };
-    let mut search = Search {
-        alloc: text.alloc,
-        records,
-        wanted,
-    };
-    let searched = search.find(witness.refused.as_slice(), found);
-    drop(search);
-    searched
-}
-
-/// The ids that are repeated.
-fn repeated(alloc: Global, witness: &Witness) -> Result<Firsts, AllocError> {
-    let mut ids = Firsts::new(alloc);
-    for refused in &witness.refused {
-        match refused.stage {
-            Stage::InVotes(columns) if refused.fault.kind == ReadKind::RepeatedVoter => {
-                ids.keep(alloc, text_at(&refused.record, columns.voter), refused.mark)?
-            }
-            _ => {}
+    let mut place = 0u32;
+    for row in refused {
+        if !matches!(row.stage, Stage::InVotes(_)) {
+            continue;
         }
-    }
-    Ok(ids)
-}
-
-/// The rows of VOTES, which are read again.
-#[derive(Drop)]
-struct Search<'w, F: Read> {
-    alloc: Global,
-    records: Records<F>,
-    /// The ids that are looked for.
-    wanted: &'w Firsts,
-}
-
-impl<'w, F: Read> Search<'w, F> {
-    /// Finds the first rows that have these ids and were not refused.
-    fn find(&mut self, refused: &[Refused], found: &mut Firsts) -> Result<(), AllocError> {
-        for row in refused {
-            match row.stage {
-                Stage::InVotes(columns) => self.find_before(row.mark.at, columns.voter, found)?,
-                _ => {}
-            }
-            if found.len() == self.wanted.len() {
+        for _ in records.at.saturating_add(1)..row.mark.at {
+            if !records.advance() {
                 return Ok(());
             }
-        }
-        Ok(())
-    }
-
-    /// Finds them before the record of this number, which is refused.
-    fn find_before(
-        &mut self,
-        at: u64,
-        column: usize,
-        found: &mut Firsts,
-    ) -> Result<(), AllocError> {
-        for _ in self.records.at.saturating_add(1)..at {
-            if !self.records.advance() {
-                return Ok(());
-            }
-            let mark = self.records.mark();
-            let id = text_at(&self.records.last, column);
-            if self.wanted.has(id) {
-                found.keep(self.alloc, id, mark)?;
-                if found.len() == self.wanted.len() {
+            if !is_blank(&records.last) {
+                if !rows.take(place, records.mark())? {
                     return Ok(());
                 }
+                place = place.saturating_add(1);
             }
         }
-        let _ = self.records.advance();
-        Ok(())
+        let _ = records.advance();
     }
+    Ok(())
 }

@@ -11,7 +11,7 @@ use csv::ByteRecord;
 use pb_core::election::Election;
 use pb_core::no_memory::NoMemory;
 use pb_read::{
-    Compare, Heed, Oddity, Part, ProjectColumns, ReadFault, Section, Stage, VoteColumns, Warn,
+    Compare, Heed, Oddity, Part, ProjectColumns, Refusal, Section, Stage, VoteColumns, Warn,
     Warning, WarningRow, Watch,
 };
 use std::alloc::{AllocError, Global};
@@ -197,9 +197,9 @@ impl Watch for Warnings {
         }
     }
 
-    fn refuse(&mut self, record: &ByteRecord, fault: ReadFault, stage: &Stage) {
+    fn refuse(&mut self, record: &ByteRecord, refusal: Refusal, stage: &Stage) {
         self.has_fault = true;
-        self.witness.refuse(record, fault, stage);
+        self.witness.refuse(record, refusal, stage);
         self.results.leave_out(stage);
     }
 
@@ -222,6 +222,10 @@ impl Watch for Warnings {
 }
 
 impl Warn for Warnings {
+    ghost use Rattle.std.specs.Prelude.{⊤};
+
+    ghost warns = { λ _ _. ⊤ };
+
     fn warnings(&mut self) -> Result<Vec<WarningRow>, NoMemory> {
         if self.has_ended {
             self.results.found.rows()
@@ -283,8 +287,8 @@ impl Watch for ResultWarnings {
         self.results.take(record, at, part, election);
     }
 
-    fn refuse(&mut self, record: &ByteRecord, fault: ReadFault, stage: &Stage) {
-        self.witness.refuse(record, fault, stage);
+    fn refuse(&mut self, record: &ByteRecord, refusal: Refusal, stage: &Stage) {
+        self.witness.refuse(record, refusal, stage);
     }
 
     fn end(&mut self, election: &Election) {

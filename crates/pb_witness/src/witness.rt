@@ -7,14 +7,14 @@ use crate::swallowed::SwallowingRows;
 use crate::text::Text;
 use csv::ByteRecord;
 use pb_core::election::Election;
-use pb_read::{MOST_FAULTS, Part, ReadFault, ReadKind, Stage, Watch, read_pb_watched};
+use pb_read::{MOST_FAULTS, Part, ReadKind, Refusal, Stage, Watch, read_pb_watched};
 use std::alloc::{AllocError, Global};
 use std::rt::Files;
 
 /// A record that the reader refused.
 #[derive(Drop)]
 pub struct Refused {
-    pub fault: ReadFault,
+    pub refusal: Refusal,
     /// Its fields; none where there is no record.
     pub record: ByteRecord,
     /// Where it begins.
@@ -83,12 +83,12 @@ impl Witness {
     fn keep(
         &mut self,
         record: &ByteRecord,
-        fault: ReadFault,
+        refusal: Refusal,
         stage: &Stage,
     ) -> Result<(), AllocError> {
-        let mark = Mark::of(record, u64::from(fault.at));
+        let mark = Mark::of(record, u64::from(refusal.fault.at));
         self.refused.push(Refused {
-            fault,
+            refusal,
             record: record.clone()?,
             mark,
             stage: *stage,
@@ -109,8 +109,8 @@ impl Watch for Witness {
         }
     }
 
-    fn refuse(&mut self, record: &ByteRecord, fault: ReadFault, stage: &Stage) {
-        if self.refused.len() < MOST_FAULTS && self.keep(record, fault, stage).is_err() {
+    fn refuse(&mut self, record: &ByteRecord, refusal: Refusal, stage: &Stage) {
+        if self.refused.len() < MOST_FAULTS && self.keep(record, refusal, stage).is_err() {
             self.is_whole = false;
         }
     }

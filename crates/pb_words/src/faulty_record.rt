@@ -2,7 +2,7 @@
 
 use crate::mark_words::put_subject;
 use crate::read_rules::{put_broken, words_of};
-use crate::section::{NO_NAMES, Names, names_of, wrong_head};
+use crate::section::{NO_NAMES, Names, missing, names_of, wrong_head};
 use crate::words::Value::{Bytes, Number, Own, Quoted};
 use crate::words::Words;
 use pb_read::{ReadKind, Stage};
@@ -65,7 +65,6 @@ pub(crate) fn remedy_of(faulty: &FaultyRecord) -> Option<&'static str> {
 
 /// Puts what is wrong with a record by itself.
 pub(crate) fn put_what(out: &mut Words, faulty: &FaultyRecord) {
-    let names = names(faulty);
     let first = text_at(faulty.record, 0);
     match faulty.kind {
         ReadKind::NotText => put_no_text(out, faulty),
@@ -86,21 +85,15 @@ pub(crate) fn put_what(out: &mut Words, faulty: &FaultyRecord) {
         }
         ReadKind::MissingColumn => put_no_column(out, faulty),
         ReadKind::MissingField => put_short(out, faulty),
-        ReadKind::EmptyId => put_value(out, faulty, names.id_column, ""),
-        ReadKind::BadMoney
-        | ReadKind::MoneyTooFine
-        | ReadKind::MoneyTooLarge
-        | ReadKind::ZeroCost => put_value(out, faulty, names.value_column, faulty.value()),
+        _ if faulty.refusal.column.is_some() => put_value(out, faulty),
         kind => out.fill(": {}.\n", &[Own(words_of(kind).0)]),
     }
 }
 
 /// Puts on which line its id is already, where that is known.
 pub(crate) fn put_repeated(out: &mut Words, faulty: &FaultyRecord, first: Option<u64>) {
-    out.fill(
-        ", column {}: the id {}",
-        &[Own(names(faulty).id_column), Quoted(faulty.id())],
-    );
+    put_column(out, faulty);
+    out.fill(": the id {}", &[Quoted(faulty.id())]);
     match first {
         Some(line) => out.fill(" is already on line {}.\n", &[Number(line)]),
         None => out.put(" is already in an earlier row.\n"),
@@ -117,22 +110,24 @@ fn put_no_text(out: &mut Words, faulty: &FaultyRecord) {
 }
 
 fn put_no_column(out: &mut Words, faulty: &FaultyRecord) {
-    let names = names(faulty);
+    let section = section_of(faulty.stage);
     if let Some(separators) = faulty.separators() {
         return out.fill(
             ": the column names are separated by {}.\n",
             &[Own(separators)],
         );
     }
-    let missing = names.missing(column_of(faulty.record, names.id_column).is_some());
+    let has_id = column_of(faulty.record, missing(section, false)).is_some();
     out.fill(
         ": the row of column names has no column `{}`; it begins with {}.\n",
-        &[Own(missing), Quoted(text_at(faulty.record, 0))],
+        &[
+            Own(missing(section, has_id)),
+            Quoted(text_at(faulty.record, 0)),
+        ],
     )
 }
 
 fn put_short(out: &mut Words, faulty: &FaultyRecord) {
-    let names = names(faulty);
     if faulty.is_invisible() {
         return out.put(": the line has only an invisible character.\n");
     }
@@ -142,16 +137,23 @@ fn put_short(out: &mut Words, faulty: &FaultyRecord) {
             &[Quoted(text_at(faulty.record, 0))],
         );
     }
-    put_subject(out, names.subject, faulty.id());
+    put_subject(out, names(faulty).subject, faulty.id());
     out.fill(
         ": the row has no field for the column `{}`.\n",
-        &[Own(names.missing(faulty.has_id()))],
+        &[Own(missing(section_of(faulty.stage), faulty.has_id()))],
     )
 }
 
-/// Puts a value of this column, whose row it is, and the rule that it breaks.
-fn put_value(out: &mut Words, faulty: &FaultyRecord, column: &'static str, value: &str) {
-    out.fill(", column {}", &[Own(column)]);
+/// Puts the column of the value that is refused.
+pub(crate) fn put_column(out: &mut Words, faulty: &FaultyRecord) {
+    if let Some(column) = faulty.refusal.column {
+        out.fill(", column {}", &[Own(column.name())]);
+    }
+}
+
+/// Puts the column of the value that is refused, whose row it is, and the rule that it breaks.
+fn put_value(out: &mut Words, faulty: &FaultyRecord) {
+    put_column(out, faulty);
     put_subject(out, names(faulty).subject, faulty.id());
-    put_broken(out, faulty.kind, value)
+    put_broken(out, faulty.kind, faulty.value())
 }

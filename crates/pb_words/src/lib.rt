@@ -7,6 +7,7 @@
 //! character into a terminal. Nothing but that each call returns is proved of a word.
 #![tactic(auto)]
 
+pub mod answer_words;
 pub mod belonging_words;
 pub mod count_words;
 pub mod export_words;

@@ -4,7 +4,8 @@ use crate::mark_words::{line_of, put_mark, put_swallowing};
 use crate::read_rules::{put_broken, words_of};
 use crate::words::Value::{Number, Own, Quoted};
 use crate::words::Words;
-use pb_read::{MetaKey, ReadKind};
+use pb_read::{Column, MetaKey, ReadKind};
+use pb_witness::faulty_record::FaultyRecord;
 use pb_witness::fields::{JoinedBy, text_at};
 use pb_witness::heads::{OddHead, head_of, late_meta};
 use pb_witness::keys::Given;
@@ -52,10 +53,12 @@ const REPEATED_KEY: &str =
 pub(crate) fn put_value_words<R: Files>(
     out: &mut Words,
     text: &Text<R>,
-    seen: &Seen,
-    kind: ReadKind,
+    faulty: &FaultyRecord,
 ) -> bool {
-    let Some((key, Given { first, last })) = seen.keys.judged(kind) else {
+    let Some(Column::Key(key)) = faulty.refusal.column else {
+        return false;
+    };
+    let Some(Given { first, last }) = faulty.seen.keys.given(key) else {
         return false;
     };
     let Some(records) = text.record_at(last) else {
@@ -64,11 +67,11 @@ pub(crate) fn put_value_words<R: Files>(
     let _ = put_mark(out, text, last);
     let value = text_at(&records.last, 1);
     out.fill(", key {}", &[Quoted(key.text())]);
-    put_broken(out, kind, value);
+    put_broken(out, faulty.kind, value);
     if first.at != last.at {
         out.fill(REPEATED_KEY, &[Number(line_of(text, first))]);
     }
-    out.put(value_remedy(kind, value));
+    out.put(value_remedy(faulty.kind, value));
     true
 }
 

@@ -20,7 +20,7 @@ pub fn read_output_words(alloc: Global, path: &str, text: Option<&str>) -> Said 
 pub fn beside_output_words(alloc: Global, path: &str, journal: Option<&str>) -> Said {
     said(
         alloc,
-        "error: --output {}: pb_app uses this name itself, for a file that belongs to the journal {}.\nName another file.\n",
+        "error: --output {}: this is the name of a file that belongs to the journal {}.\nName another file.\n",
         &[Name(Some(path)), Name(journal)],
     )
 }

@@ -87,7 +87,7 @@ fn put_each_fault<R: Files>(
     let mut names_row = false;
     for (place, fault) in faults.iter().enumerate() {
         match witness.refused.get(place) {
-            Some(refused) if refused.fault == *fault => {
+            Some(refused) if refused.refusal.fault == *fault => {
                 if can_be_read {
                     put_fault(out, text, known, refused)
                 } else {
@@ -104,7 +104,7 @@ fn put_each_fault<R: Files>(
 
 /// Puts what is wrong with a record that was refused, or with the end of the file, and what to do.
 fn put_fault<R: Files>(out: &mut Words, text: &Text<R>, known: &Known, refused: &Refused) {
-    let kind = refused.fault.kind;
+    let kind = refused.refusal.fault.kind;
     if put_looks(out, text, kind) {
         return;
     }
@@ -115,7 +115,7 @@ fn put_fault<R: Files>(out: &mut Words, text: &Text<R>, known: &Known, refused: 
         _ => put_found(out, text, known, &faulty),
     };
     if !is_said {
-        put_unread(out, text, refused.fault);
+        put_unread(out, text, refused.refusal.fault);
     }
 }
 
@@ -126,7 +126,7 @@ fn put_from_input<R: Files>(
     known: &Known,
     refused: &Refused,
 ) -> bool {
-    match (refused.fault.kind, &refused.stage) {
+    match (refused.refusal.fault.kind, &refused.stage) {
         (ReadKind::NoSection, Stage::Start) => {
             let form = if refused.record.len() == 0 {
                 "{} is empty.\nName a .pb file in the command, for example `pb_app count FILE`.\n"
@@ -137,15 +137,15 @@ fn put_from_input<R: Files>(
             return false;
         }
         (ReadKind::UnknownProject, _) if known.ids.left_out.len() > 0 => {
-            put_record_number(out, text, u64::from(refused.fault.at));
+            put_record_number(out, text, u64::from(refused.refusal.fault.at));
             out.put(
                 ": the vote names an id that no project has, or the id of a project whose row has a fault.\nCorrect the rows of the projects first.\n",
             )
         }
-        _ => put_unread(out, text, refused.fault),
+        _ => put_unread(out, text, refused.refusal.fault),
     }
     !matches!(
-        refused.fault.kind,
+        refused.refusal.fault.kind,
         ReadKind::ReadFailed | ReadKind::NoMemory
     )
 }

@@ -1,6 +1,6 @@
 //! Words for a record of a .pb file that is refused, and for the end of one that is refused there.
 
-use crate::faulty_record::{put_repeated, put_what, remedy_of};
+use crate::faulty_record::{put_column, put_repeated, put_what, remedy_of};
 use crate::looks::EMPTY;
 use crate::mark_words::{
     CLOSE_IT, line_of, put_mark, put_over, put_subject, put_swallowing, put_unclosed,
@@ -64,7 +64,7 @@ pub(crate) fn put_found<R: Files>(
         (ReadKind::MissingKey, Stage::InMeta(_)) => {
             put_missing_key(out, text, faulty.seen, faulty.mark)
         }
-        (kind, Stage::InMeta(_)) => return put_value_words(out, text, faulty.seen, kind),
+        (_, Stage::InMeta(_)) => return put_value_words(out, text, faulty),
         _ => put_record(out, text, known, faulty),
     }
     true
@@ -100,12 +100,9 @@ fn put_record<R: Files>(out: &mut Words, text: &Text<R>, known: &Known, faulty: 
                 Number(line_of(text, faulty.seen.last)),
             ],
         ),
-        ReadKind::RepeatedProject => put_repeated(
-            out,
-            faulty,
-            line_at(text, ids.projects.mark(id)),
-        ),
-        ReadKind::RepeatedVoter => put_repeated(out, faulty, line_at(text, known.voters.mark(id))),
+        ReadKind::RepeatedProject | ReadKind::RepeatedVoter => {
+            put_repeated(out, faulty, line_at(text, known.earlier(&faulty.refusal)))
+        }
         _ => put_what(out, faulty),
     }
     // Where a field is missing, the quotation mark may have taken it.
@@ -161,8 +158,8 @@ fn put_unknown<R: Files>(
     ids: &Ids,
     faulty: &FaultyRecord,
 ) -> &'static str {
-    let unknown = ids.unknown_of(faulty.value());
-    out.put(", column vote");
+    let unknown = faulty.piece();
+    put_column(out, faulty);
     put_subject(out, "voter", faulty.id());
     if let Some(line) = line_at(text, ids.left_out.mark(unknown)) {
         out.fill(
@@ -181,7 +178,7 @@ fn put_unknown<R: Files>(
         return "Delete it, or type the id anew.\n";
     }
     let shifted = faulty.shifted();
-    if !shifted.is_empty() && ids.unknown_of(shifted).is_empty() {
+    if !shifted.is_empty() && ids.are_all(shifted) {
         out.fill(NO_PROJECT, &[Quoted(unknown)]);
         put_split(out, faulty);
         return "";

@@ -62,6 +62,8 @@ fn put_remedy<R: Files>(out: &mut Words, refused: &RefusedRow<'_>, roll: &Text<R
         }
         RowRefusal::UnknownId => "Correct the id",
         RowRefusal::TooFew => "Ask the voter which further projects to add",
+        RowRefusal::FromFile => FROM_FILE,
+        RowRefusal::NoShut => NO_SHUT,
         RowRefusal::NotOnRoll | RowRefusal::Bad => {
             let joined = roll.joined_behind(Mark::start());
             if let Some(Some(separators)) = joined.map(JoinedBy::separators) {
@@ -92,6 +94,13 @@ fn put_why(out: &mut Words, refused: &RefusedRow<'_>, voter: Value<'_>) {
             ", field places: the ballot names too few projects: `--min` asks for at least {}.",
             &[Number(u64::from(refused.least))],
         ),
+        RowRefusal::FromFile => out.fill(
+            ", field voter: {} is listed in the .pb file, and with `--keep-file-ballots` the desk takes no request for its voters.",
+            &[voter],
+        ),
+        RowRefusal::NoShut => out.put(
+            ", field request: with `--no-shut` no request can shut the desk.",
+        ),
         RowRefusal::NotOnRoll | RowRefusal::Bad => out.fill(
             ", field voter: {} is not on the roll in the file {}.",
             &[voter, Name(refused.roll)],
@@ -112,6 +121,14 @@ pub fn like_a_place_words(alloc: Global, id: &str) -> Said {
 /// What to do where a voter is not on a roll whose fields something else than `;` separates.
 const OTHER_SEPARATORS: &str =
     "The fields of the roll are separated by {}. Save the roll again with `;` between the fields, and run again.\n";
+
+/// What to do about a request for a voter of the file.
+const FROM_FILE: &str =
+    "What the desk has for this voter stays as it is. If the voter's id is wrong, correct it";
+
+/// What to do where a request may not shut the desk.
+const NO_SHUT: &str =
+    "A shut is final. If an open desk is to be shut, start `serve` without `--no-shut`";
 
 /// What to do behind the correction of a voter who is not on the roll of `serve`.
 const AGAIN: &str =

@@ -28,7 +28,7 @@ Write the number in digits, without spaces or leading zeros. If this is a row of
     script has none.",
         Condition::KnownClerk => " is too high: ",
         Condition::Request => " is not a request
-Write `cast`, `replace`, `withdraw` or `shut`, in small letters.",
+Write `cast`, `replace` or `withdraw`, in small letters.",
         Condition::NoVoter => " is given, but a `shut` request has no voter
 Leave the field empty.",
         Condition::Voter => " is not a voter's id

@@ -20,7 +20,7 @@ use std::rt::Files;
 
 /// What to do about a row of other than four fields.
 const FOUR_FIELDS: &str =
-    "Write it as CLERK;REQUEST;VOTER;PLACES, with three `;`, and with `,` between projects. A shut is `0;shut;;`.\n";
+    "Write it as CLERK;REQUEST;VOTER;PLACES, with three `;`, and with `,` between projects.\n";
 
 /// What is said of a journal's row.
 const JOURNAL_ROW: &str = ": this is a row of a journal, not a request.
@@ -34,11 +34,11 @@ Name the .pb file first, and then the script: `pb_app desk FILE SCRIPT`. (`pb_ap
 
 /// The form of requests that name projects by their positions.
 const BY_POSITIONS: &str =
-    "A request has the form CLERK;REQUEST;VOTER;PLACES; only `shut` has an empty VOTER. PLACES are positions such as 0,1; for ids, run again with `--by-id`.\n";
+    "A request has the form CLERK;REQUEST;VOTER;PLACES; VOTER is the voter's id. PLACES are positions such as 0,1; for ids, run again with `--by-id`.\n";
 
 /// The form of requests that name projects by their ids.
 const BY_IDS: &str =
-    "A request has the form CLERK;REQUEST;VOTER;PLACES; only `shut` has an empty VOTER. PLACES are ids of projects, with `,` between them.\n";
+    "A request has the form CLERK;REQUEST;VOTER;PLACES; VOTER is the voter's id. PLACES are ids of projects, with `,` between them.\n";
 
 /// How a run takes the rows of a script.
 #[derive(Clone, Copy)]
@@ -99,6 +99,8 @@ To see what is wrong, save the script in a file, and name this file in the comma
         ScriptFault::UnknownId(_) => ": no project has one of the ids.\n",
         ScriptFault::NotOnRoll(_) => ": the voter is not on the roll.\n",
         ScriptFault::TooFew(_) => ": the ballot has too few projects.\n",
+        ScriptFault::FromFile(_) => ": the voter is listed in the .pb file.\n",
+        ScriptFault::NoShut(_) => ": no request can shut the desk.\n",
     }
 }
 
@@ -111,7 +113,7 @@ fn put_row<R: Files>(out: &mut Words, text: &Text<R>, at: u64, clerks: u32) -> b
     if put_unclosed(out, span) {
         out.put(CLOSE_IT);
     } else {
-        put_row_words(out, &records.last, clerks, BALLOT);
+        put_row_words(out, &records.last, clerks, false);
         let _ = put_over(out, span, true);
     }
     true
@@ -122,14 +124,14 @@ pub fn last_row_words(alloc: Global, rows: &LastRows, number: u64) -> Said {
     let mut out = Words::new(alloc);
     if let Some(records) = rows.records_to(number) {
         out.fill("standard input: row {}", &[Number(number)]);
-        put_row_words(&mut out, &records.last, MOST_CLERKS, TYPED);
+        put_row_words(&mut out, &records.last, MOST_CLERKS, true);
     }
     out.finish()
 }
 
-/// Puts which condition a row breaks, in a run of so many clerks, and what to do: this, where its fields are
-/// not separated.
-fn put_row_words(out: &mut Words, row: &ByteRecord, clerks: u32, separate: &'static str) {
+/// Puts which condition a row breaks, in a run of so many clerks, and what to do. A row that `serve` reads is
+/// not shown how to shut the desk.
+fn put_row_words(out: &mut Words, row: &ByteRecord, clerks: u32, is_served: bool) {
     if is_of_journal(row) {
         return out.put(JOURNAL_ROW);
     }
@@ -139,13 +141,15 @@ fn put_row_words(out: &mut Words, row: &ByteRecord, clerks: u32, separate: &'sta
     match flaw_of_script_row(row, clerks) {
         Some(flaw) if flaw.condition == Condition::FieldCount => {
             put_field_count(out, row, SCRIPT_FIELDS.len());
+            let separate = if is_served { TYPED } else { BALLOT };
             put_joined(out, joined(row), FOUR_FIELDS, separate)
         }
         Some(flaw) => {
             let clerks = clerks.min(MOST_CLERKS);
             put_flaw(out, &flaw, SCRIPT_FIELDS, clerks);
             if flaw.condition == Condition::KnownClerk {
-                return put_clerk_remedy(out, raw_text(row, 1) == "shut", &flaw, clerks);
+                let is_shut = !is_served && raw_text(row, 1) == "shut";
+                return put_clerk_remedy(out, is_shut, &flaw, clerks);
             }
             out.fill("{}\n", &[Own(broken(flaw.condition).1)])
         }

@@ -1,14 +1,10 @@
 //! What things are called in the sections of a .pb file, and what is missing in one.
 
-use pb_read::{Section, Stage};
+use pb_read::{Column, Section, Stage};
 
 /// What things are called in a section.
 #[derive(Clone, Copy)]
 pub(crate) struct Names {
-    /// The column of its rows' ids.
-    pub(crate) id_column: &'static str,
-    /// The other column that its rows need.
-    pub(crate) value_column: &'static str,
     /// What its rows are.
     pub(crate) subject: &'static str,
     /// What to do where it has no row of column names, and where that lacks a column.
@@ -16,36 +12,19 @@ pub(crate) struct Names {
     pub(crate) add_column: &'static str,
 }
 
-impl Names {
-    /// The column that is missing: the other one, where there is that of the ids.
-    pub(crate) fn missing(&self, has_id: bool) -> &'static str {
-        if has_id {
-            self.value_column
-        } else {
-            self.id_column
-        }
-    }
-}
-
 const META: &Names = &Names {
-    id_column: "key",
-    value_column: "value",
     subject: "key",
     add_header: "Add it below the heading META, for example `key;value`.\n",
     add_column: "",
 };
 
 const PROJECTS: &Names = &Names {
-    id_column: "project_id",
-    value_column: "cost",
     subject: "project",
     add_header: "Add it below the heading PROJECTS, for example `project_id;cost`.\n",
     add_column: "PROJECTS needs columns with the names `project_id` and `cost`. If this row is a project, add the row of column names above it.\n",
 };
 
 const VOTES: &Names = &Names {
-    id_column: "voter_id",
-    value_column: "vote",
     subject: "voter",
     add_header: "Add it below the heading VOTES, for example `voter_id;vote`.\n",
     add_column: "VOTES needs columns with the names `voter_id` and `vote`. If this row is a vote, add the row of column names above it.\n",
@@ -63,6 +42,17 @@ pub(crate) fn names_of(section: Section) -> &'static Names {
         Section::Projects => PROJECTS,
         Section::Votes => VOTES,
     }
+}
+
+/// The column that a row of the section lacks: the other one, where it has that of the ids.
+pub(crate) fn missing(section: Section, has_id: bool) -> &'static str {
+    let column = match (section, has_id) {
+        (Section::Votes, true) => Column::Vote,
+        (Section::Votes, false) => Column::VoterId,
+        (_, true) => Column::Cost,
+        (_, false) => Column::ProjectId,
+    };
+    column.name()
 }
 
 /// What is wrong with this head of a section at a stage where it is refused, with the head in place of `{}`,

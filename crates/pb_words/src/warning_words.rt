@@ -3,7 +3,7 @@
 use crate::mark_words::{
     CLOSE_IT, line_of, put_mark, put_over, put_record_number, put_subject, put_unclosed,
 };
-use crate::words::Value::{Amount, Number, Own, Quoted};
+use crate::words::Value::{Amount, Name, Number, Own, Quoted};
 use crate::words::{Said, Words};
 use pb_core::money::Money;
 use pb_read::Oddity;
@@ -14,6 +14,10 @@ use pb_witness::swallowed::SwallowingRows;
 use pb_witness::text::Text;
 use std::alloc::Global;
 use std::rt::Files;
+
+/// What is said of a file without votes, in place of a warning for each project.
+const NO_VOTES: &str = "{}: VOTES has no rows, so no project has a supporter (NoSupporter).
+A desk can open on this file. If it should have votes, get the whole file again.\n";
 
 /// What is said of a row with rows in a field, of which no lines are known.
 const LIKE_ROWS: &str =
@@ -144,6 +148,10 @@ fn put_oddities<R: Files>(out: &mut Words, text: &Text<R>, oddities: &Oddities) 
         return out.fail();
     }
     for oddity in ALL {
+        if oddity == Oddity::NoSupporter && oddities.has(oddity) && oddities.has_no_votes {
+            out.fill(NO_VOTES, &[Name(text.path)]);
+            continue;
+        }
         for odd in oddities.found() {
             if odd.oddity == oddity {
                 put_odd(out, text, odd);

@@ -5,14 +5,15 @@ use Rattle.std.specs.Borrow.{Bor}
 use Rattle.std.specs.List.{range_with_len}
 use Rattle.std.specs.Option.{option_map_or}
 use Rattle.pb_core.specs.MoneyText.{money_text}
-use Rattle.pb_reasons.specs.declared.project_reason.Added.{Added}
+use Rattle.pb_reasons.specs.declared.project_reason.Ending.{Ending}
 use Rattle.pb_reasons.specs.declared.project_reason.Lost.{Lost}
-use Rattle.pb_reasons.specs.declared.project_reason.Won.{Won}
 use Rattle.pb_page.specs.declared.categories.Categories.{Categories}
 use Rattle.pb_page.specs.declared.facts.Facts.{Facts}
 use Rattle.pb_page.specs.declared.facts.ReadText.{ReadText}
 use Rattle.pb_page.specs.declared.figures.Figures.{Figures}
 use Rattle.pb_page.specs.declared.in_category.InCategory.{InCategory}
+use Rattle.pb_page.specs.declared.place.Place.{Place}
+use Rattle.pb_page.specs.declared.place.Place.TheVariants as place
 use Rattle.pb_page.specs.declared.project_row.ProjectRow.{ProjectRow}
 use Rattle.pb_reasons.specs.declared.tie.Tie.{Tie}
 use Rattle.pb_core.specs.Election.{ElectionView, ProjectView}
@@ -23,37 +24,47 @@ use Rattle.pb_page.specs.declared.markup.form.Form.{Form}
 use Rattle.pb_reasons.specs.Counted.{winners_of}
 use Rattle.pb_reasons.specs.CountedElection.{CountedElectionView}
 use Rattle.pb_reasons.specs.declared.comparison.Comparison.{Comparison}
-use Rattle.pb_reasons.specs.Reasons.{voter_reason}
+use Rattle.pb_reasons.specs.Reasons.{project_reason, voter_reason}
 use Rattle.pb_reasons.specs.Totals.{totals_of}
 use Rattle.pb_reasons.specs.declared.raise_end.RaiseEnd.{RaiseEnd}
 use Rattle.pb_reasons.specs.declared.raise_end.RaiseEnd.TheVariants.{Plain, Exhausted, Over}
 use Rattle.pb_rounds.specs.declared.measure.Measure.{Measure}
 use Rattle.pb_rounds.specs.declared.options.Completion.{Completion}
-use Rattle.pb_rounds.specs.declared.options.CountOptions.{CountOptions}
+use Rattle.pb_rounds.specs.MostVotes.{is_taken}
 use Rattle.pb_rounds.specs.RuleNames.{by_completion, by_measure, completion_name, fills_up, measure_name}
 use Rattle.pb_rounds.specs.declared.rule.FillUp.{FillUp}
 use Rattle.pb_rounds.specs.declared.rule.Rule.{Rule}
-use Rattle.pb_page.specs.Page.{amount, at, at_least, ballots_row, between, called, category_name, category_of, cells}
-use Rattle.pb_page.specs.Page.{category_row, compared_row, exactly, filling, labels, lost_row, noun_at, number}
-use Rattle.pb_page.specs.Page.{project_at, row_of, say, text, tie, width, won_row}
 use Rattle.pb_page.specs.declared.keys.TheConstants as key
 use Rattle.pb_page.specs.declared.language.Language.{Language}
 use Rattle.pb_page.specs.declared.style.TheConstants.{HEAD}
-use Rattle.pb_page.specs.declared.templates.TheConstants.{LEAD_NEXT, NOTHING, BUDGET_OPENING, BLOCKS_OPENING}
-use Rattle.pb_page.specs.declared.templates.TheConstants.{BUDGET_PART, BLOCKS_CLOSING, BUDGET_CLOSING}
-use Rattle.pb_page.specs.declared.templates.TheConstants.{HEAD_CATEGORY, HEAD_CLOSING, ROW_CATEGORY, WINNERS_OPENING}
-use Rattle.pb_page.specs.declared.templates.TheConstants.{WINNER, ADDED_OPENING, ADDED, OTHERS_OPENING, OTHER}
-use Rattle.pb_page.specs.declared.templates.TheConstants.{OTHER_CLOSING, TABLE_CLOSING, CATEGORIES_OPENING}
-use Rattle.pb_page.specs.declared.templates.TheConstants.{CATEGORY, COMPARED_OPENING, VOTERS_OPENING}
-use Rattle.pb_page.specs.declared.templates.TheConstants.{VOTERS_TABLE, VOTERS_ROW, VOTERS_ROW_CLOSING}
-use Rattle.pb_page.specs.declared.templates.TheConstants.{RULE_OPENING, RULE_NEXT, ITEM, ITEM_OPENING}
-use Rattle.pb_page.specs.declared.templates.TheConstants.{ONLY_THEN_OPENING, ONLY_THEN, NAMELESS, CALLED}
-use Rattle.pb_page.specs.declared.templates.TheConstants.{TIES_OPENING, LIST_CLOSING, CHECK_OPENING}
-use Rattle.pb_page.specs.declared.templates.TheConstants.{CHECK_FILE, CHECK_JOURNAL, RECOUNT_OPENING}
-use Rattle.pb_page.specs.declared.templates.TheConstants.{RECOUNT_LINK, RECOUNT_CLOSING, NO_RECOUNT, COUNT}
-use Rattle.pb_page.specs.declared.templates.TheConstants.{AUDIT, OPTION_COST, OPTION_PLAIN}
-use Rattle.pb_page.specs.declared.templates.TheConstants.{OPTION_UTILITARIAN, OPTION_ADD1U, COMMAND_CLOSING}
-use Rattle.pb_page.specs.declared.templates.TheConstants.{CLOSING, MADE_BY_OPENING}
+use Rattle.pb_page.specs.Page.{filling, at, labels, say, between, text, noun_at, number, amount, width}
+use Rattle.pb_page.specs.Page.{project_at, called, category_of, category_name, cells, ended_row}
+use Rattle.pb_page.specs.Page.{row_at, table, category_row, exactly, at_least}
+use Rattle.pb_page.specs.Page.{ballots_row, compared_row, tie}
+use Rattle.pb_page.specs.declared.templates.TheConstants.{NAMELESS, CALLED, RECOUNT_LINK, NOTHING, LEAD_NEXT}
+use Rattle.pb_page.specs.declared.templates.TheConstants.{BUDGET_OPENING, BLOCKS_OPENING, BLOCKS_CLOSING}
+use Rattle.pb_page.specs.declared.templates.TheConstants.{BUDGET_CLOSING, COMPARED_OPENING, TABLE_CLOSING}
+use Rattle.pb_page.specs.declared.templates.TheConstants.{ROW_CATEGORY, HEAD_CATEGORY, HEAD_CLOSING}
+use Rattle.pb_page.specs.declared.templates.TheConstants.{VOTERS_OPENING, VOTERS_TABLE, RULE_OPENING}
+use Rattle.pb_page.specs.declared.templates.TheConstants.{RULE_NEXT, ITEM, CHECK_OPENING, CHECK_FILE}
+use Rattle.pb_page.specs.declared.templates.TheConstants.{CHECK_JOURNAL, RECOUNT_OPENING, RECOUNT_CLOSING}
+use Rattle.pb_page.specs.declared.templates.TheConstants.{NO_RECOUNT, BUDGET_PART, WINNERS_OPENING}
+use Rattle.pb_page.specs.declared.templates.TheConstants.{ADDED_OPENING, OTHERS_OPENING, ITEM_OPENING}
+use Rattle.pb_page.specs.declared.templates.TheConstants.{ONLY_THEN_OPENING, ONLY_THEN, TIES_OPENING}
+use Rattle.pb_page.specs.declared.templates.TheConstants.{LIST_CLOSING, OPTIONS, MADE_BY_OPENING, OTHER}
+use Rattle.pb_page.specs.declared.templates.TheConstants.{VOTERS_ROW_CLOSING, AUDIT, COUNT, VOTERS_ROW}
+use Rattle.pb_page.specs.declared.templates.TheConstants.{CLOSING, CATEGORY, CATEGORIES_OPENING}
+
+-- what stands at a place of a sentence
+abbrev pub at_place : Place → Filling
+at_place (place.Text t) = text t.now
+at_place (place.Digits n) = text (decimal n)
+at_place (place.Shown h form) = text (shown form h)
+at_place (place.Number name n) = number name.now n
+at_place (place.Amount name h form) = amount form name.now h
+at_place (place.Nameless h form) = filling NAMELESS.now (money_text h ∷ shown form h ∷ [])
+at_place (place.Called name) = filling CALLED.now (name.now ∷ [])
+at_place (place.Link address name) = filling RECOUNT_LINK.now (address.now ∷ name.now ∷ [])
 
 -- the numbers of the whole
 abbrev pub figures_of : CountedElectionView → Figures
@@ -104,22 +115,7 @@ caption l f =
     (amount l.costs (codes "spent") f.spent ∷ amount l.costs (codes "left") f.left
     ∷ amount l.amounts (codes "surplus") f.surplus ∷ [])
 
--- the heads of the three tables: heading, caption, and columns
-abbrev pub winners_head : Language → Filling
-winners_head l =
-    labels l WINNERS_OPENING.now (key.WINNERS_HEADING ∷ key.WINNERS_CAPTION
-    ∷ key.ROUND ∷ key.PROJECT ∷ key.COST ∷ key.VOTES ∷ key.PRICE ∷ key.IN_FULL ∷ [])
-
-abbrev pub added_head : Language → Filling
-added_head l =
-    labels l ADDED_OPENING.now (key.ADDED_HEADING ∷ key.ADDED_CAPTION
-    ∷ key.NUMBER ∷ key.PROJECT ∷ key.COST ∷ key.VOTES ∷ [])
-
-abbrev pub others_head : Language → Filling
-others_head l =
-    labels l OTHERS_OPENING.now
-    (key.OTHERS_HEADING ∷ key.OTHERS_CAPTION ∷ key.PROJECT ∷ key.COST ∷ key.VOTES ∷ key.LEFT ∷ key.MISSING ∷ [])
-
+-- the head of the comparison, and the whole
 abbrev pub compared_head : Language → Filling
 compared_head l = labels l COMPARED_OPENING.now (key.COMPARED_HEADING ∷ key.COMPARED_CAPTION
     ∷ key.COMPARED_RULE ∷ key.COMPARED_WON ∷ key.WITHOUT ∷ key.MORE ∷ [])
@@ -127,23 +123,6 @@ compared_head l = labels l COMPARED_OPENING.now (key.COMPARED_HEADING ∷ key.CO
 abbrev pub compared : Language → Comparison → List Filling
 compared l rules = compared_head l ∷ compared_row l key.EQUAL_SHARES rules.own ∷ compared_row l key.MOST_VOTES rules.other
     ∷ filling TABLE_CLOSING.now [] ∷ []
-
--- the rows of the project at a place, as a winner and as another
-abbrev pub won_rows : Facts → CountedElectionView → ℕ → List Filling
-won_rows facts x place = row_of (won_row facts x.election.budget) x place
-
-abbrev pub lost_rows : Facts → CountedElectionView → ℕ → List Filling
-lost_rows facts x place = row_of (lost_row facts) x place
-
--- the row of a winner and of an added project, up to their ends
-abbrev pub winner_cells : Language → ProjectRow → Won → Filling
-winner_cells l r w = let p = r.project.now in filling WINNER.now
-    (p.id ∷ at l key.ROUND ∷ decimal w.round ∷ (cells l p (width p.cost r.budget) r.votes ++ (at l key.PRICE
-    ∷ money_text w.price ∷ shown l.amounts w.price ∷ at l key.IN_FULL ∷ decimal w.in_full ∷ [])))
-
-abbrev pub added_cells : Language → ProjectRow → Added → Filling
-added_cells l r a = let p = r.project.now in filling ADDED.now
-    (p.id ∷ at l key.NUMBER ∷ decimal a.number ∷ cells l p (width p.cost r.budget) r.votes)
 
 -- the cell of a project's category, and the head of its column, where there are categories
 abbrev pub category_cell : (label name : List ℕ) → List Filling
@@ -156,8 +135,10 @@ row_category facts place =
 abbrev pub head_category : Facts → List Filling
 head_category facts = option_map_or (λ g. labels facts.language HEAD_CATEGORY.now (key.CATEGORY ∷ []) ∷ []) facts.categories []
 
-abbrev pub head_end : Facts → List Filling
-head_end facts = head_category facts ++ filling HEAD_CLOSING.now [] ∷ []
+-- the head of a table of projects
+abbrev pub table_head : Facts → (piece keys : List ℕ) → List Filling
+table_head facts piece keys =
+    labels facts.language piece keys ∷ (head_category facts ++ filling HEAD_CLOSING.now [] ∷ [])
 
 -- how many voters have a winner among their choices, and the head of the histogram
 abbrev pub got : Language → List ℕ → List Filling
@@ -200,21 +181,26 @@ block form budget before p =
     filling BUDGET_PART.now
     (decimal (width before budget) ∷ decimal (width p.cost budget) ∷ called p ∷ shown form p.cost ∷ p.id ∷ [])
 
--- a table of projects, by its head and its rows
-abbrev pub rows_table : Facts → Filling → List Filling → List Filling
-rows_table facts head rows = head ∷ (head_end facts ++ (rows ++ filling TABLE_CLOSING.now [] ∷ []))
-
-abbrev pub winner_table : Facts → CountedElectionView → List Filling
-winner_table facts x =
-    rows_table facts (winners_head facts.language) (flat_map (λ w. won_rows facts x w.place) x.counted.outcome.elected)
+-- the tables of projects
+abbrev pub elected_table : Facts → CountedElectionView → List Filling
+elected_table facts x = table facts WINNERS_OPENING.now
+    (key.WINNERS_HEADING ∷ key.WINNERS_CAPTION ∷ key.ROUND ∷ key.PROJECT ∷ key.COST ∷ key.VOTES ∷ key.PRICE ∷ key.IN_FULL ∷ [])
+    (flat_map (λ w. row_at facts x w.place) x.counted.outcome.elected)
 
 abbrev pub added_table : Facts → CountedElectionView → List Filling
-added_table facts x = rows_table facts (added_head facts.language) (flat_map (won_rows facts x) x.counted.added)
+added_table facts x = table facts ADDED_OPENING.now
+    (key.ADDED_HEADING ∷ key.ADDED_CAPTION ∷ key.NUMBER ∷ key.PROJECT ∷ key.COST ∷ key.VOTES ∷ [])
+    (flat_map (row_at facts x) x.counted.added)
+
+abbrev pub lost_row : Facts → CountedElectionView → ℕ → List Filling
+lost_row facts x place = if is_taken (winners_of x.counted) place then [] else row_at facts x place
 
 abbrev pub other_table : Facts → CountedElectionView → List Filling
-other_table facts x =
-    rows_table facts (others_head facts.language) (flat_map (lost_rows facts x) (range_with_len 0 (length x.election.projects)))
+other_table facts x = table facts OTHERS_OPENING.now
+    (key.OTHERS_HEADING ∷ key.OTHERS_CAPTION ∷ key.PROJECT ∷ key.COST ∷ key.VOTES ∷ key.LEFT ∷ key.MISSING ∷ [])
+    (flat_map (lost_row facts x) (range_with_len 0 (length x.election.projects)))
 
+-- a row of the histogram
 abbrev pub exact_row : Language → List ℕ → ℕ → List Filling
 exact_row l won n = ballots_row l key.EXACTLY n (exactly n won) won
 
@@ -283,16 +269,17 @@ ties_told l x all = if length all == 0 then [] else tie_list l x all
 abbrev pub method_said : Language → Rule → List Filling
 method_said l rule = item l (method_key rule) ∷ filled_up l rule.fill_up
 
-abbrev pub measure_option : Measure → List Filling
-measure_option measure = by_measure measure [] (filling OPTION_COST.now [] ∷ [])
+-- the options of the command, and the piece that ends it with them
+abbrev pub measure_option : Measure → List ℕ
+measure_option measure = by_measure measure [] (codes " --measure cost")
 
-abbrev pub completion_option : Completion → FillUp → List Filling
-completion_option completion fill_up =
-    by_completion completion fill_up
-    (filling OPTION_PLAIN.now [] ∷ []) [] (filling OPTION_UTILITARIAN.now [] ∷ []) (filling OPTION_ADD1U.now [] ∷ [])
+abbrev pub completion_option : Completion → FillUp → List ℕ
+completion_option completion fill_up = by_completion completion fill_up
+    (codes " --plain") [] (codes " --completion utilitarian") (codes " --completion add1u")
 
-abbrev pub command_closing : CountOptions → Filling
-command_closing options = filling COMMAND_CLOSING.now (decimal options.step ∷ decimal options.max_raises ∷ [])
+abbrev pub options_piece : Rule → Filling
+options_piece r = let o = r.options in filling OPTIONS.now
+    (measure_option o.measure ∷ completion_option o.completion r.fill_up ∷ decimal o.step ∷ decimal o.max_raises ∷ [])
 
 abbrev pub option_places : Language → Rule → List Filling
 option_places l rule =
@@ -302,16 +289,21 @@ option_places l rule =
 
 abbrev pub options_said : Language → Rule → List Filling
 options_said l rule =
-    between (command_closing rule.options) (filling MADE_BY_OPENING.now []) l key.OPTIONS (option_places l rule)
+    between (options_piece rule) (filling MADE_BY_OPENING.now []) l key.OPTIONS (option_places l rule)
+
+-- the row of a project that ended so, up to its category; and of one that did not win up to what is said of what is
+-- missing
+abbrev pub said_of : Language → ProjectRow → Ending → List Filling
+said_of l r ending = ended_row l r.budget r.project.now r.votes ending
+
+abbrev pub said_at : Language → CountedElectionView → ℕ → List Filling
+said_at l x place = let r = project_reason x.election x.counted place in
+    ended_row l x.election.budget (project_at x.election place) r.votes r.ending
 
 abbrev pub lost_figures : Language → ProjectRow → Lost → Filling
 lost_figures l r lost = let p = r.project.now in filling OTHER.now
     (cells l p (width lost.left p.cost) r.votes ++ (at l key.LEFT ∷ money_text lost.left ∷ shown l.amounts lost.left
     ∷ at l key.MISSING ∷ money_text lost.missing ∷ []))
-
-abbrev pub lost_cells : Language → ProjectRow → Lost → List Filling
-lost_cells l r lost =
-    between (lost_figures l r lost) (filling OTHER_CLOSING.now []) l key.SHORT (text (shown l.amounts lost.missing) ∷ [])
 
 abbrev pub got_said : Language → (with voters without : ℕ) → List Filling
 got_said l with voters without =
@@ -345,9 +337,7 @@ made facts r = options_said facts.language r
     ++ (say facts.language key.MADE_BY (text facts.program.now ∷ []) ++ filling CLOSING.now [] ∷ [])
 
 abbrev pub command : Facts → Rule → List Filling
-command facts r =
-    recounting facts.journal
-    ++ (measure_option r.options.measure ++ (completion_option r.options.completion r.fill_up ++ made facts r))
+command facts r = recounting facts.journal ++ made facts r
 
 -- which of these winners are of a category
 abbrev pub winners_in : Categories → List ℕ → ℕ → List ℕ

@@ -3,9 +3,11 @@
 ghost use Rattle.std.specs.Prelude.{◌≡◌, ◌++◌, OnOk, map};
 ghost use Rattle.pb_page.specs.Filling.{filled, text_of};
 ghost use Rattle.pb_page.specs.Markup.{written};
+ghost use Rattle.pb_page.specs.Words.{sentence};
 
 use crate::markup::amounts::write_amount;
 use crate::markup::value::Value;
+use crate::markup::words::Words;
 use crate::markup::written::write_text;
 use itoa::Buffer;
 use pb_core::no_memory::NoMemory;
@@ -29,6 +31,32 @@ pub fn fill(page: &mut Vec<u8>, piece: &'static str, values: &[Value]) -> Result
         } else if used < values.len() {
             let value = &values[used];
             write_value(page, value)?;
+            if *byte == PLACE {
+                used += 1;
+            }
+        }
+    }
+    Ok(())
+}
+
+/// Writes a piece of the program's own markup after a page, with the sentences at these keys in its places, as
+/// `fill` writes values.
+pub(crate) fn fill_words(
+    page: &mut Vec<u8>,
+    piece: &'static str,
+    words: &Words,
+    keys: &[u16],
+) -> Result<(), NoMemory>
+    ensures { OnOk result (page.new.items
+        ≡ page.old.items ++ filled piece.now (map (sentence words.now) keys.now)) }
+{
+    let mut used = 0;
+    let bytes = piece.as_bytes();
+    for byte in bytes {
+        if *byte != PLACE && *byte != NEXT {
+            page.push(*byte)?;
+        } else if used < keys.len() {
+            write_text(page, words.sentence(keys[used]))?;
             if *byte == PLACE {
                 used += 1;
             }

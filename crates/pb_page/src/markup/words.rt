@@ -31,6 +31,7 @@ impl<'a> Words<'a> {
     }
 
     /// The sentence at this index; where there is none, nothing.
+    #[tactic(auto, unfolding(crate::specs::Words::sentence))]
     fn at(&self, index: usize) -> &'a str
         ensures { result.now ≡ sentence self.now index }
     {

@@ -3,16 +3,20 @@ use Rattle.std.specs.Prelude.{◌≡◌, ◌≤◌, ℕ, [], Option, None, Some,
 use Rattle.pb_core.specs.Election.{ElectionView}
 use Rattle.pb_core.specs.Money.{largest_money}
 use Rattle.pb_read.specs.declared.meta.Meta.{Meta}
+use Rattle.pb_rows.specs.Reading.{Fields}
 use Rattle.pb_rows.specs.declared.fault.RecordsFault.{RecordsFault}
 use Rattle.pb_rows.specs.declared.fault.RecordsFault.TheVariants as stop
+use Rattle.pb_read.specs.declared.fault.ReadFault.{ReadFault}
 use Rattle.pb_read.specs.declared.fault.ReadKind.{ReadKind}
 use Rattle.pb_read.specs.declared.fault.ReadKind.TheVariants.{ReadFailed}
 use Rattle.pb_read.specs.Inner.Drafts.{IsTied}
 use Rattle.pb_read.specs.Inner.Machine.{Explains, Position, advance, row_fault}
+use Rattle.pb_read.specs.Refusals.{refusal_of}
 use Rattle.pb_read.specs.Stages.{Next}
 use Rattle.pb_read.specs.declared.columns.VoteColumns.{VoteColumns}
 use Rattle.pb_read.specs.declared.progress.Progress.{Progress}
 use Rattle.pb_read.specs.declared.progress.Stage.{Stage}
+use Rattle.pb_read.specs.declared.refusal.Refusal.{Refusal}
 use Rattle.pb_read.specs.declared.progress.Stage.TheVariants.{InMeta, InVotes}
 
 -- a budget that was read is in range
@@ -44,6 +48,15 @@ Refuses old next kind = Explains kind (row_fault (place_of old) next)
 -- what was refused has changed nothing
 abbrev pub Stays : Progress → Progress → Type 0
 Stays old new = (place_of new ≡ place_of old) × IsReady new
+
+-- a fault that is about no value
+abbrev pub no_value : ReadFault → Refusal
+no_value fault = record { fault = fault; column = None; piece = None; earlier = None }
+
+-- a fault of this kind is about no value
+abbrev pub IsOfNoValue : ReadKind → Type 0
+IsOfNoValue kind = (p : Position) (row : Fields) (at : ℕ) →
+    refusal_of p row (record { kind = kind; at = at }) ≡ no_value (record { kind = kind; at = at })
 
 -- a file may end here, with this election
 abbrev pub EndsWith : Position → ElectionView → Type 0

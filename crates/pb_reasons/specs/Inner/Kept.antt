@@ -8,26 +8,25 @@ use Rattle.pb_reasons.specs.Counted.{CountedView, winners_of}
 use Rattle.pb_reasons.specs.Reasons.{round_of}
 use Rattle.pb_reasons.specs.Inner.Comparing.{AreFlags}
 use Rattle.pb_reasons.specs.Inner.Numbers.{AreNumbers}
-use Rattle.pb_reasons.specs.Inner.Replay.{paid_by_supporters}
+use Rattle.pb_reasons.specs.Inner.Replay.{full_payers_by_round}
 
 -- the number of each project's round
 pub record AreRounds (projects : ℕ) (elected : List ElectedView) (rounds : List ℕ) : Type 0 where
   pub one_each : length rounds ≡ projects
   pub numbered : (place : ℕ) → place < projects → slice_index rounds place ≡ round_of elected place
 
--- what contracts see of reasons: the supporters, the rounds, and what the supporters of each of the elected
--- paid
+-- what contracts see of reasons: the supporters, the rounds, and how many paid in full for each of the elected
 pub record ReasonsView : Type 0 where
   pub supporters : SupportView
   pub rounds : List ℕ
-  pub paid : List (List ℕ)
+  pub in_full : List ℕ
 
 -- these are the reasons of this outcome
 pub record AreReasons (e : ElectionView) (o : OutcomeView) (r : ReasonsView) : Type 0 where
   pub supporters : r.supporters ≡ support_of e
   pub rounds : AreRounds (length e.projects) o.elected r.rounds
-  pub paid : r.paid
-      ≡ paid_by_supporters (support_of e) (replicate (length e.voters) o.share) o.elected
+  pub in_full : r.in_full
+      ≡ full_payers_by_round (support_of e) (replicate (length e.voters) o.share) o.elected
 
 -- what contracts see of what is kept of a count: the reasons of its outcome, the number of each project among
 -- the added ones, the winners, and whether each project is one of these

@@ -9,7 +9,7 @@ ghost use Rattle.pb_rounds.specs.Counted.{IsCountFault};
 ghost use Rattle.pb_rounds.specs.declared.count_fault.CountFault.TheVariants.{NoMemory};
 ghost use Rattle.pb_reasons.specs.declared.changes.change.Change.TheVariants.{Cost, Voters};
 ghost use Rattle.pb_reasons.specs.declared.changes.change.Verdict.TheVariants.{Lost, Won};
-ghost use Rattle.pb_reasons.specs.WhatIf.{CanBe, IsFound, IsTrue, IsWhatIf, seen};
+ghost use Rattle.pb_reasons.specs.WhatIf.{AreDoubled, CanBe, IsFound, IsTrue, IsWhatIf, seen};
 ghost use Rattle.pb_reasons.specs.Inner.Searching.{AreKnown, IsSaid, IsStop};
 
 use crate::changes::change::{Change, Row, Verdict};
@@ -151,6 +151,8 @@ fn loser<T: Threads + Sync, G: Gate>(
     ensures voters { IfOk result (λ found. IsFound changing.old recount.now.question Voters 0
         (min (length changing.old.ballots) (most_voters - length changing.old.ballots))
         found.voters.first found.voters.second) }
+    ensures doubled { IfOk result (λ found.
+        AreDoubled changing.old recount.now.question found.voters.first found.voters.second) }
     ensures fault { IfErr result (IsStop recount.now.question) }
 {
     let found = cheaper(recount, changing, cost)?;

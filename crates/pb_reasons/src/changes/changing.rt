@@ -8,7 +8,7 @@ ghost use Rattle.pb_reasons.specs.Inner.Searching.{IsLent, IsStop, further_of};
 
 use crate::changes::change::{Change, Row};
 use crate::changes::frame::changed_frame;
-use crate::changes::numbered::{add_further, numbered};
+use crate::changes::numbered::{add_further, with_number_ids};
 use crate::changes::recount::{Recount, verdict_of};
 use pb_core::election::Election;
 use pb_core::gate::Gate;
@@ -55,7 +55,7 @@ impl Changing {
         let mut frame = election;
         let projects = frame.projects().len();
         let voters = frame.replace_voters(Vec::new(alloc));
-        let voters = numbered(alloc, voters, projects)?;
+        let voters = with_number_ids(alloc, voters, projects)?;
         Ok(Changing { frame, voters })
     }
 

@@ -13,7 +13,7 @@ use pb_core::voter_id::VoterId;
 use std::alloc::Global;
 
 /// Gives the voters numbers for ids, from 0, in their order. Their ballots are moved.
-pub(crate) fn numbered(
+pub(crate) fn with_number_ids(
     alloc: Global,
     voters: Vec<Voter>,
     projects: usize,

@@ -1,10 +1,10 @@
 //! Searches of one kind of change.
 
-ghost use Rattle.std.specs.Prelude.{◌≡◌, ◌≢◌, ◌+◌, ◌<◌, ◌≤◌, IfErr, IfOk, false, length, true};
+ghost use Rattle.std.specs.Prelude.{◌≡◌, ◌≢◌, ◌+◌, ◌*◌, ◌<◌, ◌≤◌, IfErr, IfOk, false, length, max, min, true};
 ghost use Rattle.pb_core.specs.Election.{most_voters};
 ghost use Rattle.pb_reasons.specs.declared.changes.change.Change.TheVariants.{Voters};
 ghost use Rattle.pb_reasons.specs.declared.changes.change.Verdict.TheVariants.{Lost, Refused};
-ghost use Rattle.pb_reasons.specs.WhatIf.{CanBe, IsFound, IsTrue};
+ghost use Rattle.pb_reasons.specs.WhatIf.{AreDoubled, CanBe, IsFound, IsTrue};
 ghost use Rattle.pb_reasons.specs.Inner.Searching.{AreEnds, AreNear, IsStop, wins};
 
 use crate::changes::change::{Change, Row, Verdict};
@@ -53,6 +53,7 @@ fn halved<T: Threads + Sync, G: Gate>(
     requires one_wins { wins low.verdict ≢ wins high.verdict }
     ensures near { IfOk result (λ found.
         AreNear changing.old recount.now.question change low.value high.value found.first found.second) }
+    ensures high { IfOk result (λ found. wins found.second.verdict ≡ wins high.verdict) }
     ensures kept { IfOk result (λ _. changing.new ≡ changing.old) }
     ensures fault { IfErr result (IsStop recount.now.question) }
 {
@@ -83,6 +84,8 @@ pub(crate) fn doubled<T: Threads + Sync, G: Gate>(
     requires can_be { CanBe changing.old Voters most }
     ensures found { IfOk result (λ found.
         IsFound changing.old recount.now.question Voters 0 most found.first found.second) }
+    ensures doubled { IfOk result (λ found.
+        AreDoubled changing.old recount.now.question found.first found.second) }
     ensures fault { IfErr result (IsStop recount.now.question) }
 {
     let nobody = Row {
@@ -163,6 +166,7 @@ fn middle(low: u64, high: u64) -> u64
 fn next_value(value: u64, most: u64) -> u64
     requires below { value < most }
     requires small { most ≤ most_voters }
+    ensures doubled { result ≡ min (max (2 * value) 1) most }
     ensures more { value < result }
     ensures within { result ≤ most }
 {

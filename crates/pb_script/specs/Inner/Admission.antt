@@ -1,5 +1,7 @@
 -- How a row is judged, in parts.
-use Rattle.std.specs.Prelude.{ℕ, Bool, true, List, [], ◌∷◌, Option, Some, None, Ok, Err, if◌then◌else◌}
+use Rattle.std.specs.Prelude.{ℕ, Bool, true, false, not, is_some, List, [], ◌∷◌, Option, Some, None, Ok, Err}
+use Rattle.std.specs.Prelude.{if◌then◌else◌}
+use Rattle.std.specs.FinMap.{get}
 use Rattle.std.specs.Option.{option_map_or}
 use Rattle.pb_read.specs.Voting.{ballot_of, names_only}
 use Rattle.pb_rows.specs.Numbers.{places_text}
@@ -8,6 +10,7 @@ use Rattle.pb_script.specs.Admission.{Judges}
 use Rattle.pb_desk.specs.Rows.{ScriptRowView}
 use Rattle.pb_script.specs.declared.admission.Admission.{Admission}
 use Rattle.pb_script.specs.declared.admission.RowRefusal.{RowRefusal}
+use Rattle.pb_script.specs.declared.admission.RowRefusal.TheVariants.{NotOnRoll, TooFew, FromFile}
 
 -- the places of the ids that a field names; place 0 where it names anything else
 abbrev pub places_named : List (List ℕ) → List ℕ → List ℕ
@@ -33,3 +36,10 @@ Refuses a clerks row why = Judges a clerks row (Err why)
 -- a row is admitted
 abbrev pub IsAdmitted : Admission → ℕ → Fields → Type 0
 IsAdmitted a clerks row = (x : ScriptRowView) × Judges a clerks row (Ok x)
+
+-- the first rule of the desk that a request of this voter breaks
+abbrev pub broken_for : Admission → (voter : List ℕ) → (has_enough : Bool) → Option RowRefusal
+broken_for a voter has_enough =
+    if not (option_map_or (λ roll. is_some (get roll voter)) a.roll true) then Some NotOnRoll
+    else if not has_enough then Some TooFew
+    else if option_map_or (λ kept. is_some (get kept voter)) a.kept false then Some FromFile else None

@@ -1,4 +1,4 @@
-use Rattle.std.proofs.Common.{◌≡◌, ◌<◌, ◌++◌, ◌∙◌, ap, arith, length, sym}
+use Rattle.std.proofs.Common.{◌≡◌, ◌++◌, ◌∙◌, ap, arith, length, sym}
 use Rattle.std.proofs.lemmas.List.{take-map}
 use Rattle.std.specs.List.{range_with_len}
 use Rattle.pb_reasons.specs.Counted.{CountedView}

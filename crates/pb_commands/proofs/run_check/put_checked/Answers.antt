@@ -1,4 +1,5 @@
 use Rattle.std.proofs.lemmas.Result.{on_ok_weaker}
+use Rattle.pb_commands.proofs.CheckWritten.{warned}
 use Rattle.pb_commands.proofs.CheckedAgainst.{outside_refused}
 use Rattle.pb_commands.proofs.run_check.put_checked.Goals as goal
 
@@ -7,3 +8,7 @@ returns-clause-compared g c = on_ok_weaker c.put_rows-put.result (λ _. c.in_ok-
 
 pub returns-clause-fault : goal.returns-clause-fault
 returns-clause-fault g c = outside_refused _ c.args.counting.now.rule.now.options c.put_rows-put.result c.put_rows-put.ensures.fault
+
+pub returns-clause-written : goal.returns-clause-written
+returns-clause-written g c =
+    on_ok_weaker c.put_rows-put.result (λ written. warned (g.N.Warn.warns c.warnings_against.new.notes) c.args.faults.now _ _ _ c.in_ok-warnings.ensures.rows (rw c.as_slice.ensures.value at written)) c.put_rows-put.ensures.ok

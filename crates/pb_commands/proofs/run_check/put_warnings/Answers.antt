@@ -1,5 +1,5 @@
 use Rattle.pb_commands.proofs.RowsGrown.{list_read, none_grown}
-use Rattle.pb_commands.specs.Inner.Checked.{warning_row}
+use Rattle.pb_commands.specs.Checked.{warning_row}
 use Rattle.pb_commands.proofs.run_check.put_warnings.Goals as goal
 
 pub loop-warning-init : goal.loop-warning-init

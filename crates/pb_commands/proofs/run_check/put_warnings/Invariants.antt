@@ -1,6 +1,6 @@
 use Rattle.std.proofs.Common.{◌≡◌, ◌++◌, map, take}
 use Rattle.pb_rows.specs.Writing.{text_of_rows}
-use Rattle.pb_commands.specs.Inner.Checked.{warning_row}
+use Rattle.pb_commands.specs.Checked.{warning_row}
 use Rattle.pb_commands.proofs.run_check.put_warnings.Given as goal
 
 abbrev pub invariant-loop-warning : goal.invariant-loop-warning

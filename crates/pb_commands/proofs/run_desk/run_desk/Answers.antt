@@ -7,7 +7,7 @@ use Rattle.pb_commands.proofs.run_desk.run_desk.Goals as goal
 
 -- all that these admit, and by places
 abbrev by_places : Admission → Rules
-by_places a = record { by_id = false; admission = a }
+by_places a = record { by_id = false; keeps_file = false; admission = a }
 
 pub returns : goal.returns
 returns g c =

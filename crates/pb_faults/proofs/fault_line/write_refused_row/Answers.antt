@@ -21,3 +21,11 @@ returns-in-NotOnRoll g c =
 pub returns-in-TooFew : goal.returns-in-TooFew
 returns-in-TooFew g c =
     subst (λ (why : RowRefusal). OnOk c.write_at-in-TooFew.result (Appends (g.W.Write.contents c.args.writer.now) (g.W.Write.contents c.write_at-in-TooFew.new.writer) (line (told (Script (fault_of_row why c.args.row))).1))) (sym c.in-TooFew.is) c.write_at-in-TooFew.ensures
+
+pub returns-in-FromFile : goal.returns-in-FromFile
+returns-in-FromFile g c =
+    subst (λ (why : RowRefusal). OnOk c.write_at-in-FromFile.result (Appends (g.W.Write.contents c.args.writer.now) (g.W.Write.contents c.write_at-in-FromFile.new.writer) (line (told (Script (fault_of_row why c.args.row))).1))) (sym c.in-FromFile.is) c.write_at-in-FromFile.ensures
+
+pub returns-in-NoShut : goal.returns-in-NoShut
+returns-in-NoShut g c =
+    subst (λ (why : RowRefusal). OnOk c.write_at-in-NoShut.result (Appends (g.W.Write.contents c.args.writer.now) (g.W.Write.contents c.write_at-in-NoShut.new.writer) (line (told (Script (fault_of_row why c.args.row))).1))) (sym c.in-NoShut.is) c.write_at-in-NoShut.ensures

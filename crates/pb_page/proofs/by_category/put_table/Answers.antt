@@ -3,4 +3,4 @@ use Rattle.pb_page.proofs.by_category.put_table.Goals as goal
 
 pub returns : goal.returns
 returns c =
-    then_put _ _ _ _ _ _ c.in_ok-put_head.ensures (then_put _ _ _ _ _ _ c.in_ok-put_rows.ensures c.put.ensures)
+    then_put _ _ _ _ _ _ c.in_ok-put_labels.ensures (then_put _ _ _ _ _ _ c.in_ok-put_rows.ensures c.put.ensures)

@@ -2,7 +2,4 @@ use Rattle.pb_page.proofs.Grown.{then_put}
 use Rattle.pb_page.proofs.check.put_command.Goals as goal
 
 pub returns : goal.returns
-returns c =
-    then_put _ _ _ _ _ _ c.in_ok-put_program.ensures
-    (then_put _ _ _ _ _ _ c.in_ok-put_measure.ensures
-    (then_put _ _ _ _ _ _ c.in_ok-put_completion.ensures c.put_made.ensures))
+returns c = then_put _ _ _ _ _ _ c.in_ok-put_program.ensures c.put_made.ensures

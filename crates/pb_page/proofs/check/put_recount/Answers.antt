@@ -5,4 +5,4 @@ pub returns : goal.returns
 returns c =
     then_put _ _ _ _ _ _ c.in_ok-put.ensures
     (then_put _ _ _ _ _ _ c.in_ok-say_recount.ensures
-    (c.put_command_head.ensures))
+    (c.put_labels.ensures))

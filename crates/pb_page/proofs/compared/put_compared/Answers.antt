@@ -3,5 +3,5 @@ use Rattle.pb_page.proofs.compared.put_compared.Goals as goal
 
 pub returns : goal.returns
 returns c =
-    then_put _ _ _ _ _ _ c.in_ok-put_head.ensures
+    then_put _ _ _ _ _ _ c.in_ok-put_labels.ensures
     (then_put _ _ _ _ _ _ c.in_ok-put_row.ensures (then_put _ _ _ _ _ _ c.in_ok-put_row-2.ensures c.put.ensures))

@@ -3,4 +3,4 @@ use Rattle.pb_page.specs.Inner.Grown.{Grows}
 
 pub returns : goal.returns
 unfolding Grows
-returns c = rw c.text.ensures at c.in_ok-say.ensures
+returns c = rw c.text.ensures at c.in_ok-write_sentence.ensures

@@ -1,8 +1,8 @@
-use Rattle.std.proofs.Common.{◌≡◌, []}
+use Rattle.std.proofs.Common.{◌<◌, length}
 use Rattle.std.specs.Prelude.{IfOk}
 use Rattle.pb_rows.specs.Reading.{records_of}
 use Rattle.pb_read.specs.Listed.{AreListed, IsHandedOut}
-use Rattle.pb_read.specs.Shown.{Adds, sights_to_end}
+use Rattle.pb_read.specs.Shown.{IsAll, WereShown}
 use Rattle.pb_read.proofs.Showing.{where_known}
 use Rattle.pb_read.proofs.check.check_pb.Goals as goal
 
@@ -19,4 +19,4 @@ returns-clause-election g c =
 pub returns-clause-shown : goal.returns-clause-shown
 returns-clause-shown g c =
     let checked = c.check_records-checked in
-    where_known records_of (λ all. IfOk checked.result (λ it. it.faults.items ≡ [] → Adds (sights_to_end all) (g.W.Watch.shown c.args.watch.now) (g.W.Watch.shown checked.new.watch))) _ _ c.new-records.ensures.left checked.ensures.shown
+    where_known records_of (λ all. IfOk checked.result (λ it. length it.faults.items < 1000 → WereShown all it.faults.items (IsAll all) (g.W.Watch.shown c.args.watch.now) (g.W.Watch.shown checked.new.watch))) _ _ c.new-records.ensures.left checked.ensures.shown

@@ -1,7 +1,8 @@
 use Rattle.std.proofs.Common.{[], refl, sym, subst}
 use Rattle.pb_read.proofs.Checks.{first_done, first_stop, going_start, said_of_all}
-use Rattle.pb_read.proofs.Showing.{shows_start}
+use Rattle.pb_read.proofs.Showing.{first_shown, shows_start}
 use Rattle.pb_read.specs.Inner.Checking.{IsGoing}
+use Rattle.pb_read.specs.Inner.Showing.{Shows}
 use Rattle.pb_read.proofs.read.read_records.Goals.{in-Ok, in-Err}
 use Rattle.pb_read.proofs.read.read_records.Goals as goal
 
@@ -26,8 +27,9 @@ returns-clause-fault g c =
 pub returns-clause-shown : goal.returns-clause-shown
 returns-clause-shown g c =
     let all = c.args.records.now.left in
-    let first = shows_start all (g.W.Watch.shown c.args.watch.now) in
+    let shown = g.W.Watch.shown c.args.watch.now in
+    let first = subst (λ p. Shows all all 0 [] p shown shown) (sym c.new-check.ensures.start) (shows_start all shown) in
     elim c.match-read_to_fault.branch [
-      | in-Ok w ↦ rw w.answer-is (w.in-Ok.ensures.shown all _ first)
-      | in-Err w ↦ rw w.answer-is (w.in-Err.ensures.shown all _ first)
+      | in-Ok w ↦ rw w.answer-is (w.in-Ok.ensures.shown all [] _ refl first)
+      | in-Err w ↦ rw w.answer-is (first_shown all _ _ _ _ _ _ (w.in-Err.ensures.shown all [] _ refl first))
     ]

@@ -3,12 +3,12 @@ use Rattle.pb_rounds.specs.Run.{ElectedView, charged}
 use Rattle.pb_price.proofs.SupporterLists.{known_voters, supporters_increase}
 use Rattle.pb_price.specs.Supporters.{supporters_at}
 use Rattle.pb_rounds.proofs.Charged.{length-charged}
-use Rattle.pb_reasons.specs.Inner.Replay.{row_of}
-use Rattle.pb_reasons.proofs.Paying.{paid_all, paid_more, whole_part}
+use Rattle.pb_reasons.specs.Inner.Replay.{full_payers}
+use Rattle.pb_reasons.proofs.Paying.{round_paid, rounds_paid, whole_part}
 use Rattle.pb_reasons.proofs.replay.replay.Goals as goal
 
-pub pay-requires-clause-known : goal.pay-requires-clause-known
-pay-requires-clause-known c =
+pub pay-payers-requires-clause-known : goal.pay-payers-requires-clause-known
+pay-payers-requires-clause-known c =
     let w = c.winner-item.result in
     let place_is : c.winner.inside.place ≡ w.place = ap (λ (v : ElectedView). v.place) c.winner.view_is in
     let item : w.place ≡ (get_or c.args.elected.now c.loop-winner.winner-index w).place = ap (λ (v : ElectedView). v.place) c.winner-item.is in
@@ -16,8 +16,8 @@ pay-requires-clause-known c =
     known_voters c.args.supporters.now c.of.ensures.is_support c.winner.inside.place (omega (arith, place_is, item, known)) c.of.result.now c.deref_mut.result.now c.of.ensures.supporters
     (ap length c.deref_mut.ensures.value ∙ c.loop-winner.invariant.one_each)
 
-pub pay-requires-clause-rise : goal.pay-requires-clause-rise
-pay-requires-clause-rise c =
+pub pay-payers-requires-clause-rise : goal.pay-payers-requires-clause-rise
+pay-payers-requires-clause-rise c =
     let w = c.winner-item.result in
     let place_is : c.winner.inside.place ≡ w.place = ap (λ (v : ElectedView). v.place) c.winner.view_is in
     let item : w.place ≡ (get_or c.args.elected.now c.loop-winner.winner-index w).place = ap (λ (v : ElectedView). v.place) c.winner-item.is in
@@ -29,18 +29,18 @@ loop-winner-preserved c =
     let s = c.args.supporters.now in
     let w = c.winner-item.result in
     let rests = c.loop-winner.rests.items in
-    let long : length c.pay.new.rests ≡ c.loop-winner.rests.len = omega (arith, c.pay.auto.rests, ap length c.deref_mut.ensures.value, c.loop-winner.rests.ok.0) in
-    let whole = whole_part c.loop-winner.rests.len c.pay.new.rests (drop (length c.pay.new.rests) rests) long in
+    let long : length c.pay-payers.new.rests ≡ c.loop-winner.rests.len = omega (arith, c.pay-payers.auto.rests, ap length c.deref_mut.ensures.value, c.loop-winner.rests.ok.0) in
+    let whole = whole_part c.loop-winner.rests.len c.pay-payers.new.rests (drop (length c.pay-payers.new.rests) rests) long in
     let place_is : c.winner.inside.place ≡ w.place = ap (λ (v : ElectedView). v.place) c.winner.view_is in
     let price_is : c.winner.inside.price ≡ w.price = ap (λ (v : ElectedView). v.price) c.winner.view_is in
     let supporters_are : c.of.result.now ≡ supporters_at s w.place = c.of.ensures.supporters ∙ ap (supporters_at s) place_is in
-    let charged_is : c.pay.new.rests ≡ charged (supporters_at s w.place) w.price rests =
-    rw (supporters_are, price_is, c.deref_mut.ensures.value) at c.in_ok-row.ensures.rests in
-    let row_is : c.in_ok-row.row ≡ row_of (supporters_at s w.place) w.price rests = rw (supporters_are, price_is, c.deref_mut.ensures.value) at c.in_ok-row.ensures.row in
+    let charged_is : c.pay-payers.new.rests ≡ charged (supporters_at s w.place) w.price rests =
+    rw (supporters_are, price_is, c.deref_mut.ensures.value) at c.pay-payers.ensures.rests in
+    let payers_are : c.pay-payers.result ≡ full_payers (supporters_at s w.place) w.price rests = rw (supporters_are, price_is, c.deref_mut.ensures.value) at c.pay-payers.ensures.in_full in
     record {
       one_each = rw whole (ap length charged_is ∙ length-charged (supporters_at s w.place) w.price rests ∙ c.loop-winner.invariant.one_each);
-      paid = rw (whole, charged_is, c.in_ok-push.ensures.items) (paid_more s c.args.elected.now c.loop-winner.winner-index w c.loop-winner-test.true c.winner-item.is rests c.in_ok-row.row row_is c.loop-winner.paid.items _ c.loop-winner.invariant.paid);
+      in_full = rw (whole, charged_is, c.in_ok-push.ensures.items) (round_paid s c.args.elected.now c.loop-winner.winner-index w c.loop-winner-test.true c.winner-item.is rests c.pay-payers.result payers_are c.loop-winner.in_full.items _ c.loop-winner.invariant.in_full);
     }
 
 pub returns : goal.returns
-returns c = paid_all c.args.supporters.now c.args.elected.now c.loop-winner.rests.items c.loop-winner.paid.items _ c.loop-winner.winner-index c.loop-winner-test.false c.loop-winner.invariant.paid
+returns c = rounds_paid c.args.supporters.now c.args.elected.now c.loop-winner.rests.items c.loop-winner.in_full.items _ c.loop-winner.winner-index c.loop-winner-test.false c.loop-winner.invariant.in_full

@@ -79,7 +79,7 @@ loop-before-preserved c =
     let price_is : c.winner.inside.price ≡ w.price = ap (λ (v : ElectedView). v.price) c.winner.view_is in
     let supporters_are : c.of.result.now ≡ supporters_at s w.place = c.of.ensures.supporters ∙ ap (supporters_at s) place_is in
     let charged_is : c.pay.new.rests ≡ charged (supporters_at s w.place) w.price rests =
-    rw (supporters_are, price_is, c.deref_mut.ensures.value) at c.in_ok-_paid.ensures.rests in
+    rw (supporters_are, price_is, c.deref_mut.ensures.value) at c.pay.ensures.rests in
     record {
       rests = rw whole (charged_is ∙ ap (charged (supporters_at s w.place) w.price) c.loop-before.invariant.rests
           ∙ sym (rests_more s start elected c.loop-before.before w c.loop-before-test.true c.index-elected-before.is));

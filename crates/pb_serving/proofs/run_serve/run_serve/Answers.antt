@@ -16,7 +16,7 @@ use Rattle.pb_serving.proofs.Answering.{halts_behind_all, halts_unbegun, not_sto
 use Rattle.pb_serving.proofs.Apart.{ok_not_err, output_not_read, output_not_write, same_err}
 use Rattle.pb_serving.proofs.Batches.{adds_none}
 use Rattle.pb_serving.proofs.Causes.{behind_device, err_is, not_durable, not_output, told_is}
-use Rattle.pb_serving.specs.Inner.OnRoll.{AddsOnRoll}
+use Rattle.pb_serving.specs.Inner.Admitted.{AddsAdmitted}
 use Rattle.pb_serving.proofs.Standings.{begins, closes, kept_all, kept_closing}
 use Rattle.pb_serving.proofs.run_serve.run_serve.Goals as goal
 
@@ -115,25 +115,25 @@ returns-clause-answered g c =
     subst (λ (d : DeskView). HasAnswered c.args.session.now.admission.now c.args.rows.now c.serve_rows.new.rows old.desk.journal d.journal (λ text. Appends before after (head ++ text)) c.in_ok-refused.refused) (sym c.close.ensures.desk)
     (a.0, a.1, a.2, a.3, a.4, Appends-trans before mid after head a.1 opened a.5, a.6)
 
-pub returns-in_err-opened-clause-on_roll : goal.returns-in_err-opened-clause-on_roll
-returns-in_err-opened-clause-on_roll g c = adds_none c.args.session.now.admission.now c.args.desk.now.desk.journal
+pub returns-in_err-opened-clause-admitted : goal.returns-in_err-opened-clause-admitted
+returns-in_err-opened-clause-admitted g c = adds_none c.args.session.now.admission.now c.args.desk.now.desk.journal
 
-pub returns-in_err-write_out-clause-on_roll : goal.returns-in_err-write_out-clause-on_roll
-returns-in_err-write_out-clause-on_roll g c = adds_none c.args.session.now.admission.now c.args.desk.now.desk.journal
+pub returns-in_err-write_out-clause-admitted : goal.returns-in_err-write_out-clause-admitted
+returns-in_err-write_out-clause-admitted g c = adds_none c.args.session.now.admission.now c.args.desk.now.desk.journal
 
 pub returns-in_err-refused-clause-write : goal.returns-in_err-refused-clause-write
 returns-in_err-refused-clause-write g c = λ tells said.
     let is : Write ≡ c.in_err-refused.field-0.0 = subst (λ r. IsErrAnd r (λ x. x ≡ c.in_err-refused.field-0.0)) said c.from_residual-in_err-refused.ensures.1 in
     c.serve_rows.ensures.write tells (c.in_err-refused.was ∙ ap (λ (f : AppFault). Err f) (sym is))
 
-pub returns-clause-on_roll : goal.returns-clause-on_roll
-returns-clause-on_roll g c = subst (λ (d : DeskView). AddsOnRoll c.args.session.now.admission.now c.args.desk.now.desk.journal d.journal) (sym c.close.ensures.desk) c.serve_rows.ensures.grown
+pub returns-clause-admitted : goal.returns-clause-admitted
+returns-clause-admitted g c = subst (λ (d : DeskView). AddsAdmitted c.args.session.now.admission.now c.args.desk.now.desk.journal d.journal) (sym c.close.ensures.desk) c.serve_rows.ensures.grown
 
 pub returns-clause-legal : goal.returns-clause-legal
 returns-clause-legal g c = subst (λ (d : DeskView). IsLegal d.opening d.journal) (sym c.close.ensures.desk) c.serve_rows.ensures.legal
 
-pub returns-in_err-close-clause-on_roll : goal.returns-in_err-close-clause-on_roll
-returns-in_err-close-clause-on_roll g c = subst (λ (d : DeskView). AddsOnRoll c.args.session.now.admission.now c.args.desk.now.desk.journal d.journal) (sym c.close.ensures.desk) c.serve_rows.ensures.grown
+pub returns-in_err-close-clause-admitted : goal.returns-in_err-close-clause-admitted
+returns-in_err-close-clause-admitted g c = subst (λ (d : DeskView). AddsAdmitted c.args.session.now.admission.now c.args.desk.now.desk.journal d.journal) (sym c.close.ensures.desk) c.serve_rows.ensures.grown
 
 pub returns-in_err-close-clause-legal : goal.returns-in_err-close-clause-legal
 returns-in_err-close-clause-legal g c = subst (λ (d : DeskView). IsLegal d.opening d.journal) (sym c.close.ensures.desk) c.serve_rows.ensures.legal
@@ -156,8 +156,8 @@ returns-in_err-refused-clause-output g c = λ tells said. c.serve_rows.ensures.o
 pub returns-in_err-refused-clause-blame : goal.returns-in_err-refused-clause-blame
 returns-in_err-refused-clause-blame g c = λ i said. c.serve_rows.ensures.blame i (c.in_err-refused.was ∙ ap (λ (f : AppFault). Err f) (told_is c.from_residual-in_err-refused.ensures.1 said))
 
-pub returns-in_err-refused-clause-on_roll : goal.returns-in_err-refused-clause-on_roll
-returns-in_err-refused-clause-on_roll g c = c.serve_rows.ensures.grown
+pub returns-in_err-refused-clause-admitted : goal.returns-in_err-refused-clause-admitted
+returns-in_err-refused-clause-admitted g c = c.serve_rows.ensures.grown
 
 pub returns-in_err-refused-clause-any_moment : goal.returns-in_err-refused-clause-any_moment
 returns-in_err-refused-clause-any_moment g c = λ tells. c.serve_rows.ensures.any_moment tells

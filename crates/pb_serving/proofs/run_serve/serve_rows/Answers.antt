@@ -5,13 +5,13 @@ use Rattle.pb_durable.proofs.Openings.{if_err}
 use Rattle.pb_durable.specs.DurableDesk.{entries_of}
 use Rattle.pb_script.specs.RowsView.{HasGiven}
 use Rattle.pb_serving.specs.Answered.{IsBehind}
-use Rattle.pb_serving.specs.Inner.OnRoll.{AddsOnRoll}
+use Rattle.pb_serving.specs.Inner.Admitted.{AddsAdmitted}
 use Rattle.pb_serving.specs.Inner.Batch.{refused, EndsBy}
 use Rattle.pb_serving.specs.declared.batch.BatchEnd.{BatchEnd}
 use Rattle.pb_serving.specs.declared.batch.BatchEnd.TheVariants as end
 use Rattle.pb_serving.proofs.Answering.{bad_more, batch_more, done, gives, gone_mid, halts, halts_here, moved, started, text_so_far, Outcome}
 use Rattle.pb_serving.proofs.Apart.{cons_not_nil, memory_not_failed, memory_not_read, memory_not_write, more_not_failed, ok_not_err, output_not_read, output_not_write, refused_not_failed, same_err, script_not_write}
-use Rattle.pb_serving.proofs.Batches.{adds_more, adds_none, asks_clerks, entries_on_roll}
+use Rattle.pb_serving.proofs.Batches.{adds_more, adds_none, asks_clerks, entries_admitted}
 use Rattle.pb_serving.proofs.Causes.{err_is, has_cause, not_failed, told_is}
 use Rattle.pb_serving.proofs.Standings.{begins, goes_on, kept_all, kept_first}
 use Rattle.pb_serving.proofs.Unanswered.{unanswered}
@@ -213,8 +213,8 @@ loop-preserved g c =
     let opening = c.answer.ensures.opening ∙ inv.opening in
     let failures : g.D.Device.tells → g.D.Device.failures new.file.device ≡ g.D.Device.failures old.file.device = λ tells.
     not_failed (g.D.Device.failures mid.file.device) (g.D.Device.failures new.file.device) (c.answer.ensures.steady tells) (λ rise. ok_not_err (c.in_ok-answer.ensures.told tells rise)) ∙ inv.failures tells in
-    let on_roll = entries_on_roll c.args.session.now.admission.now batch.rows asks said.0 batch.each in
-    let entries : AddsOnRoll c.args.session.now.admission.now old.desk.journal new.desk.journal = adds_more c.args.session.now.admission.now old.desk.journal mid.desk.journal new.desk.journal (entries_of asks said.0) inv.grown grown on_roll in
+    let admitted = entries_admitted c.args.session.now.admission.now batch.rows asks said.0 batch.each in
+    let entries : AddsAdmitted c.args.session.now.admission.now old.desk.journal new.desk.journal = adds_more c.args.session.now.admission.now old.desk.journal mid.desk.journal new.desk.journal (entries_of asks said.0) inv.grown grown admitted in
     elim c.match-end.branch [
       | in-More w ↦
           let row = w.row-is in
@@ -322,7 +322,7 @@ returns-in_err-answer-clause-grown g c =
     let batch = c.next_batch-end.ensures.batch in
     let asked = c.answer.ensures.asked in
     adds_more c.args.session.now.admission.now c.args.desk.now.desk.journal c.loop.desk.desk.journal c.answer.new.desk.desk.journal (entries_of c.next_batch-end.new.asks.items asked.0) inv.grown asked.1
-    (entries_on_roll c.args.session.now.admission.now batch.rows c.next_batch-end.new.asks.items asked.0 batch.each)
+    (entries_admitted c.args.session.now.admission.now batch.rows c.next_batch-end.new.asks.items asked.0 batch.each)
 
 pub returns-in-Over-clause-grown : goal.returns-in-Over-clause-grown
 returns-in-Over-clause-grown g c =
@@ -330,7 +330,7 @@ returns-in-Over-clause-grown g c =
     let batch = c.next_batch-end.ensures.batch in
     let asked = c.answer.ensures.asked in
     adds_more c.args.session.now.admission.now c.args.desk.now.desk.journal c.loop.desk.desk.journal c.answer.new.desk.desk.journal (entries_of c.next_batch-end.new.asks.items asked.0) inv.grown asked.1
-    (entries_on_roll c.args.session.now.admission.now batch.rows c.next_batch-end.new.asks.items asked.0 batch.each)
+    (entries_admitted c.args.session.now.admission.now batch.rows c.next_batch-end.new.asks.items asked.0 batch.each)
 
 pub returns-in-ReadFailed-clause-grown : goal.returns-in-ReadFailed-clause-grown
 returns-in-ReadFailed-clause-grown g c =
@@ -338,7 +338,7 @@ returns-in-ReadFailed-clause-grown g c =
     let batch = c.next_batch-end.ensures.batch in
     let asked = c.answer.ensures.asked in
     adds_more c.args.session.now.admission.now c.args.desk.now.desk.journal c.loop.desk.desk.journal c.answer.new.desk.desk.journal (entries_of c.next_batch-end.new.asks.items asked.0) inv.grown asked.1
-    (entries_on_roll c.args.session.now.admission.now batch.rows c.next_batch-end.new.asks.items asked.0 batch.each)
+    (entries_admitted c.args.session.now.admission.now batch.rows c.next_batch-end.new.asks.items asked.0 batch.each)
 
 pub returns-in-NoMemory-clause-grown : goal.returns-in-NoMemory-clause-grown
 returns-in-NoMemory-clause-grown g c =
@@ -346,7 +346,7 @@ returns-in-NoMemory-clause-grown g c =
     let batch = c.next_batch-end.ensures.batch in
     let asked = c.answer.ensures.asked in
     adds_more c.args.session.now.admission.now c.args.desk.now.desk.journal c.loop.desk.desk.journal c.answer.new.desk.desk.journal (entries_of c.next_batch-end.new.asks.items asked.0) inv.grown asked.1
-    (entries_on_roll c.args.session.now.admission.now batch.rows c.next_batch-end.new.asks.items asked.0 batch.each)
+    (entries_admitted c.args.session.now.admission.now batch.rows c.next_batch-end.new.asks.items asked.0 batch.each)
 
 pub returns-in_err-say_refused-in-Refused-clause-grown : goal.returns-in_err-say_refused-in-Refused-clause-grown
 returns-in_err-say_refused-in-Refused-clause-grown g c =
@@ -354,7 +354,7 @@ returns-in_err-say_refused-in-Refused-clause-grown g c =
     let batch = c.next_batch-end.ensures.batch in
     let asked = c.answer.ensures.asked in
     adds_more c.args.session.now.admission.now c.args.desk.now.desk.journal c.loop.desk.desk.journal c.answer.new.desk.desk.journal (entries_of c.next_batch-end.new.asks.items asked.0) inv.grown asked.1
-    (entries_on_roll c.args.session.now.admission.now batch.rows c.next_batch-end.new.asks.items asked.0 batch.each)
+    (entries_admitted c.args.session.now.admission.now batch.rows c.next_batch-end.new.asks.items asked.0 batch.each)
 
 pub returns-in_err-answer-clause-write : goal.returns-in_err-answer-clause-write
 returns-in_err-answer-clause-write g c = λ tells said.

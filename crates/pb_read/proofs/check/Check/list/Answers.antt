@@ -3,6 +3,7 @@ use Rattle.pb_read.proofs.Checks.{going_start, handed_done}
 use Rattle.pb_read.proofs.Showing.{shows_start}
 use Rattle.pb_read.specs.Inner.Checking.{IsGoing}
 use Rattle.pb_read.specs.Inner.Progresses.{place_of}
+use Rattle.pb_read.specs.Inner.Showing.{Shows}
 use Rattle.pb_read.proofs.check.Check.list.Goals as goal
 
 pub loop-left_out-init : goal.loop-left_out-init
@@ -15,7 +16,7 @@ loop-left_out-init g c =
       ready = c.requires.ready;
       count = none;
       few = omega arith;
-      shows = λ e. shows_start all (g.W.Watch.shown c.args.watch.now);
+      shows = subst (λ fs. Shows all all 0 fs (place_of c.args.self.now.progress) (g.W.Watch.shown c.args.watch.now) (g.W.Watch.shown c.args.watch.now)) (sym c.requires.none) (subst (λ p. Shows all all 0 [] p (g.W.Watch.shown c.args.watch.now) (g.W.Watch.shown c.args.watch.now)) (sym c.requires.at_start) (shows_start all (g.W.Watch.shown c.args.watch.now)));
     }
 
 pub returns-in-Ok-clause-election : goal.returns-in-Ok-clause-election

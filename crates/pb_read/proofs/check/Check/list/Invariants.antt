@@ -12,5 +12,5 @@ invariant-loop-left_out g l = record {
   ready : IsReady l.self.progress;
   count : length l.faults.items ≡ l.left_out;
   few : l.kept ≤ 2000000;
-  shows : l.left_out ≡ 0 → Shows l.fn.records.left l.records.left (l.kept + l.left_out) (g.W.Watch.shown l.fn.watch) (g.W.Watch.shown l.watch);
+  shows : Shows l.fn.records.left l.records.left (l.kept + l.left_out) l.faults.items (place_of l.self.progress) (g.W.Watch.shown l.fn.watch) (g.W.Watch.shown l.watch);
 }

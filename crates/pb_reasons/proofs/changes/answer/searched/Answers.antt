@@ -36,7 +36,7 @@ returns-clause-found g c =
       | else-won w ↦
           subst (λ (r : Result WhatIf CountFault). IfOk r (IsWhatIf e q cost)) (sym w.found-is)
           (lost_found e q c.in_ok-changing.changing cost cost w.loser-found.result c.in_ok-changing.ensures refl
-          (subst (λ (b : Bool). Says e q (verdict_of b)) w.if-won.false c.requires.said.says) w.loser-found.ensures.cost w.loser-found.ensures.voters)
+          (subst (λ (b : Bool). Says e q (verdict_of b)) w.if-won.false c.requires.said.says) w.loser-found.ensures.cost w.loser-found.ensures.voters w.loser-found.ensures.doubled)
     ]
 
 pub winner-found-requires-clause-known : goal.winner-found-requires-clause-known

@@ -1,7 +1,8 @@
-use Rattle.std.proofs.Common.{◌≡◌, ◌≤◌, ◌-◌}
+use Rattle.std.proofs.Common.{◌≡◌, ◌<◌, ◌≤◌, ◌-◌}
 use Rattle.pb_reasons.specs.declared.changes.change.Change.TheVariants.{Voters}
 use Rattle.pb_reasons.specs.declared.changes.change.Verdict.TheVariants.{Lost}
 use Rattle.pb_reasons.specs.WhatIf.{IsTrue}
+use Rattle.pb_reasons.proofs.Doubling.{IsGap, Loses}
 use Rattle.pb_reasons.proofs.changes.search.doubled.Given as goal
 
 abbrev pub invariant-doubling : goal.invariant-doubling
@@ -10,6 +11,8 @@ invariant-doubling g l = record {
   is_true : IsTrue l.changing l.recount.question Voters l.last;
   verdict : l.last.verdict ≡ Lost;
   within : l.last.value ≤ l.most;
+  loses : Loses l.changing l.recount.question l.last.value;
+  gap : l.last.value < l.most → IsGap l.last.value;
 }
 
 abbrev pub decreases-doubling : goal.decreases-doubling

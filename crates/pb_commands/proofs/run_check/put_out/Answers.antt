@@ -1,0 +1,7 @@
+use Rattle.std.proofs.lemmas.Result.{on_ok_weaker}
+use Rattle.pb_commands.proofs.CheckWritten.{warned}
+use Rattle.pb_commands.proofs.run_check.put_out.Goals as goal
+
+pub returns-clause-ok : goal.returns-clause-ok
+returns-clause-ok g c =
+    on_ok_weaker c.put_rows-put.result (λ written. warned (g.N.Warn.warns c.warnings.new.self) c.args.faults.now _ _ _ c.in_ok-warnings.ensures (rw c.as_slice.ensures.value at written)) c.put_rows-put.ensures.ok

@@ -1,8 +1,0 @@
-use Rattle.std.proofs.Common.{◌≡◌, ◌++◌, map, take}
-use Rattle.pb_page.specs.Filling.{page_of}
-use Rattle.pb_page.specs.Sentence.{at_place, character_said}
-use Rattle.pb_page.proofs.markup.sentences.say.Given as goal
-
-abbrev pub invariant-loop-byte : goal.invariant-loop-byte
-invariant-loop-byte l =
-    l.page.items ≡ l.fn.page.items ++ page_of (map (character_said (map at_place l.places)) (take l.byte-index l.bytes))

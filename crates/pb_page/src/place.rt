@@ -1,0 +1,25 @@
+//! What stands at a place of a sentence.
+
+use crate::markup::Form;
+use pb_core::money::Money;
+
+/// What stands at a place of a sentence. Each name is that of a figure, for programs.
+#[derive(Clone, Copy)]
+pub enum Place<'a> {
+    /// A text.
+    Text(&'a str),
+    /// A number without a name.
+    Digits(u64),
+    /// An amount as people write it, alone.
+    Shown(Money, Form<'a>),
+    /// A number by its name.
+    Number(&'static str, u64),
+    /// An amount by its name.
+    Amount(&'static str, Money, Form<'a>),
+    /// An amount for programs that has no name.
+    Nameless(Money, Form<'a>),
+    /// What a project is called.
+    Called(&'a str),
+    /// A link: its address, and what it is called.
+    Link(&'a str, &'a str),
+}

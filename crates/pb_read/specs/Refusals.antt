@@ -1,0 +1,60 @@
+-- What the fault of a record is about.
+use Rattle.std.specs.Prelude.{ℕ, not, ◌||◌, ◌==◌, Option, Some, None, position}
+use Rattle.std.specs.List.{slice_split}
+use Rattle.std.specs.Str.{bytes_eq, trim}
+use Rattle.pb_core.specs.Election.{ElectionView, project_ids, voter_ids}
+use Rattle.pb_rows.specs.Reading.{Fields}
+use Rattle.pb_read.specs.Rows.{field, is_empty}
+use Rattle.pb_read.specs.Voting.{is_among}
+use Rattle.pb_read.specs.declared.column.Column.{Column}
+use Rattle.pb_read.specs.declared.column.Column.TheVariants.{Key, ProjectId, Cost, VoterId, Vote}
+use Rattle.pb_read.specs.declared.fault.ReadFault.{ReadFault}
+use Rattle.pb_read.specs.declared.fault.ReadKind.{ReadKind}
+use Rattle.pb_read.specs.declared.fault.ReadKind.TheVariants.{BadMoney, MoneyTooFine, MoneyTooLarge, VoteType, BadLength}
+use Rattle.pb_read.specs.declared.fault.ReadKind.TheVariants.{ZeroCost, EmptyId, RepeatedProject, RepeatedVoter, UnknownProject}
+use Rattle.pb_read.specs.declared.meta_key.MetaKey.TheVariants as key
+use Rattle.pb_read.specs.declared.progress.Stage.{Stage}
+use Rattle.pb_read.specs.declared.progress.Stage.TheVariants.{InMeta, InProjects, InVotes}
+use Rattle.pb_read.specs.declared.refusal.Refusal.{Refusal}
+
+-- an amount that is refused is META's budget at the end of META, and otherwise a project's cost
+abbrev pub amount_column : Stage → Column
+amount_column (InMeta meta) = Key key.Budget
+amount_column stage = Cost
+
+-- the column of the value that a fault of this kind refuses, of a row that comes at this stage
+abbrev pub column_of : ReadKind → Stage → Option Column
+column_of VoteType stage = Some (Key key.VoteType)
+column_of BadLength stage = Some (Key key.MaxLength)
+column_of BadMoney stage = Some (amount_column stage)
+column_of MoneyTooFine stage = Some (amount_column stage)
+column_of MoneyTooLarge stage = Some (amount_column stage)
+column_of ZeroCost stage = Some Cost
+column_of EmptyId (InVotes columns) = Some VoterId
+column_of EmptyId stage = Some ProjectId
+column_of RepeatedProject stage = Some ProjectId
+column_of RepeatedVoter stage = Some VoterId
+column_of UnknownProject stage = Some Vote
+column_of kind stage = None
+
+-- the first of the pieces between a vote's commas (code 44), from 0, that is neither empty nor a project's id
+abbrev pub piece_of : ReadKind → Stage × ElectionView → Fields → Option ℕ
+piece_of UnknownProject (InVotes columns, e) row =
+    position (λ piece. not (is_empty (trim piece) || is_among (project_ids e) (trim piece)))
+    (slice_split (λ b. b == 44) (field row columns.vote))
+piece_of kind p row = None
+
+-- the place of the earlier project or voter that has the same id
+abbrev pub earlier_of : ReadKind → Stage × ElectionView → Fields → Option ℕ
+earlier_of RepeatedProject (InProjects columns, e) row = position (bytes_eq (field row columns.id)) (project_ids e)
+earlier_of RepeatedVoter (InVotes columns, e) row = position (bytes_eq (field row columns.voter)) (voter_ids e)
+earlier_of kind p row = None
+
+-- what is told of a fault, where the rows before it come so far
+abbrev pub refusal_of : Stage × ElectionView → Fields → ReadFault → Refusal
+refusal_of p row fault = record {
+  fault = fault;
+  column = column_of fault.kind p.0;
+  piece = piece_of fault.kind p row;
+  earlier = earlier_of fault.kind p row;
+}
