@@ -1,14 +1,16 @@
 //! What each command has at hand.
 
 use crate::system::System;
-use pb_command_line::{Asked, Ballots, Source};
+use pb_command_line::{Asked, Ballots, TextSource};
 use pb_commands::{AppFault, Counting, Inputs};
-use pb_streams::{FileText, JournalText, Kinship, Progress, Typing, open_alone, open_with_journal};
+use pb_streams::{
+    FileText, JournalText, Kinship, ProgressLine, Typing, open_alone, open_with_journal,
+};
 
 /// What each command has at hand.
 #[derive(Drop)]
 pub(crate) struct CommandRun<'a, R> {
-    pub(crate) counting: Counting<'a, R, Progress<'a, R>>,
+    pub(crate) counting: Counting<'a, R, ProgressLine<'a, R>>,
     pub(crate) asked: &'a Asked<'a>,
     pub(crate) kinship: &'a Kinship,
     /// What is said of the requests that come in.
@@ -38,8 +40,8 @@ impl<'a, R: System> CommandRun<'a, R> {
     /// Opens a .pb file and a journal, in their order.
     pub(crate) fn with_journal(
         &self,
-        file: &Source<'a>,
-        journal: &Source<'a>,
+        file: &TextSource<'a>,
+        journal: &TextSource<'a>,
     ) -> Result<(FileText<'a, R>, JournalText<'a, R>), AppFault> {
         open_with_journal(self.counting.gate, file, journal, self.kinship)
     }

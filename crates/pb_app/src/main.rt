@@ -5,11 +5,10 @@
 mod admitted;
 mod command_run;
 mod export;
-mod line_count;
+mod keeping_watch;
 mod notes;
 mod page;
 mod page_maker;
-mod page_watch;
 mod perform;
 mod run_page;
 mod serve;
@@ -17,7 +16,6 @@ mod spent;
 mod system;
 mod tables;
 mod tongue;
-mod torn_file;
 mod what_if;
 mod worded;
 mod words;
@@ -28,7 +26,7 @@ use crate::system::System;
 use pb_command_line::parse::parse;
 use pb_command_line::{Asked, Parsed};
 use pb_commands::{AppFault, BAD_ARGUMENTS, rows_status};
-use pb_streams::{End, Output, Progress};
+use pb_streams::{End, Output, ProgressLine};
 use std::io::{IsTerminal, Write};
 use std::process::ExitCode;
 use std::rt::Env;
@@ -92,7 +90,7 @@ fn obey<R: System>(rt: &R, arguments: &[String], terminals: Terminals) -> Result
 fn done<'a, R: System>(rt: &'a R, asked: &'a Asked<'a>, terminals: Terminals) -> u8 {
     let mut output = Output::new(rt, asked, terminals.output);
     let mut notes = Notes::new(rt.alloc(), asked.is_strict);
-    let progress = Progress::new(rt, asked.shows.unwrap_or(terminals.error));
+    let progress = ProgressLine::new(rt, asked.shows.unwrap_or(terminals.error));
     let begun = Instant::now(rt).ok();
     let result = perform(asked, &mut output, &mut notes, &progress, terminals.input);
     progress.clear();

@@ -6,8 +6,8 @@ ghost use Rattle.pb_commands.specs.Ends.{HasWritten};
 ghost use Rattle.pb_app.specs.Inner.Page.{IsPageBy};
 
 use crate::command_run::CommandRun;
+use crate::keeping_watch::KeepingWatch;
 use crate::page_maker::PageMaker;
-use crate::page_watch::PageWatch;
 use crate::run_page::run_page;
 use crate::system::System;
 use crate::worded::{refusal_of, words_file_words};
@@ -15,7 +15,8 @@ use pb_command_line::PageRun;
 use pb_commands::AppFault;
 use pb_faults::RunText;
 use pb_page::{Speech, WordsFault};
-use pb_streams::{End, Refusal, open_file};
+use pb_streams::{End, RunRefusal, open_file};
+use pb_witness::page_notes::PageNotes;
 use pb_witness::warnings::ResultWarnings;
 use std::fs::File;
 use std::io::{ErrorKind, Read, Write};
@@ -29,11 +30,11 @@ pub(crate) fn page<'a, R: System, W: Write>(
     asked: &PageRun<'a>,
     writer: &mut W,
     seen: &mut ResultWarnings,
-) -> Result<(), Refusal>
+) -> Result<(), RunRefusal>
     ensures ok { OnOk result ((e : ElectionView) × HasWritten (IsPageBy run.now.counting.rule.now e)
         (W.contents writer.old) (W.contents writer.new)) }
     ensures unchanged { IfErr result (λ refusal.
-        refusal ≢ Refusal.Fault AppFault.Write → writer.new ≡ writer.old) }
+        refusal ≢ RunRefusal.Fault AppFault.Write → writer.new ≡ writer.old) }
 {
     let speech = speech_of(run.counting.rt, asked.words)?;
     let maker = PageMaker {
@@ -42,7 +43,10 @@ pub(crate) fn page<'a, R: System, W: Write>(
         file: &run.kinship.file,
         journal: &run.kinship.journal,
     };
-    let mut watch = PageWatch::new(run.counting.alloc, seen);
+    let mut watch = KeepingWatch {
+        warnings: seen,
+        keeper: PageNotes::new(run.counting.alloc),
+    };
     let done = write_page(run, &maker, &mut watch, writer);
     drop(watch);
     drop(speech);
@@ -53,7 +57,7 @@ pub(crate) fn page<'a, R: System, W: Write>(
 fn write_page<'a, R: System, W: Write>(
     run: &CommandRun<'a, R>,
     maker: &PageMaker<'a, Speech>,
-    watch: &mut PageWatch<'_, ResultWarnings>,
+    watch: &mut KeepingWatch<'_, ResultWarnings, PageNotes>,
     writer: &mut W,
 ) -> Result<(), AppFault>
     ensures ok { OnOk result ((e : ElectionView) × HasWritten (IsPageBy run.now.counting.rule.now e)
@@ -65,17 +69,17 @@ fn write_page<'a, R: System, W: Write>(
 }
 
 /// The language of the file of words with this path, or English.
-fn speech_of<R: System>(rt: &R, path: Option<&str>) -> Result<Speech, Refusal> {
+fn speech_of<R: System>(rt: &R, path: Option<&str>) -> Result<Speech, RunRefusal> {
     let speech = match path {
         Some(path) => speech_in(rt, open_file(rt, path, RunText::Words)?),
         None => Speech::english(rt.alloc()),
     };
     match speech {
         Ok(speech) => Ok(speech),
-        Err(WordsFault::NoMemory) => Err(Refusal::Fault(AppFault::Memory)),
+        Err(WordsFault::NoMemory) => Err(RunRefusal::Fault(AppFault::Memory)),
         Err(fault) => {
             let words = words_file_words(rt, rt.alloc(), path.unwrap_or("-"), &fault);
-            Err(Refusal::Told(End::Words(refusal_of(&fault)), words))
+            Err(RunRefusal::Told(End::Words(refusal_of(&fault)), words))
         }
     }
 }

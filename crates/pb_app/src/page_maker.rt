@@ -3,10 +3,10 @@
 ghost use Rattle.std.specs.Prelude.{IfOk};
 ghost use Rattle.pb_app.specs.Inner.Page.{IsPageBy};
 
-use crate::page_watch::PageWatch;
+use crate::keeping_watch::KeepingWatch;
 use crate::tongue::Tongue;
 use pb_command_line::currency::is_currency;
-use pb_command_line::{PROGRAM, PageRun, Source};
+use pb_command_line::{PROGRAM, PageRun, TextSource};
 use pb_commands::Counting;
 use pb_core::election::Election;
 use pb_core::gate::Gate;
@@ -52,12 +52,12 @@ impl<S: Tongue> PageMaker<'_, S> {
     pub(crate) fn text_of<T: Threads + Sync, G: Gate, H>(
         &self,
         counting: &Counting<T, G>,
-        watch: &PageWatch<'_, H>,
+        watch: &KeepingWatch<'_, H, PageNotes>,
         count: &CountedElection,
     ) -> Result<Vec<u8>, NoMemory>
         ensures { IfOk result (λ text. IsPageBy count.now.rule count.now.election text.items) }
     {
-        let notes = watch.notes();
+        let notes = &watch.keeper;
         if !notes.is_whole() {
             return Err(NoMemory);
         }
@@ -109,12 +109,12 @@ fn currency_of<'a>(seen: &'a SeenOfFile<'a>) -> Option<&'a str> {
 fn facts_of<'a>(seen: &'a SeenOfFile<'a>, title: &'a str, language: Language<'a>) -> Facts<'a> {
     let run = &seen.run;
     let journal = match (&run.ballots.journal, &seen.journal) {
-        (Some(given), Some(digest)) => Some(source_of(given, Some(digest))),
+        (Some(source), Some(digest)) => Some(read_text_of(source, Some(digest))),
         _ => None,
     };
     Facts {
         title,
-        file: source_of(&run.ballots.file, seen.file.as_ref()),
+        file: read_text_of(&run.ballots.file, seen.file.as_ref()),
         journal,
         recount: run.recount,
         compares: run.compares,
@@ -150,8 +150,8 @@ fn has_no_decimals(amount: Money) -> bool {
 }
 
 /// A text that was read, by its name without its folders.
-fn source_of<'a>(given: &Source<'a>, digest: Option<&'a Hex>) -> ReadText<'a> {
-    let name = match given.path() {
+fn read_text_of<'a>(source: &TextSource<'a>, digest: Option<&'a Hex>) -> ReadText<'a> {
+    let name = match source.path() {
         Some(path) => Path::new(path).file_name().unwrap_or(path),
         None => INPUT,
     };

@@ -6,12 +6,12 @@ use crate::notes::Notes;
 use crate::page::page;
 use crate::serve::serve;
 use crate::system::System;
-use crate::tables::{audit, ballots, check, count, desk, tell};
+use crate::tables::{audit, ballots, check, desk, tell};
 use crate::what_if::what_if;
 use crate::words::is_quiet;
 use pb_command_line::{Asked, CompareRun, Task};
 use pb_commands::{Counting, Table};
-use pb_streams::{Kinship, Output, Progress, Refusal, Telling, Typing};
+use pb_streams::{Kinship, Output, ProgressLine, RunRefusal, Telling, Typing};
 use std::io::Write;
 
 /// Does what the arguments ask for, and writes the result to its place. What the result would replace is
@@ -20,9 +20,9 @@ pub(crate) fn perform<'a, R: System>(
     asked: &'a Asked<'a>,
     output: &mut Output<'a, R>,
     notes: &mut Notes,
-    progress: &Progress<'_, R>,
+    progress: &ProgressLine<'_, R>,
     is_typed: bool,
-) -> Result<(), Refusal> {
+) -> Result<(), RunRefusal> {
     output.look()?;
     let done = write_result(asked, output, notes, progress, is_typed);
     if done.is_err() {
@@ -37,9 +37,9 @@ fn write_result<'a, R: System, W: Write>(
     asked: &'a Asked<'a>,
     writer: &mut W,
     notes: &mut Notes,
-    progress: &Progress<'_, R>,
+    progress: &ProgressLine<'_, R>,
     is_typed: bool,
-) -> Result<(), Refusal> {
+) -> Result<(), RunRefusal> {
     let kinship = Kinship::new(asked.takes_other, asked.task.shows_digests());
     let telling = match (is_quiet(asked), is_typed) {
         (true, _) => Telling::Nothing,
@@ -77,10 +77,10 @@ fn do_task<R: System, W: Write>(
     run: &CommandRun<'_, R>,
     writer: &mut W,
     notes: &mut Notes,
-) -> Result<(), Refusal> {
+) -> Result<(), RunRefusal> {
     let done = match &run.asked.task {
-        Task::Count(source) => count(run, source, writer, &mut notes.seen),
-        Task::Projects(ballots)
+        Task::Count(ballots)
+        | Task::Projects(ballots)
         | Task::Voters(ballots)
         | Task::Compare(CompareRun { ballots, .. }) => {
             tell(
@@ -109,6 +109,7 @@ fn table_of(task: &Task<'_>) -> Table {
         Task::Voters(_) => Table::Voters,
         Task::Compare(CompareRun { by_project, .. }) if *by_project => Table::RuledProjects,
         Task::Compare(_) => Table::Rules,
-        _ => Table::Projects,
+        Task::Projects(_) => Table::Projects,
+        _ => Table::Report,
     }
 }

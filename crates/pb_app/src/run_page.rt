@@ -6,12 +6,13 @@ ghost use Rattle.pb_commands.specs.Closed.{CountRefuses, Gives};
 ghost use Rattle.pb_commands.specs.Ends.{HasWritten, Runs, known};
 ghost use Rattle.pb_app.specs.Inner.Page.{IsPageBy};
 
+use crate::keeping_watch::KeepingWatch;
 use crate::page_maker::PageMaker;
-use crate::page_watch::PageWatch;
 use crate::tongue::Tongue;
 use pb_commands::{AppFault, Counting, Inputs, count_inputs, write_out};
 use pb_core::gate::Gate;
 use pb_read::Heed;
+use pb_witness::page_notes::PageNotes;
 use std::io::{Read, Write};
 use std::thread::Threads;
 
@@ -31,7 +32,7 @@ pub(crate) fn run_page<
 >(
     counting: &Counting<T, G>,
     inputs: Inputs<P, J>,
-    watch: &mut PageWatch<'_, H>,
+    watch: &mut KeepingWatch<'_, H, PageNotes>,
     writer: &mut W,
     maker: &PageMaker<'_, S>,
 ) -> Result<(), AppFault>

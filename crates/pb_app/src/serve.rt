@@ -4,15 +4,13 @@ use crate::admitted::{RowNotice, rules_of};
 use crate::command_run::CommandRun;
 use crate::notes::Notes;
 use crate::system::System;
-use crate::torn_file::{TORN, TornFile};
 use pb_command_line::{Admits, ServeRun};
+use pb_commands::AppFault;
 use pb_commands::run_desk::admission_of;
-use pb_commands::{AppFault, ServingFault};
 use pb_core::election::Election;
 use pb_core::project::Project;
-use pb_durable::file_beside::{name_file, read_file_beside};
-use pb_durable::file_device::{FileDevice, FileFailure, FileFault};
-use pb_durable::moved::{keep_text, kept_path};
+use pb_durable::file_device::{FileDevice, FileFailure};
+use pb_durable::moved::keep_text;
 use pb_durable::{Belonging, Device, DurableDesk, FileChange, JournalFile, OpenedDesk};
 use pb_faults::RunText;
 use pb_read::read_pb_watched;
@@ -20,15 +18,10 @@ use pb_rows::read_number;
 use pb_script::{Admission, ROOM, RequestRows};
 use pb_serving::run_serve::run_serve;
 use pb_serving::{AtHand, Paced, Session};
-use pb_streams::{Digested, End, Refusal, TypedReader, open_file, unread_beside};
+use pb_streams::{Digested, RunRefusal, TornFile, TypedReader, ended, open_file, unopened};
 use pb_witness::witness::Witness;
-use pb_words::belonging_words::adopted_words;
 use pb_words::refused_words::like_a_place_words;
-use pb_words::serve_words::{
-    changed_words, lost_words, moved_words, overwritten_words, unkept_text_words, unkept_words,
-    unopened_words,
-};
-use pb_words::{Said, say_words};
+use pb_words::say_words;
 use std::alloc::Global;
 use std::cell::Cell;
 use std::io;
@@ -53,7 +46,7 @@ pub(crate) fn serve<'a, R: System, W: Write>(
     asked: &ServeRun<'a>,
     writer: &mut W,
     notes: &mut Notes,
-) -> Result<(), Refusal> {
+) -> Result<(), RunRefusal> {
     let (election, admission) = read_both(run, asked, &mut notes.seen.witness)?;
     let serving = Serving {
         run,
@@ -109,13 +102,13 @@ fn serve_journal<R: System, W: Write>(
     serving: &Serving<'_, '_, R>,
     election: Election,
     writer: &mut W,
-) -> Result<u64, Refusal> {
+) -> Result<u64, RunRefusal> {
     let failure = Cell::new(None);
     match FileDevice::open(serving.rt, serving.journal, &failure) {
         Ok(device) => serve_device(serving, election, device, writer),
         Err(fault) => {
             drop(election);
-            Err(unopened(serving, &fault))
+            Err(unopened(serving.alloc, serving.journal, &fault))
         }
     }
 }
@@ -127,7 +120,7 @@ fn serve_device<R: System, W: Write>(
     election: Election,
     mut device: FileDevice<'_, R>,
     writer: &mut W,
-) -> Result<u64, Refusal> {
+) -> Result<u64, RunRefusal> {
     let standing = match seen_on(serving, &mut device) {
         Ok(standing) => standing,
         Err(refusal) => {
@@ -136,14 +129,10 @@ fn serve_device<R: System, W: Write>(
             return Err(refusal);
         }
     };
-    let (failure, beside) = (device.failure(), Cell::new(None));
-    let mut torn = TornFile {
-        rt: serving.rt,
-        journal: serving.journal,
-        failure: &beside,
-    };
-    let (desk, torn) = open_on(serving, election, device, &mut torn)?;
-    if let Err(refusal) = keep_file(serving, standing) {
+    let failure = device.failure();
+    let (desk, torn) = open_on(serving, election, device)?;
+    let kinship = serving.run.kinship;
+    if let Err(refusal) = kinship.keep_belonging(serving.rt, serving.journal, standing) {
         drop(desk);
         return Err(refusal);
     }
@@ -155,61 +144,26 @@ fn serve_device<R: System, W: Write>(
 fn seen_on<R: System>(
     serving: &Serving<'_, '_, R>,
     device: &mut FileDevice<'_, R>,
-) -> Result<Belonging, Refusal> {
+) -> Result<Belonging, RunRefusal> {
     let bytes = match device.read(serving.alloc) {
         Ok(bytes) => bytes,
         Err(fault) => {
             let why = device.failure().get();
-            return Err(ended(serving, AppFault::from(fault), why, None));
+            return Err(ended(
+                serving.alloc,
+                serving.journal,
+                AppFault::from(fault),
+                why,
+                None,
+            ));
         }
     };
-    let kinship = serving.run.kinship;
-    let standing = kinship.belonging(serving.rt, serving.journal, bytes.as_slice());
+    let standing = serving
+        .run
+        .kinship
+        .belonging_for_desk(serving.rt, serving.journal, bytes.as_slice());
     drop(bytes);
-    let standing = standing?;
-    if standing == Belonging::New {
-        put_digest(serving, &[])?;
-    }
-    Ok(standing)
-}
-
-/// Has it stand beside a journal, which was opened, that it belongs to the .pb file that was read.
-fn keep_file<R: System>(serving: &Serving<'_, '_, R>, standing: Belonging) -> Result<(), Refusal> {
-    let (rt, alloc, journal) = (serving.rt, serving.alloc, serving.journal);
-    match standing {
-        Belonging::New | Belonging::Same => Ok(()),
-        Belonging::Unnamed => {
-            put_digest(serving, &[])?;
-            if let Some(digest) = serving.run.kinship.file.get() {
-                say_words(rt, adopted_words(alloc, journal, digest.text()));
-            }
-            Ok(())
-        }
-        Belonging::Other => {
-            let former = match read_file_beside(rt, alloc, journal) {
-                Ok(former) => former.unwrap_or(Vec::new(alloc)),
-                Err(error) => return Err(unread_beside(rt, journal, &error)),
-            };
-            let put = put_digest(serving, former.as_slice());
-            drop(former);
-            put
-        }
-    }
-}
-
-/// Puts the digest of the .pb file that was read beside a journal, above what stood there.
-fn put_digest<R: System>(serving: &Serving<'_, '_, R>, former: &[u8]) -> Result<(), Refusal> {
-    let (rt, alloc, journal) = (serving.rt, serving.alloc, serving.journal);
-    let Some(digest) = serving.run.kinship.file.get() else {
-        return Err(Refusal::Fault(AppFault::OtherFile));
-    };
-    match name_file(rt, alloc, journal, digest.digits(), former) {
-        Ok(()) => Ok(()),
-        Err(error) => {
-            let words = unkept_words(alloc, journal, ".file", &error);
-            Err(Refusal::of_call(&error, AppFault::Write, words))
-        }
-    }
+    standing
 }
 
 /// Says the first id that is itself a number below the number of projects, where rows name projects by their
@@ -231,11 +185,11 @@ fn open_on<'d, R: System>(
     serving: &Serving<'_, '_, R>,
     election: Election,
     device: FileDevice<'d, R>,
-    torn: &mut TornFile<'_, R>,
-) -> Result<(DurableDesk<FileDevice<'d, R>>, usize), Refusal> {
+) -> Result<(DurableDesk<FileDevice<'d, R>>, usize), RunRefusal> {
     let alloc = serving.alloc;
     let mut file = JournalFile::on(alloc, device);
-    match pb_durable::open(alloc, &mut file, election, ROOM, torn) {
+    let mut beside = TornFile::new(serving.rt, serving.journal);
+    match pb_durable::open(alloc, &mut file, election, ROOM, &mut beside) {
         Ok(OpenedDesk { desk, torn }) => Ok((DurableDesk::on(desk, file), torn)),
         Err(fault) => {
             let mut device = file.into_device();
@@ -246,12 +200,9 @@ fn open_on<'d, R: System>(
                 _ => None,
             };
             drop(device);
-            match (AppFault::from(fault), torn.failure.get()) {
-                (AppFault::Write, Some(error)) => {
-                    let words = unkept_words(alloc, serving.journal, TORN, &error);
-                    Err(Refusal::Told(End::Fault(AppFault::Write), words))
-                }
-                (fault, _) => Err(ended(serving, fault, why, kept)),
+            match (AppFault::from(fault), beside.refusal()) {
+                (AppFault::Write, Some(refusal)) => Err(refusal),
+                (fault, _) => Err(ended(alloc, serving.journal, fault, why, kept)),
             }
         }
     }
@@ -265,7 +216,7 @@ fn serve_desk<R: System, W: Write>(
     torn: usize,
     failure: &Cell<Option<FileFailure>>,
     writer: &mut W,
-) -> Result<u64, Refusal> {
+) -> Result<u64, RunRefusal> {
     let served = match serve_rows(serving, &mut desk, torn, writer) {
         Ok(refused) => Ok(refused),
         Err(fault) => {
@@ -274,7 +225,7 @@ fn serve_desk<R: System, W: Write>(
                 Some(FileFailure::Changed(_)) => Some(keep_text_of(serving, &desk)),
                 _ => None,
             };
-            Err(ended(serving, fault, why, kept))
+            Err(ended(serving.alloc, serving.journal, fault, why, kept))
         }
     };
     drop(desk);
@@ -321,67 +272,4 @@ fn serve_rows<R: System, W: Write>(
     let served = run_serve(alloc, desk, &mut rows, &session, writer);
     drop(rows);
     served
-}
-
-/// Why a journal was not opened.
-fn unopened<R: System>(serving: &Serving<'_, '_, R>, fault: &FileFault) -> Refusal {
-    let (alloc, journal) = (serving.alloc, serving.journal);
-    match fault {
-        FileFault::Locked => Refusal::Fault(AppFault::Serving(ServingFault::Locked(
-            RunText::Journal,
-        ))),
-        FileFault::Open(error) => {
-            let words = unopened_words(alloc, journal, error);
-            Refusal::of_call(error, AppFault::Open(RunText::Journal), words)
-        }
-        FileFault::Device(error) => {
-            let words = unkept_words(alloc, journal, "", error);
-            Refusal::Told(End::Fault(AppFault::Write), words)
-        }
-    }
-}
-
-/// Why a run has ended early, where the journal may have failed. Where somebody has changed the journal while
-/// its desk was open, this became of its text.
-fn ended<R: System>(
-    serving: &Serving<'_, '_, R>,
-    fault: AppFault,
-    why: Option<FileFailure>,
-    kept: Option<io::Result<u32>>,
-) -> Refusal {
-    let (alloc, journal) = (serving.alloc, serving.journal);
-    match (fault, why) {
-        (AppFault::Write, Some(FileFailure::Failed(error))) => {
-            let words = unkept_words(alloc, journal, "", &error);
-            Refusal::Told(End::Fault(fault), words)
-        }
-        (AppFault::Write, Some(FileFailure::Changed(change))) => Refusal::Told(
-            End::Fault(AppFault::Serving(ServingFault::Moved)),
-            change_words(alloc, journal, change, kept),
-        ),
-        (fault, _) => Refusal::Fault(fault),
-    }
-}
-
-/// Words where somebody has moved the journal with this path or written over it, and this became of its text.
-fn change_words(
-    alloc: Global,
-    path: &str,
-    change: FileChange,
-    kept: Option<io::Result<u32>>,
-) -> Said {
-    match (change, kept) {
-        (_, None) => changed_words(alloc, path),
-        (FileChange::Moved, Some(Err(reason))) => lost_words(alloc, path, &reason),
-        (FileChange::Overwritten, Some(Err(reason))) => unkept_text_words(alloc, path, &reason),
-        (change, Some(Ok(number))) => {
-            let beside = kept_path(alloc, path, number)?;
-            let words = match change {
-                FileChange::Moved => moved_words(alloc, path, beside.as_str()),
-                FileChange::Overwritten => overwritten_words(alloc, path, beside.as_str()),
-            };
-            drop(beside);
-            words
-        }
-    }
 }

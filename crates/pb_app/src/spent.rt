@@ -1,7 +1,7 @@
 //! Raises that were spent: whether more would decide is looked for, for words alone.
 
 use crate::system::System;
-use pb_command_line::{Asked, Task};
+use pb_command_line::{Asked, Task, TextSource};
 use pb_commands::{Inputs, election_of};
 use pb_core::election::Election;
 use pb_core::gate::Gate;
@@ -9,8 +9,8 @@ use pb_core::money::Money;
 use pb_read::NoWatch;
 use pb_reasons::{Patience, RaiseLimit, find_raise_limit};
 use pb_rounds::options::{CountOptions, LARGEST_STEP, MOST_RAISES};
+use pb_witness::text::Text;
 use pb_words::count_words::Deciding;
-use std::fs;
 use std::fs::File;
 use std::rt::Clock;
 use std::time::{Duration, Instant};
@@ -63,21 +63,17 @@ fn sure_step(max_raises: u32, budget: Money) -> Option<u64> {
 
 /// The ballots that a task counts, read once more, where they stand in files.
 fn ballots_again<R: System>(rt: &R, task: &Task<'_>) -> Option<Election> {
-    let (file, journal) = (task.paths().0?, task.journal());
-    let file = open_again(rt, file)?;
-    let journal = match journal {
-        Some(journal) => Some(open_again(rt, journal.path()?)?),
+    let file = open_again(rt, &task.texts().0)?;
+    let journal = match task.journal() {
+        Some(journal) => Some(open_again(rt, &journal)?),
         None => None,
     };
     election_of(rt.alloc(), Inputs { file, journal }, &mut NoWatch).ok()
 }
 
-/// Opens a file once more. A pipe or a device has given what it had.
-fn open_again<R: System>(rt: &R, path: &str) -> Option<File> {
-    match fs::metadata(rt, path) {
-        Ok(metadata) if metadata.is_file() => fs::open(rt, path).ok(),
-        _ => None,
-    }
+/// Opens a text once more, where it stands in a file.
+fn open_again<R: System>(rt: &R, text: &TextSource<'_>) -> Option<File> {
+    Text::new(rt, rt.alloc(), text.path()).open_at(0)
 }
 
 /// What is known of more raises for these ballots.

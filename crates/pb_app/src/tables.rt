@@ -2,39 +2,23 @@
 
 use crate::admitted::{RowNotice, rules_of};
 use crate::command_run::CommandRun;
-use crate::line_count::LineCount;
 use crate::notes::Notes;
 use crate::system::System;
-use pb_command_line::{AuditRun, Ballots, BallotsRun, CheckRun, DeskRun, Source};
+use pb_command_line::{AuditRun, Ballots, BallotsRun, CheckRun, DeskRun};
 use pb_commands::run_audit::{AuditInputs, run_audit_watched};
 use pb_commands::run_ballots::run_ballots;
 use pb_commands::run_check::{run_check, run_check_against};
 use pb_commands::run_desk::run_admitted_desk;
 use pb_commands::run_history::run_history;
 use pb_commands::run_table::run_table;
-use pb_commands::{AppFault, Demand, Digests, Inputs, Table, write_digested, write_out};
+use pb_commands::{AppFault, Demand, Digests, Table, write_digested, write_out};
 use pb_core::gate::NoGate;
 use pb_faults::RunText;
 use pb_read::read_pb;
-use pb_streams::{Shown, open_both, open_shown};
+use pb_streams::{LineCount, Shown, open_both, open_shown};
 use pb_witness::warnings::ResultWarnings;
 use std::io::Write;
 use std::mem;
-
-/// Counts a .pb file.
-pub(crate) fn count<R: System, W: Write>(
-    run: &CommandRun<'_, R>,
-    source: &Source<'_>,
-    writer: &mut W,
-    seen: &mut ResultWarnings,
-) -> Result<(), AppFault> {
-    let file = open_shown(run.counting.gate, source)?;
-    let inputs = Inputs {
-        file,
-        journal: None::<&[u8]>,
-    };
-    run_table(&run.counting, inputs, seen, writer, Table::Report)
-}
 
 /// Counts these ballots, and writes this table of the outcome.
 pub(crate) fn tell<'a, R: System, W: Write>(

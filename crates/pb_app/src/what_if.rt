@@ -5,7 +5,7 @@ use crate::system::System;
 use pb_command_line::{OneChange, WhatIfRun};
 use pb_commands::{AppFault, Changes, WhatIfFault, election_of, what_if_text, write_out};
 use pb_reasons::Change;
-use pb_streams::{End, Refusal};
+use pb_streams::{End, RunRefusal};
 use pb_witness::warnings::ResultWarnings;
 use pb_words::Said;
 use pb_words::what_if_words::{no_cost_words, no_project_words, too_many_voters_words};
@@ -19,7 +19,7 @@ pub(crate) fn what_if<'a, R: System, W: Write>(
     asked: &WhatIfRun<'a>,
     writer: &mut W,
     seen: &mut ResultWarnings,
-) -> Result<(), Refusal> {
+) -> Result<(), RunRefusal> {
     let alloc = run.counting.alloc;
     let election = election_of(alloc, run.inputs(&asked.ballots)?, seen)?;
     let changes = match asked.change {
@@ -29,15 +29,15 @@ pub(crate) fn what_if<'a, R: System, W: Write>(
     };
     match what_if_text(&run.counting, election, asked.project, changes) {
         Ok(text) => Ok(write_out(writer, text.as_slice(), AppFault::Write)?),
-        Err(WhatIfFault::Count(fault)) => Err(Refusal::from(AppFault::from(fault))),
+        Err(WhatIfFault::Count(fault)) => Err(RunRefusal::from(AppFault::from(fault))),
         Err(WhatIfFault::NoProject) => {
             let file = asked.ballots.file.path();
             let words = no_project_words(alloc, asked.project, file);
-            Err(Refusal::Told(End::Arguments, words))
+            Err(RunRefusal::Told(End::Arguments, words))
         }
         Err(WhatIfFault::OutOfRange(most)) => {
             let words = range_words(alloc, asked, most);
-            Err(Refusal::Told(End::Arguments, words))
+            Err(RunRefusal::Told(End::Arguments, words))
         }
     }
 }

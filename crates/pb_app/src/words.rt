@@ -11,8 +11,9 @@ use pb_export::ExportFault;
 use pb_faults::RunText;
 use pb_rounds::count_fault::CountFault;
 use pb_script::ScriptFault;
-use pb_streams::{End, Progress, Refusal};
+use pb_streams::{End, ProgressLine, RunRefusal};
 use pb_witness::audited::AuditPaths;
+use pb_witness::text::is_file;
 use pb_words::belonging_words::other_file_words;
 use pb_words::count_words::{count_words, spent_words};
 use pb_words::export_words::{comma_words, heading_words, lacking_words};
@@ -27,7 +28,6 @@ use pb_words::tally_words::{by_rule_words, no_ballot_words, tally_words};
 use pb_words::warning_words::{swallowing_words, warning_words};
 use pb_words::{Said, mistaken_words, open_words, said, say, say_words, write_words};
 use std::alloc::AllocError;
-use std::fs;
 use std::io::Error;
 use std::time::Duration;
 
@@ -48,14 +48,10 @@ pub(crate) fn say_usage<R: System>(rt: &R) {
 
 /// Says what was meant, where the first argument is a file and no command.
 pub(crate) fn say_mistaken<R: System>(rt: &R, arguments: &[String]) {
-    let Some(path) = arguments.get(1) else {
-        return;
-    };
-    match fs::metadata(rt, path.as_str()) {
-        Ok(metadata) if metadata.is_file() => {
+    if let Some(path) = arguments.get(1) {
+        if is_file(rt, path.as_str()) {
             say_words(rt, mistaken_words(rt.alloc(), path.as_str()))
         }
-        _ => {}
     }
 }
 
@@ -132,13 +128,13 @@ pub(crate) fn say_lacking<R: System>(rt: &R, task: &Task<'_>, lacking: &[bool; 6
 pub(crate) fn say_refusal<R: System>(
     rt: &R,
     asked: &Asked<'_>,
-    refusal: Refusal,
+    refusal: RunRefusal,
     failure: Option<&Error>,
     notes: &Notes,
 ) {
     let words = match refusal {
-        Refusal::Fault(fault) => words_of(rt, asked, fault, failure, notes),
-        Refusal::Told(_, words) => words,
+        RunRefusal::Fault(fault) => words_of(rt, asked, fault, failure, notes),
+        RunRefusal::Told(_, words) => words,
     };
     say_words(rt, words);
 }
@@ -250,7 +246,7 @@ pub(crate) fn say_spent<R: System>(
     asked: &Asked<'_>,
     end: End,
     took: Option<Duration>,
-    progress: &Progress<'_, R>,
+    progress: &ProgressLine<'_, R>,
 ) {
     if let End::Fault(AppFault::Count(CountFault::RaisesSpent)) = end {
         let found = look_further(rt, asked, took, progress);

@@ -3,8 +3,9 @@
 use crate::rule::rule_of;
 use crate::task::{
     Admits, Asked, AuditRun, Ballots, BallotsRun, CheckRun, CompareRun, DeskRun, OneChange,
-    PageRun, ServeRun, Source, Task, WhatIfRun,
+    PageRun, ServeRun, Task, WhatIfRun,
 };
+use crate::text_source::TextSource;
 use clap::ArgMatches;
 use pb_core::money::Money;
 use pb_rounds::options::CountOptions;
@@ -23,7 +24,10 @@ pub(crate) fn asked_by<'a>(matches: &ArgMatches<'a>) -> Asked<'a> {
             keeps_voters: given.get_flag("keep-voters"),
         },
         None => Asked {
-            task: Task::Count(Source::Input),
+            task: Task::Count(Ballots {
+                file: TextSource::Input,
+                journal: None,
+            }),
             rule: Rule {
                 options: CountOptions::standard(),
                 fill_up: FillUp::Nothing,
@@ -49,7 +53,7 @@ fn task_of<'a>(name: &str, given: &ArgMatches<'a>) -> Task<'a> {
 /// What the arguments of a command ask for that counts these ballots; no other command has a task here.
 fn count_of<'a>(name: &str, given: &ArgMatches<'a>, ballots: Ballots<'a>) -> Option<Task<'a>> {
     let task = match name {
-        "count" => Task::Count(ballots.file),
+        "count" => Task::Count(ballots),
         "projects" => Task::Projects(ballots),
         "voters" => Task::Voters(ballots),
         "compare" => Task::Compare(CompareRun {
@@ -81,7 +85,7 @@ fn page_of<'a>(given: &ArgMatches<'a>, ballots: Ballots<'a>) -> PageRun<'a> {
 }
 
 /// What the arguments of a command ask for that checks a file, or has to do with a desk.
-fn desk_of<'a>(name: &str, given: &ArgMatches<'a>, file: Source<'a>) -> Task<'a> {
+fn desk_of<'a>(name: &str, given: &ArgMatches<'a>, file: TextSource<'a>) -> Task<'a> {
     match name {
         "check" => Task::Check(CheckRun {
             file,
@@ -134,7 +138,7 @@ fn admits_of<'a>(given: &ArgMatches<'a>) -> Admits<'a> {
 }
 
 /// The ballots of this file, or those that a given journal leaves.
-fn ballots_of<'a>(given: &ArgMatches<'a>, file: Source<'a>) -> Ballots<'a> {
+fn ballots_of<'a>(given: &ArgMatches<'a>, file: TextSource<'a>) -> Ballots<'a> {
     let journal = match given.get_str("journal") {
         Some(path) => Some(source_at(path)),
         None => None,
@@ -154,15 +158,15 @@ fn shows_by(given: &ArgMatches<'_>) -> Option<bool> {
 }
 
 /// Where a text is read from.
-fn source_of<'a>(given: &ArgMatches<'a>, name: &str) -> Source<'a> {
+fn source_of<'a>(given: &ArgMatches<'a>, name: &str) -> TextSource<'a> {
     source_at(path_of(given, name))
 }
 
 /// The file with this path, or standard input.
-fn source_at<'a>(path: &'a str) -> Source<'a> {
+fn source_at<'a>(path: &'a str) -> TextSource<'a> {
     match path {
-        "-" => Source::Input,
-        path => Source::File(path),
+        "-" => TextSource::Input,
+        path => TextSource::File(path),
     }
 }
 

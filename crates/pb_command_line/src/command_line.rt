@@ -54,8 +54,8 @@ fn command_of<'a>(alloc: Global, form: &CommandForm) -> Result<Command<'a>, Allo
     let mut command = Command::new(alloc, form.name)
         .about(form.about)
         .after_help(form.notes);
-    for part in form.parts {
-        command = with_arguments(alloc, command, part.arguments(), asks_against)?;
+    for group in form.groups {
+        command = with_arguments(alloc, command, group.arguments(), asks_against)?;
     }
     Ok(command)
 }

@@ -1,11 +1,12 @@
 //! The commands that the program knows, each with its arguments.
 
-use crate::argument::Argument;
+use crate::argument_group::ArgumentGroup;
+use crate::argument_group::ArgumentGroup::{OfCount, OfResult, Own};
 use crate::arguments::{
     AGAINST, BY_ID, BY_PROJECT, CLERKS, COMPARE, COST, CURRENCY, DIGESTS, DURABLE, ELECTION,
     HISTORY, JOURNAL, KEEP_FILE, KEEP_VOTERS, LEAST, LEFT_BY, NO_SHUT, OTHER_FILE, OUTPUT,
     PROGRESS, PROJECT, QUIET, QUIET_BALLOTS, QUIET_DESK, QUIET_SERVE, RECOUNT, REQUIRE_SHUT, ROLL,
-    SCRIPT, SERVED, SHUT, STRICT, TITLE, VOTER, VOTERS, WORDS, of_count, of_result,
+    SCRIPT, SERVED, SHUT, STRICT, TITLE, VOTER, VOTERS, WORDS,
 };
 use crate::helps::{AFTER_BALLOTS, AFTER_SERVE};
 
@@ -17,29 +18,7 @@ pub(crate) struct CommandForm {
     pub(crate) notes: &'static str,
     pub(crate) about: &'static str,
     /// Its arguments, in the order in which its help lists them.
-    pub(crate) parts: &'static [Part],
-}
-
-/// Arguments that stand together in the help of a command.
-#[derive(Clone, Copy)]
-pub(crate) enum Part {
-    /// These, which the command names itself.
-    Own(&'static [Argument]),
-    /// The options of a count.
-    OfCount,
-    /// The options of a command that prints the result of a count.
-    OfResult,
-}
-
-impl Part {
-    /// The arguments, in the order in which the help lists them.
-    pub(crate) fn arguments(&self) -> &'static [Argument] {
-        match *self {
-            Part::Own(arguments) => arguments,
-            Part::OfCount => of_count(),
-            Part::OfResult => of_result(),
-        }
-    }
+    pub(crate) groups: &'static [ArgumentGroup],
 }
 
 /// The forms of all commands, in the order in which the help lists them. A function that names a form is
@@ -70,7 +49,7 @@ const COUNT: &CommandForm = &CommandForm {
     name: "count",
     notes: "Manual pages: man pb_app-election, man pb_app-report, man pb_app-counting.",
     about: "Counts a .pb file, and prints the report",
-    parts: &[Part::Own(&[ELECTION]), Part::OfCount, Part::OfResult],
+    groups: &[Own(&[ELECTION]), OfCount, OfResult],
 };
 
 /// The command that shows the projects of a count.
@@ -82,11 +61,7 @@ const PROJECTS: &CommandForm = &CommandForm {
     name: "projects",
     notes: "Manual pages: man pb_app-election, man 5 pb_app-projects, man pb_app-counting.",
     about: "Counts a .pb file, and prints who won and why, and how much money the other projects lacked",
-    parts: &[
-        Part::Own(&[ELECTION, LEFT_BY, OTHER_FILE]),
-        Part::OfCount,
-        Part::OfResult,
-    ],
+    groups: &[Own(&[ELECTION, LEFT_BY, OTHER_FILE]), OfCount, OfResult],
 };
 
 /// The command that shows the voters of a count.
@@ -98,11 +73,7 @@ const VOTERS_PAID: &CommandForm = &CommandForm {
     name: "voters",
     notes: "Manual pages: man pb_app-election, man 5 pb_app-voters, man pb_app-counting.",
     about: "Counts a .pb file, and prints what each voter paid, and for what",
-    parts: &[
-        Part::Own(&[ELECTION, LEFT_BY, OTHER_FILE]),
-        Part::OfCount,
-        Part::OfResult,
-    ],
+    groups: &[Own(&[ELECTION, LEFT_BY, OTHER_FILE]), OfCount, OfResult],
 };
 
 /// The command that counts by another rule too.
@@ -114,10 +85,10 @@ const COMPARISON: &CommandForm = &CommandForm {
     name: "compare",
     notes: "Manual pages: man pb_app-election, man 5 pb_app-compare, man pb_app-counting.",
     about: "Counts a .pb file, and compares the winners with those of another rule: most votes first",
-    parts: &[
-        Part::Own(&[ELECTION, BY_PROJECT, LEFT_BY, OTHER_FILE]),
-        Part::OfCount,
-        Part::OfResult,
+    groups: &[
+        Own(&[ELECTION, BY_PROJECT, LEFT_BY, OTHER_FILE]),
+        OfCount,
+        OfResult,
     ],
 };
 
@@ -130,10 +101,10 @@ const WHAT_IF: &CommandForm = &CommandForm {
     name: "whatif",
     notes: "Each row is one change: another cost, or further voters. For each row the whole election was counted again. The table says nothing about a cost or a number of voters that has no row: try it with --cost or --voters.\n\nManual pages: man pb_app-election, man 5 pb_app-whatif, man pb_app-proposers.",
     about: "Counts a .pb file again and again, and prints at which cost, or with how many further voters, a project wins",
-    parts: &[
-        Part::Own(&[ELECTION, PROJECT, COST, VOTERS, LEFT_BY, OTHER_FILE]),
-        Part::OfCount,
-        Part::OfResult,
+    groups: &[
+        Own(&[ELECTION, PROJECT, COST, VOTERS, LEFT_BY, OTHER_FILE]),
+        OfCount,
+        OfResult,
     ],
 };
 
@@ -146,12 +117,12 @@ const PAGE: &CommandForm = &CommandForm {
     name: "page",
     notes: "Manual pages: man pb_app-election, man 5 pb_app-page, man pb_app-counting.",
     about: "Counts a .pb file, and prints the result as a web page for the public",
-    parts: &[
-        Part::Own(&[
+    groups: &[
+        Own(&[
             ELECTION, LEFT_BY, OTHER_FILE, TITLE, RECOUNT, WORDS, CURRENCY, COMPARE,
         ]),
-        Part::OfCount,
-        Part::OfResult,
+        OfCount,
+        OfResult,
     ],
 };
 
@@ -164,10 +135,10 @@ const EXPORT: &CommandForm = &CommandForm {
     name: "export",
     notes: "Manual pages: man pb_app-election, man 5 pb_app-export, man pb_app-counting.",
     about: "Counts a .pb file, and prints ballots and result as a new .pb file; counting that file with the same options gives the same result",
-    parts: &[
-        Part::Own(&[ELECTION, LEFT_BY, OTHER_FILE, KEEP_VOTERS]),
-        Part::OfCount,
-        Part::OfResult,
+    groups: &[
+        Own(&[ELECTION, LEFT_BY, OTHER_FILE, KEEP_VOTERS]),
+        OfCount,
+        OfResult,
     ],
 };
 
@@ -180,10 +151,10 @@ const CHECK: &CommandForm = &CommandForm {
     name: "check",
     notes: "Manual pages: man pb_app-election, man pb_app-faults.",
     about: "Lists the faults for which a .pb file is refused, and warns of what is probably a mistake",
-    parts: &[
-        Part::Own(&[ELECTION, AGAINST]),
-        Part::OfCount,
-        Part::Own(&[OUTPUT, QUIET, PROGRESS]),
+    groups: &[
+        Own(&[ELECTION, AGAINST]),
+        OfCount,
+        Own(&[OUTPUT, QUIET, PROGRESS]),
     ],
 };
 
@@ -196,7 +167,7 @@ const DESK: &CommandForm = &CommandForm {
     name: "desk",
     notes: "Manual pages: man pb_app-election, man pb_app-script, man pb_app-journal.",
     about: "Runs a file of requests (a script) on a new desk, and prints the journal",
-    parts: &[Part::Own(&[
+    groups: &[Own(&[
         ELECTION, SCRIPT, CLERKS, SHUT, BY_ID, ROLL, LEAST, KEEP_FILE, OUTPUT, QUIET_DESK, PROGRESS,
     ])],
 };
@@ -210,10 +181,10 @@ const AUDIT: &CommandForm = &CommandForm {
     name: "audit",
     notes: "Manual pages: man pb_app-election, man pb_app-journal, man pb_app-report, man pb_app-counting.",
     about: "Checks a journal against its .pb file; if the desk is shut, counts its ballots and prints the report",
-    parts: &[
-        Part::Own(&[ELECTION, JOURNAL, OTHER_FILE]),
-        Part::OfCount,
-        Part::Own(&[REQUIRE_SHUT, DIGESTS, STRICT, OUTPUT, QUIET_DESK, PROGRESS]),
+    groups: &[
+        Own(&[ELECTION, JOURNAL, OTHER_FILE]),
+        OfCount,
+        Own(&[REQUIRE_SHUT, DIGESTS, STRICT, OUTPUT, QUIET_DESK, PROGRESS]),
     ],
 };
 
@@ -226,7 +197,7 @@ const BALLOTS: &CommandForm = &CommandForm {
     name: "ballots",
     notes: AFTER_BALLOTS,
     about: "Checks a journal against its .pb file, and prints the ballots that the voters have now",
-    parts: &[Part::Own(&[
+    groups: &[Own(&[
         ELECTION,
         JOURNAL,
         VOTER,
@@ -247,7 +218,7 @@ const SERVE: &CommandForm = &CommandForm {
     name: "serve",
     notes: AFTER_SERVE,
     about: "Runs a desk: takes requests from standard input, and writes each to the journal on disk before it answers",
-    parts: &[Part::Own(&[
+    groups: &[Own(&[
         SERVED,
         DURABLE,
         OTHER_FILE,

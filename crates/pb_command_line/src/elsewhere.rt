@@ -128,8 +128,8 @@ fn owners_of(alloc: Global, option: &str) -> Result<String, AllocError> {
 impl CommandForm {
     /// Whether an option of this name is among the command's arguments.
     pub(crate) fn has(&self, option: &str) -> bool {
-        for part in self.parts {
-            if has(part.arguments(), option) {
+        for group in self.groups {
+            if has(group.arguments(), option) {
                 return true;
             }
         }

@@ -2,7 +2,8 @@
 
 use crate::address::{is_address, lacks_scheme};
 use crate::currency::is_currency;
-use crate::task::{BallotsRun, OneChange, PageRun, Source, Task, WhatIfRun};
+use crate::task::{BallotsRun, OneChange, PageRun, Task, WhatIfRun};
+use crate::text_source::TextSource;
 use pb_core::money::Money;
 
 /// Why arguments are refused although each has its form.
@@ -172,8 +173,8 @@ fn among_requests(task: &Task<'_>) -> Option<&'static str> {
 /// The argument that is standard input beside FILE, where it is.
 fn read_twice(task: &Task<'_>) -> Option<&'static str> {
     match (task.texts(), task) {
-        ((Source::Input, Some(Source::Input)), Task::Desk(_)) => Some("SCRIPT"),
-        ((Source::Input, Some(Source::Input)), _) => Some("JOURNAL"),
+        ((TextSource::Input, Some(TextSource::Input)), Task::Desk(_)) => Some("SCRIPT"),
+        ((TextSource::Input, Some(TextSource::Input)), _) => Some("JOURNAL"),
         _ => None,
     }
 }

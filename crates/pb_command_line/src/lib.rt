@@ -3,6 +3,7 @@
 
 mod address;
 mod argument;
+mod argument_group;
 mod arguments;
 mod asked;
 mod command_line;
@@ -15,10 +16,12 @@ mod numbers;
 pub mod parse;
 mod rule;
 pub mod task;
+mod text_source;
 
 pub use command_line::PROGRAM;
 pub use parse::Parsed;
 pub use task::{
     Admits, Asked, AuditRun, Ballots, BallotsRun, CheckRun, CompareRun, DeskRun, OneChange,
-    PageRun, ServeRun, Source, Task, WhatIfRun,
+    PageRun, ServeRun, Task, WhatIfRun,
 };
+pub use text_source::TextSource;

@@ -1,34 +1,16 @@
 //! What the arguments of the command line ask for.
 
+use crate::text_source::TextSource;
 use pb_core::money::Money;
 use pb_rounds::rule::Rule;
-
-/// Where a text is read from.
-#[derive(Clone, Copy)]
-pub enum Source<'a> {
-    /// Standard input, which `-` names.
-    Input,
-    /// The file with this path.
-    File(&'a str),
-}
-
-impl<'a> Source<'a> {
-    /// The file's path; standard input has none.
-    pub fn path(&self) -> Option<&'a str> {
-        match *self {
-            Source::Input => None,
-            Source::File(path) => Some(path),
-        }
-    }
-}
 
 /// The ballots that are counted.
 #[derive(Clone, Copy)]
 pub struct Ballots<'a> {
     /// The .pb file.
-    pub file: Source<'a>,
+    pub file: TextSource<'a>,
     /// The journal of its desk, which leaves the ballots; with none they are the file's own.
-    pub journal: Option<Source<'a>>,
+    pub journal: Option<TextSource<'a>>,
 }
 
 /// Which requests a desk admits, and how their rows name projects.
@@ -59,8 +41,8 @@ pub struct ServeRun<'a> {
 #[derive(Clone, Copy)]
 pub struct DeskRun<'a> {
     /// The .pb file.
-    pub file: Source<'a>,
-    pub script: Source<'a>,
+    pub file: TextSource<'a>,
+    pub script: TextSource<'a>,
     /// How many clerks there are.
     pub clerks: u32,
     /// The desk is shut at the end.
@@ -72,8 +54,8 @@ pub struct DeskRun<'a> {
 #[derive(Clone, Copy)]
 pub struct AuditRun<'a> {
     /// The .pb file.
-    pub file: Source<'a>,
-    pub journal: Source<'a>,
+    pub file: TextSource<'a>,
+    pub journal: TextSource<'a>,
     /// An open desk is refused.
     pub requires_shut: bool,
     /// The digests of what was read stand before the report.
@@ -92,8 +74,8 @@ pub struct CompareRun<'a> {
 #[derive(Clone, Copy)]
 pub struct BallotsRun<'a> {
     /// The .pb file.
-    pub file: Source<'a>,
-    pub journal: Source<'a>,
+    pub file: TextSource<'a>,
+    pub journal: TextSource<'a>,
     /// The voter whose ballot is asked for, as it was given; with none all are.
     pub voter: Option<&'a str>,
     /// What the voter's ballot was is asked for, entry by entry.
@@ -103,7 +85,7 @@ pub struct BallotsRun<'a> {
 /// A check of a .pb file.
 #[derive(Clone, Copy)]
 pub struct CheckRun<'a> {
-    pub file: Source<'a>,
+    pub file: TextSource<'a>,
     /// The column `selected` is compared with a count.
     pub compares: bool,
 }
@@ -146,8 +128,8 @@ pub struct WhatIfRun<'a> {
 /// What the arguments ask for.
 #[derive(Clone, Copy)]
 pub enum Task<'a> {
-    /// A count of a .pb file.
-    Count(Source<'a>),
+    /// The report of a count of a .pb file.
+    Count(Ballots<'a>),
     /// The projects of a count of these ballots: who won and why, who lost and by how much.
     Projects(Ballots<'a>),
     /// The voters of a count of these ballots: who paid.
@@ -174,10 +156,11 @@ pub enum Task<'a> {
 
 impl<'a> Task<'a> {
     /// The texts that are read: the .pb file, and behind it a script or a journal, where there is one.
-    pub fn texts(&self) -> (Source<'a>, Option<Source<'a>>) {
+    pub fn texts(&self) -> (TextSource<'a>, Option<TextSource<'a>>) {
         match *self {
-            Task::Count(file) | Task::Check(CheckRun { file, .. }) => (file, None),
-            Task::Projects(ballots)
+            Task::Check(CheckRun { file, .. }) => (file, None),
+            Task::Count(ballots)
+            | Task::Projects(ballots)
             | Task::Voters(ballots)
             | Task::Export(ballots)
             | Task::Compare(CompareRun { ballots, .. })
@@ -187,13 +170,13 @@ impl<'a> Task<'a> {
             Task::Audit(AuditRun { file, journal, .. })
             | Task::Ballots(BallotsRun { file, journal, .. }) => (file, Some(journal)),
             Task::Serve(ServeRun { file, journal, .. }) => {
-                (Source::File(file), Some(Source::File(journal)))
+                (TextSource::File(file), Some(TextSource::File(journal)))
             }
         }
     }
 
     /// The journal that is read, if one is.
-    pub fn journal(&self) -> Option<Source<'a>> {
+    pub fn journal(&self) -> Option<TextSource<'a>> {
         match self {
             Task::Desk(_) => None,
             _ => self.texts().1,

@@ -3,7 +3,7 @@
 use crate::beside::stands_beside;
 use crate::file_id::FileId;
 use crate::journal_start::{LOOKED_AT, begins_as_journal};
-use pb_command_line::{Source, Task};
+use pb_command_line::{Task, TextSource};
 use std::alloc::Global;
 use std::fs;
 use std::fs::{File, TryLockError};
@@ -14,9 +14,9 @@ use std::rt::Files;
 #[derive(Clone, Copy)]
 pub(crate) enum Bar<'a> {
     /// It leads to this text, which the run reads.
-    IsRead(Source<'a>),
+    IsRead(TextSource<'a>),
     /// It leads to what stands beside this journal, which the run reads.
-    IsBeside(Source<'a>),
+    IsBeside(TextSource<'a>),
     /// A journal stands there, and the result is none.
     IsJournal,
     /// A run serves the journal that stands there.
@@ -48,9 +48,13 @@ pub(crate) fn bar_of<'a, R: Files<File = File> + AllocGlobal>(
 }
 
 /// The text of a task that is read from this file, where one is.
-fn text_of<'a, R: Files>(rt: &R, task: &Task<'a>, target: FileId) -> Result<Option<Source<'a>>> {
+fn text_of<'a, R: Files>(
+    rt: &R,
+    task: &Task<'a>,
+    target: FileId,
+) -> Result<Option<TextSource<'a>>> {
     let (file, second) = task.texts();
-    for text in &[Some(file), second, task.third().map(Source::File)] {
+    for text in &[Some(file), second, task.third().map(TextSource::File)] {
         if let Some(text) = text {
             if target.has_text(rt, text)? {
                 return Ok(Some(*text));

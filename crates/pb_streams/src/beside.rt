@@ -1,7 +1,7 @@
 //! What stands beside a journal.
 
 use crate::file_id::{FileId, INPUT};
-use pb_command_line::Source;
+use pb_command_line::TextSource;
 use std::fmt::Display;
 use std::fs;
 use std::io::{ErrorKind, Result};
@@ -19,7 +19,7 @@ const MOST_KEPT: u32 = 10_000;
 pub(crate) fn stands_beside<R: Files + AllocGlobal>(
     rt: &R,
     path: &str,
-    journal: &Source<'_>,
+    journal: &TextSource<'_>,
 ) -> Result<bool> {
     let journal = journal.path().unwrap_or(INPUT);
     let target = FileId::at(rt, path)?;

@@ -1,6 +1,6 @@
 //! Which file a path leads to.
 
-use pb_command_line::Source;
+use pb_command_line::TextSource;
 use std::fs;
 use std::io::{ErrorKind, Result};
 use std::os::unix::fs::MetadataExt;
@@ -34,10 +34,10 @@ impl FileId {
     }
 
     /// Whether a text is read from this file; standard input is none where it is a terminal or a pipe.
-    pub(crate) fn has_text<R: Files>(self, rt: &R, text: &Source<'_>) -> Result<bool> {
+    pub(crate) fn has_text<R: Files>(self, rt: &R, text: &TextSource<'_>) -> Result<bool> {
         match text {
-            Source::Input => Ok(self.is_plain && FileId::at(rt, INPUT)? == Some(self)),
-            Source::File(path) => Ok(FileId::at(rt, path)? == Some(self)),
+            TextSource::Input => Ok(self.is_plain && FileId::at(rt, INPUT)? == Some(self)),
+            TextSource::File(path) => Ok(FileId::at(rt, path)? == Some(self)),
         }
     }
 }

@@ -2,7 +2,7 @@
 
 use crate::bar::{Bar, bar_of};
 use crate::part_file::PartFile;
-use crate::refusal::{End, Refusal};
+use crate::run_refusal::{End, RunRefusal};
 use pb_command_line::Asked;
 use pb_faults::{AppFault, RunText, ServingFault};
 use pb_words::for_terminal;
@@ -51,7 +51,7 @@ impl<'a, R: Files<File = File> + Print + AllocGlobal> Output<'a, R> {
     }
 
     /// Looks at what the result would replace.
-    pub fn look(&mut self) -> std::result::Result<(), Refusal> {
+    pub fn look(&mut self) -> std::result::Result<(), RunRefusal> {
         match self.asked.output {
             Some(path) => self.look_at(path),
             None => Ok(()),
@@ -59,7 +59,7 @@ impl<'a, R: Files<File = File> + Print + AllocGlobal> Output<'a, R> {
     }
 
     /// Looks at what a result at this path would replace.
-    fn look_at(&mut self, path: &str) -> std::result::Result<(), Refusal> {
+    fn look_at(&mut self, path: &str) -> std::result::Result<(), RunRefusal> {
         match bar_of(self.rt, &self.asked.task, path) {
             Ok(None) => Ok(()),
             Ok(Some(bar)) => Err(self.barred(bar)),
@@ -68,7 +68,7 @@ impl<'a, R: Files<File = File> + Print + AllocGlobal> Output<'a, R> {
     }
 
     /// The result would replace what it never does.
-    fn barred(&self, bar: Bar<'_>) -> Refusal {
+    fn barred(&self, bar: Bar<'_>) -> RunRefusal {
         let (alloc, path) = (self.rt.alloc(), self.asked.output.unwrap_or("-"));
         let words = match bar {
             Bar::IsRead(text) => read_output_words(alloc, path, text.path()),
@@ -76,19 +76,19 @@ impl<'a, R: Files<File = File> + Print + AllocGlobal> Output<'a, R> {
             Bar::IsJournal => journal_output_words(alloc, path),
             Bar::IsServed => {
                 let fault = AppFault::Serving(ServingFault::Locked(RunText::Output));
-                return Refusal::Told(End::Fault(fault), served_output_words(alloc, path));
+                return RunRefusal::Told(End::Fault(fault), served_output_words(alloc, path));
             }
         };
-        Refusal::Told(End::Arguments, words)
+        RunRefusal::Told(End::Arguments, words)
     }
 
     /// A call on the file of the result has failed.
-    fn failed(&mut self, error: Error) -> Refusal {
+    fn failed(&mut self, error: Error) -> RunRefusal {
         if error.kind() == ErrorKind::OutOfMemory {
-            return Refusal::Fault(AppFault::Memory);
+            return RunRefusal::Fault(AppFault::Memory);
         }
         self.failure = Some(error);
-        Refusal::Fault(AppFault::Write)
+        RunRefusal::Fault(AppFault::Write)
     }
 
     /// Writes some of these bytes to where they go.
@@ -114,7 +114,7 @@ impl<'a, R: Files<File = File> + Print + AllocGlobal> Output<'a, R> {
 
     /// Puts a whole result in the place of an older one, also an empty one. What it replaces is looked at
     /// before.
-    pub fn finish(&mut self) -> std::result::Result<(), Refusal> {
+    pub fn finish(&mut self) -> std::result::Result<(), RunRefusal> {
         let Some(path) = self.asked.output else {
             return Ok(());
         };
@@ -134,7 +134,7 @@ impl<'a, R: Files<File = File> + Print + AllocGlobal> Output<'a, R> {
 
     /// Sees that a file is on its device, and gives it the name of the one that it replaces, if nothing bars
     /// it.
-    fn put_in_place(&mut self, part: PartFile<File>) -> std::result::Result<(), Refusal> {
+    fn put_in_place(&mut self, part: PartFile<File>) -> std::result::Result<(), RunRefusal> {
         let allowed = match part.sync() {
             Ok(()) => self.look_at(part.target()),
             Err(error) => Err(self.failed(error)),

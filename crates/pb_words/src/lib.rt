@@ -18,6 +18,7 @@ mod looks;
 mod mark_words;
 mod meta_words;
 pub mod output_words;
+pub mod page_words;
 pub mod prompts;
 mod read_rules;
 pub mod read_words;

@@ -1,6 +1,6 @@
 //! The texts that the command line names: standard input, or files.
 
-use pb_command_line::Source;
+use pb_command_line::TextSource;
 use pb_faults::{AppFault, RunText};
 use std::io::{Read, Result};
 use std::rt::Files;
@@ -8,39 +8,39 @@ use std::{fs, io};
 
 /// A reader of standard input, or of a file.
 #[derive(Drop)]
-pub enum Given<R: Files + Input> {
+pub enum TextReader<R: Files + Input> {
     Input(R::Reader),
     File(R::File),
 }
 
-impl<R: Files + Input> Read for Given<R> {
+impl<R: Files + Input> Read for TextReader<R> {
     fn read(&mut self, buf: &mut [u8]) -> Result<usize> {
         match self {
-            Given::Input(reader) => reader.read(buf),
-            Given::File(file) => file.read(buf),
+            TextReader::Input(reader) => reader.read(buf),
+            TextReader::File(file) => file.read(buf),
         }
     }
 }
 
 /// Opens this text.
-pub fn open<R: Files + Input>(
+pub(crate) fn open<R: Files + Input>(
     rt: &R,
-    source: &Source<'_>,
+    source: &TextSource<'_>,
     text: RunText,
-) -> std::result::Result<Given<R>, AppFault> {
+) -> std::result::Result<TextReader<R>, AppFault> {
     match source {
-        Source::Input => Ok(Given::Input(rt.reader())),
-        Source::File(path) => Ok(Given::File(open_file(rt, path, text)?)),
+        TextSource::Input => Ok(TextReader::Input(rt.reader())),
+        TextSource::File(path) => Ok(TextReader::File(open_file(rt, path, text)?)),
     }
 }
 
 /// Opens a .pb file, and this text behind it.
 pub fn open_both<R: Files + Input>(
     rt: &R,
-    first: &Source<'_>,
-    second: &Source<'_>,
+    first: &TextSource<'_>,
+    second: &TextSource<'_>,
     text: RunText,
-) -> std::result::Result<(Given<R>, Given<R>), AppFault> {
+) -> std::result::Result<(TextReader<R>, TextReader<R>), AppFault> {
     let first = open(rt, first, RunText::File)?;
     match open(rt, second, text) {
         Ok(second) => Ok((first, second)),

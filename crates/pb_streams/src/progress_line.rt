@@ -1,7 +1,7 @@
 //! How far reading and counting have come, shown in one line of standard error that is rewritten.
 
-use crate::given::{Given, open};
-use pb_command_line::Source;
+use crate::text_reader::{TextReader, open};
+use pb_command_line::TextSource;
 use pb_core::gate::Gate;
 use pb_core::money::Money;
 use pb_faults::{AppFault, RunText};
@@ -16,7 +16,7 @@ const PAUSE: u64 = 1_000;
 
 /// How far reading and counting have come. Nothing is shown of what takes less than a second.
 #[derive(Drop)]
-pub struct Progress<'a, R> {
+pub struct ProgressLine<'a, R> {
     /// The machine that the work is on.
     pub rt: &'a R,
     /// When the work began; none where nothing is shown.
@@ -26,10 +26,10 @@ pub struct Progress<'a, R> {
     shown: AtomicU64,
 }
 
-impl<'a, R: Eprint + Clock> Progress<'a, R> {
+impl<'a, R: Eprint + Clock> ProgressLine<'a, R> {
     /// The work begins.
-    pub fn new(rt: &'a R, shows: bool) -> Progress<'a, R> {
-        Progress {
+    pub fn new(rt: &'a R, shows: bool) -> ProgressLine<'a, R> {
+        ProgressLine {
             rt,
             start: if shows { Instant::now(rt).ok() } else { None },
             lines: AtomicU64::new(0),
@@ -74,7 +74,7 @@ impl<'a, R: Eprint + Clock> Progress<'a, R> {
     }
 }
 
-impl<R: Eprint + Clock + Sync> Gate for Progress<'_, R> {
+impl<R: Eprint + Clock + Sync> Gate for ProgressLine<'_, R> {
     fn at(&self, _worker: u32, _piece: u32) {}
 
     fn raised(&self, raises: u32, share: Money) {
@@ -92,11 +92,11 @@ impl<R: Eprint + Clock + Sync> Gate for Progress<'_, R> {
 #[derive(Drop)]
 pub struct Shown<'a, R, P> {
     reader: P,
-    progress: &'a Progress<'a, R>,
+    progress: &'a ProgressLine<'a, R>,
 }
 
 impl<'a, R, P> Shown<'a, R, P> {
-    pub fn new(reader: P, progress: &'a Progress<'a, R>) -> Shown<'a, R, P> {
+    pub fn new(reader: P, progress: &'a ProgressLine<'a, R>) -> Shown<'a, R, P> {
         Shown { reader, progress }
     }
 }
@@ -113,9 +113,9 @@ impl<R: Eprint + Clock, P: Read> Read for Shown<'_, R, P> {
 
 /// Opens a .pb file; it is shown how much of it has come.
 pub fn open_shown<'a, R: Files + Input>(
-    progress: &'a Progress<'a, R>,
-    source: &Source<'_>,
-) -> std::result::Result<Shown<'a, R, Given<R>>, AppFault> {
+    progress: &'a ProgressLine<'a, R>,
+    source: &TextSource<'_>,
+) -> std::result::Result<Shown<'a, R, TextReader<R>>, AppFault> {
     let file = open(progress.rt, source, RunText::File)?;
     Ok(Shown::new(file, progress))
 }

@@ -4,14 +4,15 @@ use std::io::{Result, Write};
 
 /// A writer that counts the line ends which go by.
 #[derive(Drop)]
-pub(crate) struct LineCount<'w, W> {
+pub struct LineCount<'w, W> {
     writer: &'w mut W,
-    pub(crate) lines: u64,
+    /// How many have gone by.
+    pub lines: u64,
 }
 
 impl<'w, W> LineCount<'w, W> {
     /// No line yet.
-    pub(crate) fn new(writer: &'w mut W) -> LineCount<'w, W> {
+    pub fn new(writer: &'w mut W) -> LineCount<'w, W> {
         LineCount { writer, lines: 0 }
     }
 }

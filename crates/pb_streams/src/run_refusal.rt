@@ -18,39 +18,39 @@ pub enum End {
 
 /// Why a run ends without a result.
 #[derive(Drop)]
-pub enum Refusal {
+pub enum RunRefusal {
     /// This fault tells it, also to people.
     Fault(AppFault),
     /// Programs are told this, and people in these words.
     Told(End, Result<String, AllocError>),
 }
 
-impl Refusal {
+impl RunRefusal {
     /// A call of the system has failed, of which people are told in these words; refused memory is `Memory`.
-    pub fn of_call(error: &Error, fault: AppFault, words: Said) -> Refusal {
+    pub fn of_call(error: &Error, fault: AppFault, words: Said) -> RunRefusal {
         if error.kind() == ErrorKind::OutOfMemory {
             drop(words);
-            return Refusal::Fault(AppFault::Memory);
+            return RunRefusal::Fault(AppFault::Memory);
         }
-        Refusal::Told(End::Fault(fault), words)
+        RunRefusal::Told(End::Fault(fault), words)
     }
 
     /// What programs are told.
     pub fn end(&self) -> End {
         match self {
-            Refusal::Fault(fault) => End::Fault(*fault),
-            Refusal::Told(end, _) => *end,
+            RunRefusal::Fault(fault) => End::Fault(*fault),
+            RunRefusal::Told(end, _) => *end,
         }
     }
 }
 
-impl From<AppFault> for Refusal {
+impl From<AppFault> for RunRefusal {
     ghost use Rattle.std.specs.Prelude.{◌≡◌};
-    ghost use Rattle.pb_streams.specs.declared.refusal.Refusal.TheVariants.{Fault};
+    ghost use Rattle.pb_streams.specs.declared.run_refusal.RunRefusal.TheVariants.{Fault};
 
     ghost from_gives = { λ fault refusal. refusal ≡ Fault fault };
 
-    fn from(fault: AppFault) -> Refusal {
-        Refusal::Fault(fault)
+    fn from(fault: AppFault) -> RunRefusal {
+        RunRefusal::Fault(fault)
     }
 }
