@@ -20,16 +20,14 @@ use Rattle.pb_faults.specs.declared.fault.AppFault.TheVariants.{Count, Memory, W
 
 -- the election that is handed out is the one for which the records stand
 handed_stands : (records : List Fields) (faults : List ReadFault) (e : ElectionView) → IsHandedOut records faults (Some e) → StandsFor records e
-handed_stands records [] e handed = handed
-handed_stands records (first ∷ more) e handed = absurd handed
+handed_stands records faults e handed = handed.1
 
 -- where there is no fault, what is so of the election that is handed out, and of its count, is so of the file's
 handed_has : (Counts Compares : ElectionView → CountedView → Type 0) (records : List Fields) (faults : List ReadFault) (election : Option ElectionView) → IsHandedOut records faults election
     → IfSome election (λ e. (c : CountedView) × Counts e c × Compares e c)
     → faults ≡ [] → (e : ElectionView) × StandsFor records e × (c : CountedView) × Counts e c × Compares e c
-handed_has Counts Compares records [] (Some e) handed has none = (e, handed, has.0, has.1, has.2)
-handed_has Counts Compares records [] None handed has none = absurd handed
-handed_has Counts Compares records (first ∷ more) election handed has none = absurd cc
+handed_has Counts Compares records faults (Some e) handed has none = (e, handed.1, has.0, has.1, has.2)
+handed_has Counts Compares records faults None handed has none = absurd (handed none)
 
 pub known_has : (Counts Compares : ElectionView → CountedView → Type 0) (known : Option (List ℕ)) (faults result : List ReadFault) (election : Option ElectionView)
     → IfSome known (λ bytes. IsHandedOut (records_of bytes) faults election) → IfSome election (λ e. (c : CountedView) × Counts e c × Compares e c) → result ≡ faults

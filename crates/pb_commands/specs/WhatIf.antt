@@ -3,6 +3,7 @@ use Rattle.std.specs.Prelude.{◌≡◌, ◌≢◌, ℕ, Contains, List, [], ◌
 use Rattle.std.specs.Prelude.{if◌then◌else◌}
 use Rattle.pb_core.specs.Election.{ElectionView, project_ids}
 use Rattle.pb_core.specs.MoneyText.{money_text}
+use Rattle.pb_core.specs.Numbered.{numbered}
 use Rattle.pb_price.specs.Supporters.{cost_at, support_of}
 use Rattle.pb_rounds.specs.Counted.{IsCountFault}
 use Rattle.pb_rounds.specs.CountFault.{refusal_of}
@@ -10,6 +11,7 @@ use Rattle.pb_rounds.specs.declared.count_fault.CountFault.TheVariants.{NoMemory
 use Rattle.pb_rounds.specs.declared.options.CountOptions.{CountOptions}
 use Rattle.pb_rows.specs.Tables.{Column, table_text}
 use Rattle.pb_commands.specs.declared.what_if_rows.Changes.{Changes}
+use Rattle.pb_commands.specs.declared.what_if_rows.TheConstants.{VERDICTS}
 use Rattle.pb_commands.specs.declared.what_if_rows.Changes.TheVariants.{Searched, One}
 use Rattle.pb_commands.specs.declared.what_if_rows.WhatIfFault.{WhatIfFault}
 use Rattle.pb_commands.specs.declared.what_if_rows.WhatIfFault.TheVariants.{NoProject, OutOfRange, Count}
@@ -17,8 +19,7 @@ use Rattle.pb_reasons.specs.WhatIf.{CanBe, IsTrue, IsWhatIf, seen}
 use Rattle.pb_reasons.specs.declared.changes.change.Change.{Change}
 use Rattle.pb_reasons.specs.declared.changes.change.Change.TheVariants.{Cost, Voters}
 use Rattle.pb_reasons.specs.declared.changes.change.Row.{Row}
-use Rattle.pb_reasons.specs.declared.changes.change.Verdict.{Verdict}
-use Rattle.pb_reasons.specs.declared.changes.change.Verdict.TheVariants.{Lost, Won, Refused}
+use Rattle.pb_reasons.specs.contracts.changes.change.Verdict.{the_type as verdicts}
 use Rattle.pb_reasons.specs.declared.changes.found.Found.{Found}
 use Rattle.pb_reasons.specs.declared.changes.found.WhatIf.{WhatIf}
 use Rattle.pb_reasons.specs.declared.changes.question.Question.{Question}
@@ -28,15 +29,11 @@ abbrev pub changed : Change → ℕ → List ℕ × List ℕ
 changed Cost value = (codes "cost", money_text value)
 changed Voters value = (codes "voters", decimal value)
 
--- what the count says
-abbrev pub verdict_text : Verdict → List ℕ
-verdict_text Lost = codes "0"
-verdict_text Won = codes "1"
-verdict_text Refused = codes "refused"
-
+-- a row's change, and what the count says, by the table of its names
 abbrev pub what_if_columns : List (Column (Change × Row))
 what_if_columns = (codes "change", λ r. (changed r.0 r.1.value).0)
-    ∷ (codes "value", λ r. (changed r.0 r.1.value).1) ∷ (codes "won", λ r. verdict_text r.1.verdict) ∷ []
+    ∷ (codes "value", λ r. (changed r.0 r.1.value).1)
+    ∷ (codes "won", λ r. (numbered verdicts VERDICTS r.1.verdict).1) ∷ []
 
 -- the two rows of one kind of change, or the one where its range is one value
 abbrev pub found_rows : Change → Found → List (Change × Row)

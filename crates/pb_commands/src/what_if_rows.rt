@@ -8,7 +8,7 @@ ghost use Rattle.pb_rounds.specs.CountFault.{refusal_of};
 ghost use Rattle.pb_rounds.specs.declared.count_fault.CountFault.TheVariants.{NoMemory};
 ghost use Rattle.pb_rows.specs.Tables.{table_text};
 ghost use Rattle.pb_rows.specs.Writing.{text_of_row, text_of_rows};
-ghost use Rattle.pb_commands.specs.WhatIf.{IsWhatIfText, WhatIfRefuses, found_rows, verdict_text};
+ghost use Rattle.pb_commands.specs.WhatIf.{IsWhatIfText, WhatIfRefuses, found_rows};
 ghost use Rattle.pb_commands.specs.WhatIf.{what_if_columns};
 ghost use Rattle.pb_commands.specs.Inner.Tables.{row_of};
 ghost use Rattle.pb_commands.specs.Inner.WhatIf.{most_of};
@@ -21,12 +21,16 @@ use crate::report::whole;
 use pb_core::election::{Election, MOST_VOTERS};
 use pb_core::gate::Gate;
 use pb_core::money::Money;
+use pb_core::names::name_at;
 use pb_core::no_memory::NoMemory;
-use pb_reasons::{Change, Found, Question, Recount, Row, Verdict, WhatIf, one_change, what_if};
+use pb_reasons::{Change, Found, Question, Recount, Row, WhatIf, one_change, what_if};
 use pb_rounds::count_fault::CountFault;
 use pb_rows::{Field, RowsWriter};
 use std::alloc::Global;
 use std::thread::Threads;
+
+/// What the count of a changed election says, as rows have it, in the order of `Verdict`.
+pub(crate) const VERDICTS: [&str; 3] = ["0", "1", "refused"];
 
 /// Which changes of an election are counted.
 #[derive(Clone, Copy)]
@@ -210,7 +214,7 @@ fn put_one(rows: &mut RowsWriter, change: Change, row: Row) -> Result<(), NoMemo
     ensures { OnOk result (rows.new.text
         ≡ rows.old.text ++ text_of_row (row_of what_if_columns (change, row))) }
 {
-    let verdict = Field::Text(verdict_text(row.verdict));
+    let verdict = Field::Text(name_at(&VERDICTS, row.verdict as usize));
     match change {
         Change::Cost => {
             rows.put_fields(&[
@@ -224,15 +228,4 @@ fn put_one(rows: &mut RowsWriter, change: Change, row: Row) -> Result<(), NoMemo
         }
     }
     Ok(())
-}
-
-/// What a changed count says, as it is written.
-fn verdict_text(verdict: Verdict) -> &'static str
-    ensures { result.now ≡ verdict_text verdict }
-{
-    match verdict {
-        Verdict::Lost => "0",
-        Verdict::Won => "1",
-        Verdict::Refused => "refused",
-    }
 }

@@ -4,7 +4,6 @@ pub mod Replay
 pub mod Rows
 pub mod RowFlaw
 pub mod Standing
-pub mod StartFault
 pub mod Step
 pub mod Audit
 pub mod AuditFault

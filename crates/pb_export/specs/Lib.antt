@@ -2,5 +2,4 @@
 pub mod Export
 pub mod FileRows
 pub mod Further
-pub mod ExportFault
 pub mod Inner

@@ -26,18 +26,19 @@ pub enum ExportFault {
 
 impl ExportFault {
     ghost use Rattle.std.specs.Prelude.{◌≡◌};
-    ghost use Rattle.pb_export.specs.ExportFault.{numbered_name};
+    ghost use Rattle.pb_core.specs.Numbered.{numbered};
+    ghost use Rattle.pb_export.specs.contracts.export_fault.ExportFault.{the_type};
 
     /// The fault's number.
     pub fn number(&self) -> u32
-        ensures { result ≡ (numbered_name self.now).0 }
+        ensures { result ≡ (numbered the_type NAMES self.now).0 }
     {
         *self as u32 + 1
     }
 
     /// The fault's name.
     pub fn name(&self) -> &'static str
-        ensures { result.now ≡ (numbered_name self.now).1 }
+        ensures { result.now ≡ (numbered the_type NAMES self.now).1 }
     {
         name_at(&NAMES, *self as usize)
     }

@@ -1,18 +1,27 @@
 -- What the program says of a fault: one line, and the status that it then ends with.
 use Rattle.std.specs.Prelude.{ℕ, List, [], ◌∷◌, ◌++◌, ◌==◌, codes, decimal, flat_map, if◌then◌else◌}
 use Rattle.std.specs.Prelude.{unwrap_or}
-use Rattle.pb_desk.specs.AuditFault.{numbered_name as of_audit, at_row as audited_row}
+use Rattle.pb_core.specs.Numbered.{numbered}
+use Rattle.pb_desk.specs.AuditFault.{at_row as audited_row}
+use Rattle.pb_desk.specs.contracts.audit_fault.AuditFault.{the_type as audit_faults}
+use Rattle.pb_desk.specs.declared.audit_fault.TheConstants as of_audit
 use Rattle.pb_desk.specs.declared.audit_fault.AuditFault.TheVariants as audit
-use Rattle.pb_export.specs.ExportFault.{numbered_name as of_export}
+use Rattle.pb_export.specs.contracts.export_fault.ExportFault.{the_type as export_faults}
+use Rattle.pb_export.specs.declared.export_fault.TheConstants as of_export
 use Rattle.pb_export.specs.declared.export_fault.ExportFault.TheVariants as export
-use Rattle.pb_read.specs.Kinds.{numbered_name as of_read}
-use Rattle.pb_read.specs.Oddities.{name_of}
-use Rattle.pb_read.specs.declared.fault.ReadKind.{ReadKind}
+use Rattle.pb_read.specs.contracts.fault.ReadKind.{the_type as read_kinds}
+use Rattle.pb_read.specs.contracts.warning.Oddity.{the_type as oddities}
+use Rattle.pb_read.specs.declared.fault.TheConstants as of_read
+use Rattle.pb_read.specs.declared.warning.TheConstants as of_warning
+use Rattle.pb_read.specs.Kinds.{number_of as read_number}
 use Rattle.pb_read.specs.declared.fault.ReadKind.TheVariants as read
-use Rattle.pb_rounds.specs.CountFault.{numbered_name as of_count}
+use Rattle.pb_rounds.specs.contracts.count_fault.CountFault.{the_type as count_faults}
+use Rattle.pb_rounds.specs.declared.count_fault.TheConstants as of_count
 use Rattle.pb_rounds.specs.declared.count_fault.CountFault.TheVariants as count
 use Rattle.pb_script.specs.declared.roll.RollFault.TheVariants as roll
-use Rattle.pb_script.specs.ScriptFault.{numbered_name as of_script, at_row as script_row}
+use Rattle.pb_script.specs.ScriptFault.{at_row as script_row}
+use Rattle.pb_script.specs.contracts.script_fault.ScriptFault.{the_type as script_faults}
+use Rattle.pb_script.specs.declared.script_fault.TheConstants as of_script
 use Rattle.pb_script.specs.declared.script_fault.ScriptFault.TheVariants as script
 use Rattle.pb_faults.specs.declared.fault.AppFault.{AppFault}
 use Rattle.pb_faults.specs.declared.fault.AppFault.TheVariants.{Read, Script, ClerkCount, Audit, OtherFile}
@@ -26,11 +35,7 @@ use Rattle.pb_faults.specs.declared.words_refusal.WordsPlace.TheVariants.{Line, 
 
 -- the same fault, in which out of memory is one case, whichever crate met it
 abbrev pub merged : AppFault → AppFault
-merged (Read fault) = of_kind fault.kind
-  where
-    of_kind : ReadKind → AppFault
-    of_kind read.NoMemory = Memory
-    of_kind kind = Read fault
+merged (Read fault) = if read_number fault.kind == read_number read.NoMemory then Memory else Read fault
 merged (Script script.NoMemory) = Memory
 merged (Audit audit.NoMemory) = Memory
 merged (Count count.NoMemory) = Memory
@@ -55,18 +60,21 @@ number_of other = 3
 -- arguments are refused, the options of a count among them; 1 where what was read is, or its count. Options
 -- in range can still be too few raises for a file. What is left for the last line is that memory was refused.
 abbrev pub told : AppFault → ℕ × List (List ℕ)
-told (Read fault) = told_at (codes "read") (of_read fault.kind) fault.at
-told (Script fault) = told_at (codes "script") (of_script fault) (script_row fault)
+told (Read fault) = told_at (codes "read") (numbered read_kinds of_read.NAMES fault.kind) fault.at
+told (Script fault) = told_at (codes "script") (numbered script_faults of_script.NAMES fault) (script_row fault)
 told ClerkCount = (2, codes "clerks" ∷ codes "1" ∷ codes "ClerkCount" ∷ [])
-told (Audit fault) = told_at (codes "audit") (of_audit fault) (unwrap_or (audited_row fault) 0)
+told (Audit fault) =
+    told_at (codes "audit") (numbered audit_faults of_audit.NAMES fault) (unwrap_or (audited_row fault) 0)
 told OtherFile = (1, codes "other-file" ∷ [])
 told OpenDesk = (1, codes "open-desk" ∷ [])
-told (Count count.RaisesSpent) = (1, codes "count" ∷ codes "4" ∷ codes "RaisesSpent" ∷ [])
-told (Count fault) = (2, codes "count" ∷ decimal (of_count fault).0 ∷ (of_count fault).1 ∷ [])
-told (Export fault) = (1, codes "export" ∷ decimal (of_export fault).0 ∷ (of_export fault).1 ∷ [])
+told (Count fault) = let n = numbered count_faults of_count.NAMES fault in
+    (if n.0 == 4 then 1 else 2, codes "count" ∷ decimal n.0 ∷ n.1 ∷ [])
+told (Export fault) = let n = numbered export_faults of_export.NAMES fault in
+    (1, codes "export" ∷ decimal n.0 ∷ n.1 ∷ [])
 told (Open text) = (3, codes "open" ∷ decimal (number_of text) ∷ [])
 told Write = (3, codes "write" ∷ [])
-told (Warned warning) = (1, codes "warning" ∷ name_of warning.oddity ∷ decimal warning.at ∷ [])
+told (Warned warning) =
+    (1, codes "warning" ∷ (numbered oddities of_warning.NAMES warning.oddity).1 ∷ decimal warning.at ∷ [])
 told (Roll (roll.ReadFailed row)) = (3, codes "roll" ∷ codes "ReadFailed" ∷ decimal row ∷ [])
 told (Roll (roll.NotText row)) = (1, codes "roll" ∷ codes "NotText" ∷ decimal row ∷ [])
 told (Roll (roll.TooManyIds row)) = (1, codes "roll" ∷ codes "TooManyIds" ∷ decimal row ∷ [])

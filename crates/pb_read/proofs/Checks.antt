@@ -20,6 +20,8 @@ use Rattle.pb_read.proofs.Alike.{at_just}
 use Rattle.pb_read.specs.Inner.Machine.{Explains, Position, lowest_kind, row_fault, start}
 use Rattle.pb_read.specs.Inner.Fields.{trimmed}
 use Rattle.pb_read.specs.Stages.{IsAt, next_row}
+use Rattle.pb_read.specs.declared.progress.Stage.{Stage}
+use Rattle.pb_read.specs.declared.progress.Stage.TheVariants.{InProjects, InVotes}
 use Rattle.pb_read.specs.StandsFor.{StandsFor, most_records}
 use Rattle.pb_read.specs.Inner.Tracking.{HasCome, IsNextRow, Tracks}
 use Rattle.pb_read.specs.declared.check.Verdict.{Verdict}
@@ -199,14 +201,14 @@ stops_done (Some all) (Some left) after done kept faults p q going judged =
 pub handed_done : (all : Option (List Fields)) (faults : List ReadFault) (e : ElectionView) (election : Option ElectionView) → IfSome all (λ records. AreListed 0 records faults × (faults ≡ [] → StandsFor records e)) → (faults ≡ [] → election ≡ Some e) → (faults ≢ [] → election ≡ None) →
     IfSome all (λ records. IsHandedOut records faults election)
 handed_done None faults e election stops whole faulty = tt
-handed_done (Some all) [] e election stops whole faulty = subst (λ x. IsHandedOut all [] x) (sym (whole refl)) (stops.1 refl)
-handed_done (Some all) (first ∷ more) e election stops whole faulty = subst (λ x. IsHandedOut all (first ∷ more) x) (sym (faulty (λ e. cc))) tt
+handed_done (Some all) [] e election stops whole faulty = subst (λ x. IsHandedOut all [] x) (sym (whole refl)) (refl, stops.1 refl)
+handed_done (Some all) (first ∷ more) e election stops whole faulty = subst (λ x. IsHandedOut all (first ∷ more) x) (sym (faulty (λ e. cc))) (λ e. cc)
 
 -- none is handed out beside a fault
 pub none_handed : (all : Option (List Fields)) (faults new : List ReadFault) (fault : ReadFault) → new ≡ faults ++ fault ∷ [] → IfSome all (λ records. IsHandedOut records new None)
 none_handed None faults new fault pushed = tt
-none_handed (Some all) [] new fault pushed = subst (λ fs. IsHandedOut all fs None) (sym pushed) tt
-none_handed (Some all) (first ∷ more) new fault pushed = subst (λ fs. IsHandedOut all fs None) (sym pushed) tt
+none_handed (Some all) [] new fault pushed = subst (λ fs. IsHandedOut all fs None) (sym pushed) (λ e. cc)
+none_handed (Some all) (first ∷ more) new fault pushed = subst (λ fs. IsHandedOut all fs None) (sym pushed) (λ e. cc)
 
 -- a kind that was found, and one at which reading ends
 pub ends_at : (kind : ReadKind) (found : Option ReadKind) → Explains kind found → EndsAt kind found
@@ -220,7 +222,12 @@ explained_unless kind found said other = said
 
 -- a kind that is not left out at a stage is not at another one, which is the same unless memory was refused
 ends_both : (q p : Position) (kind : ReadKind) → (kind ≢ kinds.NoMemory → q ≡ p) → leaves_out q.0 kind ≡ false → leaves_out p.0 kind ≡ false
-ends_both q p kinds.NoMemory stays ends = refl
+ends_both q p kinds.NoMemory stays ends = memory_ends p.0
+  where
+    memory_ends : (stage : Stage) → leaves_out stage kinds.NoMemory ≡ false
+    memory_ends (InProjects columns) = refl
+    memory_ends (InVotes columns) = refl
+    memory_ends stage = refl
 ends_both q p kind stays ends = subst (λ (x : Position). leaves_out x.0 kind ≡ false) (stays (λ e. cc)) ends
 
 pub refusal_judged : (q p : Position) (found : Option ReadKind) (kind : ReadKind) (verdict : Verdict) → Explains kind found → (kind ≢ kinds.NoMemory → q ≡ p) → IsRefusal q.0 kind verdict → IsVerdict found p q verdict

@@ -7,7 +7,6 @@ pub mod Lengths
 pub mod Listed
 pub mod MetaKeys
 pub mod MetaRows
-pub mod Oddities
 pub mod Stages
 pub mod Refusals
 pub mod Rows

@@ -1,6 +1,6 @@
 -- The faults that a check of a whole file lists.
-use Rattle.std.specs.Prelude.{◌≡◌, ◌<◌, ◌+◌, ◌-◌, ◌⊎◌, ◌==◌, ◌||◌, ◌&&◌, nat_le, ℕ, ⊤, Bool, true, false}
-use Rattle.std.specs.Prelude.{List, [], ◌∷◌, remove, take, Option, Some, None}
+use Rattle.std.specs.Prelude.{◌≡◌, ◌≢◌, ◌<◌, ◌+◌, ◌-◌, ◌⊎◌, ◌==◌, ◌||◌, ◌&&◌, nat_le, ℕ, Bool, true, false}
+use Rattle.std.specs.Prelude.{List, [], ◌∷◌, remove, take, MatchOption, Option}
 use Rattle.pb_core.specs.Election.{ElectionView}
 use Rattle.pb_rows.specs.Reading.{Fields}
 use Rattle.pb_read.specs.FirstFault.{IsFaultAt}
@@ -13,19 +13,15 @@ use Rattle.pb_read.specs.declared.fault.ReadKind.{ReadKind}
 use Rattle.pb_read.specs.declared.progress.Stage.{Stage}
 use Rattle.pb_read.specs.declared.progress.Stage.TheVariants.{InProjects, InVotes}
 
--- rows of PROJECTS or VOTES are read
-abbrev pub is_in_rows : Stage → Bool
-is_in_rows (InProjects columns) = true
-is_in_rows (InVotes columns) = true
-is_in_rows stage = false
-
 -- a row has a fault of this kind by itself: NotText, MissingField, or from BadMoney to TooManyVoters
 abbrev pub is_of_row : ReadKind → Bool
 is_of_row kind = number_of kind == 2 || number_of kind == 8 || (nat_le 11 (number_of kind) && nat_le (number_of kind) 20)
 
--- a record that comes at this stage is left out for a fault of this kind
+-- a record that comes at this stage is left out for a fault of this kind: a row of PROJECTS or VOTES alone
 abbrev pub leaves_out : Stage → ReadKind → Bool
-leaves_out stage kind = is_of_row kind && is_in_rows stage
+leaves_out (InProjects columns) kind = is_of_row kind
+leaves_out (InVotes columns) kind = is_of_row kind
+leaves_out stage kind = false
 
 -- whether the record with this number, from 1, is left out for a fault of this kind, by what the rows before
 -- it come to
@@ -47,7 +43,5 @@ AreListed out records (fault ∷ more) =
 -- what a check that lists these faults hands out: where there is none the election that the records stand
 -- for, else nothing
 abbrev pub IsHandedOut : List Fields → List ReadFault → Option ElectionView → Type 0
-IsHandedOut records [] (Some e) = StandsFor records e
-IsHandedOut records [] None = ⊥
-IsHandedOut records (fault ∷ more) (Some e) = ⊥
-IsHandedOut records (fault ∷ more) None = ⊤
+IsHandedOut records faults election =
+    MatchOption election (faults ≢ []) (λ e. (faults ≡ []) × StandsFor records e)

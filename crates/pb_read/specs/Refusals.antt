@@ -1,41 +1,36 @@
 -- What the fault of a record is about.
-use Rattle.std.specs.Prelude.{ℕ, not, ◌||◌, ◌==◌, Option, Some, None, position}
+use Rattle.std.specs.Prelude.{ℕ, not, ◌||◌, ◌==◌, nat_le, if◌then◌else◌, Option, Some, None, position}
 use Rattle.std.specs.List.{slice_split}
 use Rattle.std.specs.Str.{bytes_eq, trim}
 use Rattle.pb_core.specs.Election.{ElectionView, project_ids, voter_ids}
 use Rattle.pb_rows.specs.Reading.{Fields}
+use Rattle.pb_read.specs.Kinds.{number_of}
 use Rattle.pb_read.specs.Rows.{field, is_empty}
 use Rattle.pb_read.specs.Voting.{is_among}
 use Rattle.pb_read.specs.declared.column.Column.{Column}
 use Rattle.pb_read.specs.declared.column.Column.TheVariants.{Key, ProjectId, Cost, VoterId, Vote}
 use Rattle.pb_read.specs.declared.fault.ReadFault.{ReadFault}
 use Rattle.pb_read.specs.declared.fault.ReadKind.{ReadKind}
-use Rattle.pb_read.specs.declared.fault.ReadKind.TheVariants.{BadMoney, MoneyTooFine, MoneyTooLarge, VoteType, BadLength}
-use Rattle.pb_read.specs.declared.fault.ReadKind.TheVariants.{ZeroCost, EmptyId, RepeatedProject, RepeatedVoter, UnknownProject}
+use Rattle.pb_read.specs.declared.fault.ReadKind.TheVariants.{VoteType, BadLength, RepeatedProject, RepeatedVoter, UnknownProject}
 use Rattle.pb_read.specs.declared.meta_key.MetaKey.TheVariants as key
 use Rattle.pb_read.specs.declared.progress.Stage.{Stage}
 use Rattle.pb_read.specs.declared.progress.Stage.TheVariants.{InMeta, InProjects, InVotes}
 use Rattle.pb_read.specs.declared.refusal.Refusal.{Refusal}
 
--- an amount that is refused is META's budget at the end of META, and otherwise a project's cost
-abbrev pub amount_column : Stage → Column
-amount_column (InMeta meta) = Key key.Budget
-amount_column stage = Cost
+-- an amount that is refused at this stage, which at the end of META is its budget, and an id
+abbrev pub amount_and_id : Stage → Column × Column
+amount_and_id (InMeta meta) = (Key key.Budget, ProjectId)
+amount_and_id (InVotes columns) = (Cost, VoterId)
+amount_and_id stage = (Cost, ProjectId)
 
--- the column of the value that a fault of this kind refuses, of a row that comes at this stage
+-- the column of the value that a fault of this kind refuses, of a row that comes at this stage: BadMoney to
+-- ZeroCost refuse an amount, EmptyId to RepeatedVoter an id
 abbrev pub column_of : ReadKind → Stage → Option Column
 column_of VoteType stage = Some (Key key.VoteType)
 column_of BadLength stage = Some (Key key.MaxLength)
-column_of BadMoney stage = Some (amount_column stage)
-column_of MoneyTooFine stage = Some (amount_column stage)
-column_of MoneyTooLarge stage = Some (amount_column stage)
-column_of ZeroCost stage = Some Cost
-column_of EmptyId (InVotes columns) = Some VoterId
-column_of EmptyId stage = Some ProjectId
-column_of RepeatedProject stage = Some ProjectId
-column_of RepeatedVoter stage = Some VoterId
 column_of UnknownProject stage = Some Vote
-column_of kind stage = None
+column_of kind stage = let n = number_of kind in if nat_le n 10 || nat_le 18 n then None
+    else Some (if nat_le n 14 then (amount_and_id stage).0 else (amount_and_id stage).1)
 
 -- the first of the pieces between a vote's commas (code 44), from 0, that is neither empty nor a project's id
 abbrev pub piece_of : ReadKind → Stage × ElectionView → Fields → Option ℕ

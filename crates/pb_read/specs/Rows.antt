@@ -1,12 +1,14 @@
 -- The rows of a file: its records, each field trimmed, without those that are blank.
-use Rattle.std.specs.Prelude.{ℕ, Bool, not, List, [], ◌∷◌, map, filter, true, false, Option, None, Some}
-use Rattle.std.specs.Prelude.{codes, if◌then◌else◌}
+use Rattle.std.specs.Prelude.{ℕ, Bool, not, List, [], ◌∷◌, find, map, filter, true, false, Option}
 use Rattle.std.specs.List.{list_all, slice_index_or}
 use Rattle.std.specs.Char.{to_ascii_lowercase}
 use Rattle.std.specs.Str.{trim, bytes_eq}
+use Rattle.pb_core.specs.Numbered.{numbered}
 use Rattle.pb_rows.specs.Reading.{Fields}
+use Rattle.pb_read.specs.contracts.section.Section.{the_type}
 use Rattle.pb_read.specs.declared.section.Section.{Section}
 use Rattle.pb_read.specs.declared.section.Section.TheVariants.{Meta, Projects, Votes}
+use Rattle.pb_read.specs.declared.section.TheConstants.{NAMES}
 
 abbrev pub is_empty : List ℕ → Bool
 is_empty [] = true
@@ -28,10 +30,7 @@ field row place = slice_index_or row place []
 abbrev pub is_word : List ℕ → List ℕ → Bool
 is_word word text = bytes_eq (map to_ascii_lowercase word) (map to_ascii_lowercase text)
 
--- the section whose head a row is: its first field decides
+-- the section whose head a row is: its first field is its name, by the table of these
 unfoldable pub head_of : Fields → Option Section
 head_of row =
-    if is_word (codes "META") (field row 0) then Some Meta
-    else if is_word (codes "PROJECTS") (field row 0) then Some Projects
-    else if is_word (codes "VOTES") (field row 0) then Some Votes
-    else None
+    find (λ name. is_word (numbered the_type NAMES name).1 (field row 0)) (Meta ∷ Projects ∷ Votes ∷ [])

@@ -4,7 +4,7 @@ ghost use Rattle.std.specs.Prelude.{◌≡◌, ◌≢◌, ◌==◌, position};
 ghost use Rattle.std.specs.List.{slice_split};
 ghost use Rattle.pb_read.specs.Inner.Ids.{is_unknown};
 ghost use Rattle.pb_read.specs.Inner.Progresses.{IsReady, place_of};
-ghost use Rattle.pb_read.specs.Refusals.{amount_column, column_of, earlier_of, piece_of, refusal_of};
+ghost use Rattle.pb_read.specs.Refusals.{amount_and_id, column_of, earlier_of, piece_of, refusal_of};
 ghost use Rattle.pb_read.specs.declared.fault.ReadKind.TheVariants.{NoMemory};
 
 use crate::column::Column;
@@ -71,16 +71,13 @@ fn column_of(stage: Stage, kind: ReadKind) -> Option<Column>
     match kind {
         ReadKind::VoteType => Some(Column::Key(MetaKey::VoteType)),
         ReadKind::BadLength => Some(Column::Key(MetaKey::MaxLength)),
-        ReadKind::BadMoney | ReadKind::MoneyTooFine | ReadKind::MoneyTooLarge => {
-            Some(amount_column(stage))
+        ReadKind::BadMoney
+        | ReadKind::MoneyTooFine
+        | ReadKind::MoneyTooLarge
+        | ReadKind::ZeroCost => Some(amount_column(stage)),
+        ReadKind::EmptyId | ReadKind::RepeatedProject | ReadKind::RepeatedVoter => {
+            Some(id_column(stage))
         }
-        ReadKind::ZeroCost => Some(Column::Cost),
-        ReadKind::EmptyId => match stage {
-            Stage::InVotes(_) => Some(Column::VoterId),
-            _ => Some(Column::ProjectId),
-        },
-        ReadKind::RepeatedProject => Some(Column::ProjectId),
-        ReadKind::RepeatedVoter => Some(Column::VoterId),
         ReadKind::UnknownProject => Some(Column::Vote),
         _ => None,
     }
@@ -88,11 +85,21 @@ fn column_of(stage: Stage, kind: ReadKind) -> Option<Column>
 
 /// The column of an amount: META's budget at the end of META, and otherwise a project's cost.
 fn amount_column(stage: Stage) -> Column
-    ensures { result ≡ amount_column stage }
+    ensures { result ≡ (amount_and_id stage).0 }
 {
     match stage {
         Stage::InMeta(_) => Column::Key(MetaKey::Budget),
         _ => Column::Cost,
+    }
+}
+
+/// The column of an id: in VOTES a voter's, and otherwise a project's.
+fn id_column(stage: Stage) -> Column
+    ensures { result ≡ (amount_and_id stage).1 }
+{
+    match stage {
+        Stage::InVotes(_) => Column::VoterId,
+        _ => Column::ProjectId,
     }
 }
 

@@ -6,7 +6,7 @@ ghost use Rattle.pb_rows.specs.Reading.{Fields, records_of};
 ghost use Rattle.pb_rows.specs.Inner.Reading.{HasReadAtMost};
 ghost use Rattle.pb_read.specs.Inner.Checking.{Blames, GoesOn, IsGoing, IsRefusal, Judges, JudgesEnd, JudgesRow};
 ghost use Rattle.pb_read.specs.Inner.Checking.{Stops};
-ghost use Rattle.pb_read.specs.Listed.{AreListed, IsHandedOut, is_of_row};
+ghost use Rattle.pb_read.specs.Listed.{AreListed, IsHandedOut};
 ghost use Rattle.pb_read.specs.Shown.{IsAll, Sight, WereShown};
 ghost use Rattle.pb_read.specs.Inner.Showing.{IsShownNext, IsShownRow, Shows, ShowsStop};
 ghost use Rattle.pb_read.specs.Inner.Progresses.{BlamesReader, IsReady, place_of};
@@ -371,16 +371,8 @@ impl Check {
     {
         match kind {
             ReadKind::NoMemory => Verdict::Ends(kind),
-            _ if is_of_row(kind) && self.progress.is_in_rows() => Verdict::LeavesOut(kind),
+            _ if self.progress.leaves_out(kind) => Verdict::LeavesOut(kind),
             _ => Verdict::Ends(kind),
         }
     }
-}
-
-/// Whether rows of PROJECTS and VOTES have a fault of this kind by themselves.
-fn is_of_row(kind: ReadKind) -> bool
-    ensures { result ≡ is_of_row kind }
-{
-    let number = kind.number();
-    number == 2 || number == 8 || (11 <= number && number <= 20)
 }

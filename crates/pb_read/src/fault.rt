@@ -1,7 +1,9 @@
 //! Why a file is refused, and where.
 
 ghost use Rattle.std.specs.Prelude.{◌≡◌};
-ghost use Rattle.pb_read.specs.Kinds.{number_of, numbered_name};
+ghost use Rattle.pb_core.specs.Numbered.{numbered};
+ghost use Rattle.pb_read.specs.Kinds.{number_of};
+ghost use Rattle.pb_read.specs.contracts.fault.ReadKind.{the_type};
 
 use pb_core::money_fault::MoneyFault;
 use pb_core::names::name_at;
@@ -130,7 +132,7 @@ impl ReadKind {
 
     /// The kind's name, as fault lines print it.
     pub fn name(&self) -> &'static str
-        ensures { result.now ≡ (numbered_name self.now).1 }
+        ensures { result.now ≡ (numbered the_type NAMES self.now).1 }
     {
         name_at(&NAMES, *self as usize)
     }
@@ -177,7 +179,7 @@ impl ReadFault {
 
     /// The name of its kind, as fault lines print it.
     pub fn name(&self) -> &'static str
-        ensures { result.now ≡ (numbered_name self.now.kind).1 }
+        ensures { result.now ≡ (numbered the_type NAMES self.now.kind).1 }
     {
         self.kind.name()
     }

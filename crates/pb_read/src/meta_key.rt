@@ -4,6 +4,10 @@ ghost use Rattle.std.specs.Prelude.{◌≡◌};
 ghost use Rattle.pb_read.specs.MetaKeys.{key_of, key_text};
 
 use crate::row::is_word;
+use pb_core::names::name_at;
+
+/// The keys as a file writes them, in the order of `MetaKey`.
+pub const NAMES: [&str; 3] = ["budget", "vote_type", "max_length"];
 
 /// A key of META that the desk or the count uses; readers pass over all others. This is the one table of
 /// these keys: whoever needs one of them, or its text, asks here.
@@ -25,11 +29,7 @@ impl MetaKey {
     pub fn text(&self) -> &'static str
         ensures { result.now ≡ key_text self.now }
     {
-        match self {
-            MetaKey::Budget => "budget",
-            MetaKey::VoteType => "vote_type",
-            MetaKey::MaxLength => "max_length",
-        }
+        name_at(&NAMES, *self as usize)
     }
 
     /// The key that a field names, upper and lower case of ASCII aside.

@@ -1,7 +1,7 @@
 //! How far a file was read.
 
 ghost use Rattle.std.specs.Prelude.{◌≡◌, ◌≢◌, None, false, Some, IfErr, OnOk, MatchResult};
-ghost use Rattle.pb_read.specs.Listed.{is_in_rows, leaves_out};
+ghost use Rattle.pb_read.specs.Listed.{is_of_row, leaves_out};
 ghost use Rattle.pb_read.specs.Stages.{head, next_row, plain, the_end};
 ghost use Rattle.pb_core.specs.Election.{opening};
 ghost use Rattle.pb_read.specs.Inner.Machine.{meta_checks, terms_said};
@@ -161,11 +161,14 @@ impl Progress {
         Ok(Part::Names(section))
     }
 
-    /// Whether rows of PROJECTS or of VOTES are read.
-    pub(crate) fn is_in_rows(&self) -> bool
-        ensures { result ≡ is_in_rows self.now.stage }
+    /// Whether a record that comes here is left out for a fault of this kind: a row of PROJECTS or VOTES alone.
+    pub(crate) fn leaves_out(&self, kind: ReadKind) -> bool
+        ensures { result ≡ leaves_out self.now.stage kind }
     {
-        matches!(self.stage, Stage::InProjects(_) | Stage::InVotes(_))
+        match self.stage {
+            Stage::InProjects(_) | Stage::InVotes(_) => is_of_row(kind),
+            _ => false,
+        }
     }
 
     /// Whether the file may end here, or why not.
@@ -182,4 +185,12 @@ impl Progress {
             Stage::Start | Stage::InMeta(_) | Stage::InProjects(_) => Err(ReadKind::NoSection),
         }
     }
+}
+
+/// Whether rows of PROJECTS and VOTES have a fault of this kind by themselves.
+fn is_of_row(kind: ReadKind) -> bool
+    ensures { result ≡ is_of_row kind }
+{
+    let number = kind.number();
+    number == 2 || number == 8 || (11 <= number && number <= 20)
 }

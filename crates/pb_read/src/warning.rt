@@ -1,7 +1,8 @@
 //! What is accepted in a file, and probably not meant.
 
 ghost use Rattle.std.specs.Prelude.{◌≡◌};
-ghost use Rattle.pb_read.specs.Oddities.{name_of};
+ghost use Rattle.pb_core.specs.Numbered.{numbered};
+ghost use Rattle.pb_read.specs.contracts.warning.Oddity.{the_type};
 
 use pb_core::names::name_at;
 
@@ -59,7 +60,7 @@ pub enum Oddity {
 impl Oddity {
     /// Its name, as rows and fault lines print it.
     pub fn name(&self) -> &'static str
-        ensures { result.now ≡ name_of self.now }
+        ensures { result.now ≡ (numbered the_type NAMES self.now).1 }
     {
         name_at(&NAMES, *self as usize)
     }

@@ -49,19 +49,19 @@ module _ (s : Seen) (q : Question) where
     | inr more ↦ let same : next ≡ 2 ^ k = omega (arith, is, more, within) in subst (λ (n : ℕ). IsTrue s q Voters (record { value = n; verdict = Lost })) same here
   ]
 
-  -- rows of which the second does not lose
-  pub doubled_up_to : (last : ℕ) (a b : Row) → Loses last → ((k : ℕ) → 2 ^ k ≤ a.value → 2 ^ k ≤ last) → b.verdict ≢ Lost → AreDoubled s q a b
-  doubled_up_to last a b before few other k within = elim within [
-    | inl first ↦ before k (few k first)
-    | inr second ↦ absurd (other second.0)
-  ]
+  -- rows between the last value that loses and its double
+  pub doubled_up_to : (last : ℕ) (a b : Row) → IsGap last → Loses last → last ≤ a.value → b.value ≤ max (2 * last) 1 → AreDoubled s q a b
+  doubled_up_to last a b gap before from to = record {
+    lose = λ k below. before k (gap k (omega (arith, below, to)));
+    near = λ other. omega (arith, from, to);
+  }
 
-  -- rows of which the first is of no further voter
-  pub doubled_from_none : (a b : Row) → a.value ≡ 0 → Loses b.value → AreDoubled s q a b
-  doubled_from_none a b none all k within = elim within [
-    | inl first ↦ loses_none k (omega (arith, none, first))
-    | inr second ↦ all k second.1
-  ]
+  -- rows of which the second loses
+  pub doubled_to_loser : (a b : Row) → b.verdict ≡ Lost → Loses b.value → AreDoubled s q a b
+  doubled_to_loser a b loses all = record {
+    lose = λ k below. all k (omega (arith, below));
+    near = λ other. absurd (other loses);
+  }
 
 -- what wins, or is refused, does not lose
 pub won_apart : (v : Verdict) → wins v ≡ true → v ≢ Lost

@@ -1,6 +1,6 @@
 -- What the counts of a changed election say of a project, and what a search of such changes finds.
 use Rattle.std.specs.Prelude.{◌≡◌, ◌≢◌, ℕ, ◌+◌, ◌-◌, ◌*◌, ◌^◌, ◌<◌, ◌≤◌, ◌⊎◌, List, [], ◌∷◌, ◌++◌, if◌then◌else◌}
-use Rattle.std.specs.Prelude.{length, map, min, replicate, slice_set}
+use Rattle.std.specs.Prelude.{length, map, max, min, replicate, slice_set}
 use Rattle.pb_core.specs.Election.{ElectionView, IsElection, most_voters}
 use Rattle.pb_core.specs.Money.{largest_money}
 use Rattle.pb_reasons.specs.Counted.{counted, is_selected}
@@ -54,11 +54,11 @@ pub record IsFound (s : Seen) (q : Question) (change : Change) (low high : ℕ) 
   pub differ : a.verdict ≢ b.verdict → (low ≤ a.value) × (a.value < b.value) × (b.value ≤ high)
   pub step : a.verdict ≢ b.verdict → a.verdict ≢ Refused → b.verdict ≢ Refused → b.value ≡ a.value + 1
 
--- with 1, 2, 4, 8 and so on further voters the project loses, up to the first row, and up to the second where
--- that one loses too
-abbrev pub AreDoubled : Seen → Question → (a b : Row) → Type 0
-AreDoubled s q a b = (k : ℕ) → ((2 ^ k ≤ a.value) ⊎ (b.verdict ≡ Lost) × (2 ^ k ≤ b.value))
-    → IsTrue s q Voters (record { value = 2 ^ k; verdict = Lost })
+-- with 1, 2, 4, 8 and so on further voters, below the second row, the project loses; and unless it loses there
+-- too, that is at most twice the first row, or 1
+pub record AreDoubled (s : Seen) (q : Question) (a b : Row) : Type 0 where
+  pub lose : (k : ℕ) → 2 ^ k < b.value → IsTrue s q Voters (record { value = 2 ^ k; verdict = Lost })
+  pub near : b.verdict ≢ Lost → b.value ≤ max (2 * a.value) 1
 
 -- What is found for a project of this cost: for a winner a higher cost, up to ten times it, and for a loser a
 -- lower one, or further voters, up to as many again; with 1, 2, 4 and so on up to there it loses.

@@ -1,16 +1,9 @@
 -- Which options a count refuses.
-use Rattle.std.specs.Prelude.{ℕ, List, Option, Some, None, ◌&&◌, not, nat_le, if◌then◌else◌}
-use Rattle.pb_core.specs.Numbered.{numbered}
+use Rattle.std.specs.Prelude.{ℕ, Option, Some, None, ◌&&◌, not, nat_le, if◌then◌else◌}
 use Rattle.pb_price.specs.PriceFault.{is_worker_count}
-use Rattle.pb_rounds.specs.contracts.count_fault.CountFault.{the_type}
 use Rattle.pb_rounds.specs.declared.count_fault.CountFault.{CountFault}
-use Rattle.pb_rounds.specs.declared.count_fault.TheConstants.{NAMES}
 use Rattle.pb_rounds.specs.declared.count_fault.CountFault.TheVariants.{RaisesRange, StepRange, WorkerCount}
 use Rattle.pb_rounds.specs.declared.options.CountOptions.{CountOptions}
-
--- the fault's number and name
-abbrev pub numbered_name : CountFault → ℕ × List ℕ
-numbered_name fault = numbered the_type NAMES fault
 
 -- the most that a raise can lift everyone's share by, in hundredths
 abbrev pub largest_step : ℕ

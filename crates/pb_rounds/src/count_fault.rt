@@ -1,7 +1,8 @@
 //! Why a count gives no outcome.
 
 ghost use Rattle.std.specs.Prelude.{◌≡◌};
-ghost use Rattle.pb_rounds.specs.CountFault.{numbered_name};
+ghost use Rattle.pb_core.specs.Numbered.{numbered};
+ghost use Rattle.pb_rounds.specs.contracts.count_fault.CountFault.{the_type};
 ghost use Rattle.pb_rounds.specs.declared.count_fault.CountFault.TheVariants as fault;
 
 use pb_core::names::name_at;
@@ -40,14 +41,14 @@ pub enum CountFault {
 impl CountFault {
     /// The fault's number, from 1.
     pub fn number(&self) -> u32
-        ensures { result ≡ (numbered_name self.now).0 }
+        ensures { result ≡ (numbered the_type NAMES self.now).0 }
     {
         *self as u32 + 1
     }
 
     /// The fault's name.
     pub fn name(&self) -> &'static str
-        ensures { result.now ≡ (numbered_name self.now).1 }
+        ensures { result.now ≡ (numbered the_type NAMES self.now).1 }
     {
         name_at(&NAMES, *self as usize)
     }

@@ -1,17 +1,10 @@
--- The numbers, the names and the rows of a script's faults.
-use Rattle.std.specs.Prelude.{ℕ, ◌+◌, List}
-use Rattle.pb_core.specs.Numbered.{numbered}
+-- The rows of a script's faults.
+use Rattle.std.specs.Prelude.{ℕ, ◌+◌}
 use Rattle.pb_script.specs.Script.{most_rows}
-use Rattle.pb_script.specs.contracts.script_fault.ScriptFault.{the_type}
 use Rattle.pb_script.specs.declared.script_fault.ScriptFault.{ScriptFault}
 use Rattle.pb_script.specs.declared.script_fault.ScriptFault.TheVariants.{ReadFailed, BadRow, TooManyRows}
 use Rattle.pb_script.specs.declared.script_fault.ScriptFault.TheVariants.{NoMemory, UnknownId, NotOnRoll}
 use Rattle.pb_script.specs.declared.script_fault.ScriptFault.TheVariants.{TooFew, FromFile, NoShut}
-use Rattle.pb_script.specs.declared.script_fault.TheConstants.{NAMES}
-
--- the fault's number and name
-abbrev pub numbered_name : ScriptFault → ℕ × List ℕ
-numbered_name fault = numbered the_type NAMES fault
 
 -- the number of the fault's row, from 1; out of memory is the fault of no row
 abbrev pub at_row : ScriptFault → ℕ

@@ -1,7 +1,9 @@
 //! Why a script is refused.
 
 ghost use Rattle.std.specs.Prelude.{◌≡◌};
-ghost use Rattle.pb_script.specs.ScriptFault.{at_row, numbered_name};
+ghost use Rattle.pb_core.specs.Numbered.{numbered};
+ghost use Rattle.pb_script.specs.ScriptFault.{at_row};
+ghost use Rattle.pb_script.specs.contracts.script_fault.ScriptFault.{the_type};
 
 use crate::script::MOST_ROWS;
 use pb_core::names::name_at;
@@ -79,7 +81,7 @@ impl From<AllocError> for ScriptFault {
 impl ScriptFault {
     /// The fault's number, from 1.
     pub fn number(&self) -> u32
-        ensures { result ≡ (numbered_name self.now).0 }
+        ensures { result ≡ (numbered the_type NAMES self.now).0 }
     {
         match self {
             ScriptFault::ReadFailed(_) => 1,
@@ -96,7 +98,7 @@ impl ScriptFault {
 
     /// The fault's name.
     pub fn name(&self) -> &'static str
-        ensures { result.now ≡ (numbered_name self.now).1 }
+        ensures { result.now ≡ (numbered the_type NAMES self.now).1 }
     {
         name_at(&NAMES, self.number() as usize - 1)
     }

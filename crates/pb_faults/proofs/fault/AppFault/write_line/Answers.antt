@@ -1,7 +1,6 @@
 use Rattle.std.proofs.Common.{◌≡◌, ◌∙◌, ap, refl, sym, subst, ℕ, List, Option, OnOk}
 use Rattle.std.specs.Prelude.{Result}
 use Rattle.std.specs.Io.KnownBytes.{Appends}
-use Rattle.pb_faults.proofs.CountFields.{count_fields}
 use Rattle.pb_faults.specs.Fault.{line, told}
 use Rattle.pb_faults.specs.declared.fault.AppFault.{AppFault}
 use Rattle.pb_faults.specs.declared.fault.AppFault.TheVariants.{Read, ClerkCount, OpenDesk, Count, Open}
@@ -24,7 +23,7 @@ returns-in-ClerkCount g c = of_fields c.write_fields.result _ _ _ ClerkCount _ (
 pub returns-in-Count : goal.returns-in-Count
 returns-in-Count g c =
     let said = rw (c.number-in-Count.ensures, c.name-in-Count.ensures) at c.write_numbered.ensures in
-    of_fields c.write_numbered.result _ _ _ (Count c.in-Count.fault) _ (sym c.merged.ensures ∙ c.in-Count.is) (count_fields c.in-Count.fault) said
+    of_fields c.write_numbered.result _ _ _ (Count c.in-Count.fault) _ (sym c.merged.ensures ∙ c.in-Count.is) refl said
 
 pub returns-in-Open : goal.returns-in-Open
 returns-in-Open g c = of_fields c.write_of_text.result _ _ _ (Open c.in-Open.text) _ (sym c.merged.ensures ∙ c.in-Open.is) refl c.write_of_text.ensures
