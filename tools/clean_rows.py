@@ -17,17 +17,21 @@ GROUPS = re.compile(r'[1-9][0-9]{0,2}([.,])[0-9]{3}((?:\1[0-9]{3})*)(?:(?!\1)([.
 SPACES = ' \u00a0\u2009\u202f\'’'
 SPACED = re.compile(f'[1-9][0-9]{{0,2}}([{SPACES}])[0-9]{{3}}(?:\\1[0-9]{{3}})*(?:[.,][0-9]+)?')
 DECIMALS = re.compile('[0-9]+([.,])[0-9]+')
+MARKS = re.compile(r'[\W_]*')
+# Letters that are read as digits.
+ALIKE = str.maketrans('oil', '011')
 SHORTENED = re.compile(r'[0-9]+(?:[.,][0-9]+)?E\+[0-9]+', re.I)
-# A date as a workbook's cell has it; as a spreadsheet writes it; as an id that can hardly be anything else.
+# A date as a workbook's cell has it; as a spreadsheet writes it.
 CELL_DATE = re.compile(r'[0-9]{4}-[0-9]{2}-[0-9]{2}T[0-9:.]+|[0-9]{2}:[0-9]{2}:[0-9]{2}(?:\.[0-9]+)?')
 MONTH = '(?:jan|feb|f[eé]v|mar|mär|apr|avr|abr|ma[ijy]|jun|jui|jul|aug|ao[uû]|ago|sep|set|o[ck]t|ott|out|' \
         'nov|de[cz]|dic|sty|lut|kwi|cze|lip|sie|wrz|paź|lis|gru)[^\\W\\d_]{0,7}'
-NAMED_DATE = rf'[0-9]{{1,2}}[-. ]+{MONTH}\.?(?:[-. ]+[0-9]{{2,4}})?|{MONTH}[-. ]+[0-9]{{1,4}}'
-DATE = re.compile(rf'[0-9]{{1,4}}[-./][0-9]{{1,2}}[-./][0-9]{{1,4}}|{NAMED_DATE}', re.I)
-MADE_DATE = re.compile(r'[0-9]{4}-[0-9]{2}-[0-9]{2}|[0-9]{1,2}[./][0-9]{1,2}[./][0-9]{4}|' + NAMED_DATE, re.I)
+MADE_DATE = re.compile(r'[0-9]{4}-[0-9]{2}-[0-9]{2}|[0-9]{1,2}[./][0-9]{1,2}[./][0-9]{4}|'
+                       rf'[0-9]{{1,2}}[-. ]+{MONTH}\.?(?:[-. ]+[0-9]{{2,4}})?|{MONTH}[-. ]+[0-9]{{1,4}}', re.I)
 # Columns whose votes are no approvals, and columns that say which rows count, which no count reads.
 POINTS = {*'points point score scores rank ranks ranking weight weights votes count'.split()}
 STATES = {*'valid invalid is_valid accepted status state withdrawn cancelled deleted'.split()}
+# How many refusals are told; as many ids as a file may have projects.
+MOST_TOLD, MOST_UNKNOWN = 20, 10_000
 # What a count needs of META, and may have.
 NEEDED = 'budget', 'vote_type', 'max_length'
 # What programs write where there is no value.
@@ -47,25 +51,27 @@ REMEDIES = {
     'NoSection': 'a section is missing, or the file does not begin with META',
     'SectionOrder': 'the sections are META, PROJECTS and VOTES, in this order and each once',
     'NoHeader': "the row of column names below the section's heading is missing",
-    'MissingColumn': 'PROJECTS needs the columns project_id and cost; VOTES needs voter_id and vote, or '
-                     'voter_id and project_id with a row for each vote',
+    'MissingColumn': 'needed are project_id and cost; voter_id, and vote or (a row a vote) project_id',
     'MissingField': 'the row is too short: complete it, or delete it if it is a total or a note',
     'MissingKey': 'META needs budget;AMOUNT and vote_type;approval',
     'VoteType': 'only approval ballots are counted; if each voter picks one project, name `--single-choice`',
     'BadMoney': 'an amount is digits, with at most one point or comma: no currency, no minus, no letters',
     'MoneyTooFine': 'more than two decimals: if that is meant, name `--round half-up`, `down` or `up`',
     'MoneyTooLarge': 'the amount has too many digits',
-    'ZeroCost': 'the project costs 0: write its cost, or drop it and the votes for it by `--drop-zero-cost`',
+    'ZeroCost': 'the cost is 0: write it, or drop the project and the votes for it by `--drop-zero-cost`',
     'EmptyId': 'the id is empty: fill it in; if the row is a total or a note, delete it',
     'RepeatedProject': 'an earlier row has the same project id: give one of the two projects another id',
-    'RepeatedVoter': 'an earlier row has the same voter id. If the rows are one ballot, name '
-                     '`--repeated-voters merge`; if they are different people, `distinct`; if only the first '
-                     'or last row is valid, `first` or `last`',
+    'RepeatedVoter': 'an earlier row has the same voter id: if they are one ballot, name `--repeated-voters '
+                     'merge`; if different people, `distinct`; if one of them is valid, `first` or `last`',
     'BadLength': 'max_length is a number without decimals, or empty'}
 
-TAIL = 'only the last rows name it, and no project: if they are totals or notes, delete them; if the ' \
-       'project was withdrawn, take its id out of them'
+# Why an id that no project has is never dropped.
+TAIL = 'only the last rows name it, and no project: if the file is cut off, get it again; if they are ' \
+       'totals or notes, delete them; if the project was withdrawn, take its id out of them'
 NO_VOTE = 'no vote names a project: PROJECTS may be of another election, or its ids were changed'
+NO_FORM = 'it is not like the ids of PROJECTS, so it is never dropped: ask what it means; if a program changed ' \
+          'it, get the votes again, as text; if the row has titles or notes, delete it'
+ALIKE_VOTERS = "ids of voters differ from another only by case, white space or characters that can't be seen"
 
 def seen(text):
     """The text without white space, and without what nobody sees, at its ends."""
@@ -79,6 +85,21 @@ def shown(text):
     """A value as words show it."""
     text = ''.join(it if it.isprintable() else f'\\u{{{ord(it):x}}}' for it in text[:61])
     return '`' + (text if len(text) <= 60 else text[:60] + '..') + '`'
+
+def form_of(text):
+    """An id but for its digits."""
+    return re.sub('[0-9]+', '0', text)
+
+def kinds_of(text):
+    """The kinds of an id's characters: digits, small and capital letters from a to z; each other is one itself."""
+    return {*re.sub('[A-Z]', 'A', re.sub('[a-z]', 'a', form_of(text)))}
+
+def voters_alike(rows):
+    """Of rows by the voter's id those whose id differs from another only by case, or what nobody sees."""
+    gone = dict.fromkeys(map(ord, EDGES))
+    forms = {it: it.casefold().translate(gone) for it in rows}
+    counts = collections.Counter(forms.values())
+    return [row for it, row in rows.items() if counts[forms[it]] > 1]
 
 def row_text(fields):
     """A row as it is written."""
@@ -105,10 +126,12 @@ def key_behind(rows):
     return re.sub('[0-9]+$', lambda it: str(int(it[0]) + 1), rows[-1].key)
 
 def plain(project):
-    """The id without what gets changed: case, white space, dashes, marks at its ends, zeros, `.0`."""
-    text = unicodedata.normalize('NFKC', project).casefold()
-    text = re.sub(r'\s|^[\W_]+|[\W_]+$', '', re.sub('[\u00ad\u2010-\u2015\u2212]', '-', text))
-    return re.sub(r'\.0$', '', text).lstrip('0') or '0'
+    """The id without what gets changed: case, white space, dashes, marks around it, zeros, `.0`, O for 0."""
+    text = ''.join(unicodedata.normalize('NFKC', project).casefold().split())
+    text = re.sub('[\u00ad\u2010-\u2015\u2212]', '-', text)
+    text = text[MARKS.match(text).end():]
+    text = text[:len(text) - MARKS.match(text[::-1]).end()]
+    return re.sub('(?<![0-9])0+(?=[0-9])', '', text.removesuffix('.0').translate(ALIKE))
 
 class Row:
     """A row: its key in LOG, its fields (None where it is left out), its changes, the names of columns."""
@@ -151,7 +174,10 @@ class Cleaner:
         self.is_cut = any(it[2] == 'separator' for it in reading)
         # By row why it is refused; by what the summary says, and by unknown id, the rows.
         self.refusals, self.notes, self.unknown = (collections.defaultdict(list) for _ in range(3))
-        self.pieces_of = functools.lru_cache(1 << 16)(self.pieces_of)
+        self.has_zeros = False
+        # Votes and their pieces repeat: what is found of one is kept.
+        keep = functools.lru_cache(1 << 16)
+        self.pieces_of, self.mended_piece = keep(self.pieces_of), keep(self.mended_piece)
 
     def refuse(self, row, words):
         self.refusals[row].append(words)
@@ -354,10 +380,11 @@ class Cleaner:
         self.zero -= {*self.ids}
         # A character that an id has separates nothing in votes.
         self.is_free = {it: not any(it in project for project in self.ids) for it in '|[](){}' + QUOTES}
-        self.alike = {plain(it): it for it in self.ids}
+        self.alike, self.forms = {plain(it): it for it in self.ids}, {*map(form_of, self.ids)}
+        self.kinds, self.has_words = kinds_of(''.join(self.ids)), any('0' not in it for it in self.forms)
         lengths = {*map(len, self.ids)}
         self.length = lengths.pop() if len(lengths) == 1 else 3
-        self.dated = next(filter(MADE_DATE.fullmatch, self.ids), '')
+        self.dated = [*filter(MADE_DATE.fullmatch, self.ids)]
 
     def judge_id(self, row, text):
         if SHORTENED.fullmatch(text) or CELL_DATE.fullmatch(text):
@@ -372,7 +399,7 @@ class Cleaner:
         # The last rows, of which none names a project: they may be totals and notes.
         tail = [*itertools.takewhile(
             lambda row: self.ids.keys().isdisjoint(self.pieces_of(row.fields[vote])[0]), reversed(rows))]
-        self.tail, self.tail_words = {*tail}, TAIL if len(tail) < len(rows) else NO_VOTE
+        self.tail, self.has_votes = {*tail}, len(tail) < len(rows)
         voters = collections.defaultdict(list)
         for row in rows:
             name = seen(row.fields[voter])
@@ -388,10 +415,7 @@ class Cleaner:
         for row in self.votes.rows() if self.is_single else ():
             if vote < len(row.fields) and len({*map(trimmed, row.fields[vote].split(','))}) > 1:
                 self.refuse(row, 'the vote names several projects, so the file is not choose-1')
-        cases = collections.Counter(map(str.casefold, voters))
-        if len(cases) < len(voters):
-            self.notes['ids of voters differ from another only by case'] += [
-                same[0] for name, same in voters.items() if cases[name.casefold()] > 1]
+        self.notes[ALIKE_VOTERS] = voters_alike({name: same[0] for name, same in voters.items()})
 
     def clean_repeated(self, name, rows, voters, voter, vote):
         """Joins the rows of a voter, keeps one of them, or makes different voters of them."""
@@ -428,7 +452,7 @@ class Cleaner:
         pieces = [*filter(None, [it.strip(WHITE_SPACE) for it in text.split(',')])]
         if {*pieces} <= self.ids.keys():
             return pieces, (), ()
-        body, pieces = seen(text), []
+        body = seen(text)
         kinds = {UNSEEN: 1} if body != trimmed(text) else {}
         for begin, end in BRACKETS:
             is_pair = body.startswith(begin) and body.endswith(end)
@@ -436,14 +460,18 @@ class Cleaner:
                 body, kinds['brackets'] = body[len(begin):-1], 1
         if '|' in body and self.is_free['|']:
             body, kinds['bars'] = body.replace('|', ','), 1
-        for piece in [it.strip(WHITE_SPACE) for it in body.split(',')]:
-            pieces.append(piece if piece in self.ids else self.mended_piece(piece, kinds))
-        pieces = [*filter(None, pieces)]
-        lost = {*pieces} - self.ids.keys()
-        return pieces, kinds, [it for it in dict.fromkeys(pieces) if it in lost] if lost else ()
+        bits = [it.strip(WHITE_SPACE) for it in body.split(',')]
+        mended = {it: self.mended_piece(it) for it in dict.fromkeys(bits)}
+        for _, more in mended.values():
+            kinds |= more
+        pieces = [*filter(None, (mended[it][0] for it in bits))]
+        return pieces, kinds, [it for it in dict.fromkeys(pieces) if it not in self.ids]
 
-    def mended_piece(self, piece, kinds):
-        """A piece that is no id. Quotation marks at both ends, or at one beside an id, are the vote's."""
+    def mended_piece(self, piece):
+        """What a piece is meant for, and what was mended: quotation marks at both ends, or at one beside an id."""
+        kinds = {}
+        if piece in self.ids or piece.isascii() and piece.isalnum():
+            return piece, kinds
         if seen(piece) != piece:
             piece, kinds[UNSEEN] = seen(piece), 1
         if piece and piece not in self.ids:
@@ -454,18 +482,22 @@ class Cleaner:
         is_float = re.fullmatch(r'[0-9]+\.0', piece) and piece[:-2] in self.ids and '0' not in self.ids
         if is_float and piece not in self.ids:
             piece, kinds['point and zero'] = piece[:-2], 1
-        return piece
+        return piece, kinds
 
     def clean_vote(self, row, column):
         pieces, kinds, lost = self.pieces_of(row.fields[column])
         if kinds:
             row.edit(column, ', '.join(kinds), ','.join(pieces))
-        if not lost:
+        if not lost or row in self.refusals:
             return
         kept = [it for it in pieces if it not in self.zero]
         if len(kept) < len(pieces):
             row.edit(column, '--drop-zero-cost', ','.join(kept))
         unknown = [it for it in lost if it not in self.zero]
+        if len(unknown) > MOST_UNKNOWN:
+            self.refuse(row, f'the vote names {len(unknown)} ids that no project has: {shown(unknown[0])}, ..')
+            return
+        self.has_zeros |= len(pieces) > 1 and '0' in unknown
         for piece in unknown:
             self.unknown[piece].append(row)
         if unknown and self.given.drop_unknown:
@@ -483,60 +515,80 @@ class Cleaner:
                                 'marks around the field that has the separator in it')
         names, vote, rows = self.votes.names, self.votes.column('vote'), self.votes.rows()
         # Beside the vote, columns without a name, or named as those of votes are, hold no ids.
-        bare = [at for at, it in enumerate(names)
-                if at > vote and not it or at != vote and it in ('vote', 'project_id')]
-        for row in () if self.is_cut else rows:
-            beside = row.fields[len(names):] + [row.fields[it] for it in bare if it < len(row.fields)]
-            if any(seen(it) in self.ids for it in beside):
-                self.refuse(row, 'an id is behind the vote, or beside it, where it is not counted: write the '
-                            'ids of a vote into one field, with `,` between')
+        bare = set() if self.is_cut else {at for at, it in enumerate(names)
+                                          if at > vote and not it or at != vote and it in ('vote', 'project_id')}
+        # Unknown ids that stand beside known ones: spreadsheets change whole fields, and words replace them.
+        self.beside, judged, voter = set(), [], self.votes.column('voter_id')
+        for row in [row for row in rows if vote < len(row.fields)]:
+            pieces, _, lost = self.pieces_of(row.fields[vote])
+            if lost or not pieces or bare or len(row.fields) > len(names):
+                self.beside.update(lost if len(lost) < len({*pieces}) else ())
+                judged.append((row, lost, pieces and not lost))
+        for row, lost, is_known in judged:
+            for at, text in enumerate(row.fields):
+                is_behind = at >= len(names) or at in bare
+                is_sure = is_behind or not (self.beside.issuperset(lost) or at == voter and text.isdigit())
+                if at != vote and (is_behind or not is_known) and self.is_vote(text, is_sure):
+                    self.refuse(row, f'{shown(text)} in the field {label_of(names, at)} names projects, where it '
+                                'is not counted: write each field below its column name, and the ids of a vote '
+                                'into one field, with `,` between')
+                    break
         for column in [at for at, it in enumerate(names) if it in POINTS]:
             points = (row for row in rows if seen(''.join(row.fields[column:column + 1])) not in ('', '1'))
             for row in itertools.islice(points, 1):
                 self.refuse(row, 'the votes have points or ranks, or numbers of votes, which are no '
                             'approvals: they can not be counted')
 
+    def is_vote(self, text, is_sure):
+        """Whether a field beside the vote names projects: it is a list of ids, or one that is no other number."""
+        pieces = self.pieces_of(text)[0]
+        return ((is_sure or len(pieces) > 1) and not self.ids.keys().isdisjoint(pieces)
+                and self.forms.issuperset(map(form_of, pieces)))
+
     def say_unknown(self):
         """Refuses ids that no project has, each once: what it is, or which option drops it."""
+        vote = self.votes.column('vote')
+        named = {trimmed(it) for row in self.votes.rows() if self.dated and self.unknown
+                 for it in ''.join(row.fields[vote:vote + 1]).split(',')}
+        self.dated = next((it for it in self.dated if it not in named), '')
         for piece, rows in self.unknown.items():
             is_nothing = piece.lower() in NOTHING
-            is_note = rows[0] in self.tail and not is_nothing
-            cause = self.cause_of(piece) or (self.tail_words if is_note else '')
-            more = len(rows) > 1 and f' (and in {len(rows) - 1} more votes, such as record {rows[1].key})'
-            advice = 'if it says that nothing was voted for, `--drop-unknown` makes an empty ballot of it' \
-                if is_nothing else \
-                'if the project was withdrawn, `--drop-unknown` takes its id out of the votes'
+            cause = self.cause_of(piece)
+            if not cause and not is_nothing:
+                cause = NO_VOTE if not self.has_votes else NO_FORM if not self.is_like(piece) else \
+                    TAIL if rows[0] in self.tail else ''
             if cause or not self.given.drop_unknown:
+                more = len(rows) > 1 and f' (and in {len(rows) - 1} more votes, such as record {rows[1].key})'
+                drops = 'if the project was withdrawn, `--drop-unknown` takes its id out of the votes'
+                empties = 'if it says that nothing was voted for, `--drop-unknown` makes an empty ballot of it'
                 self.refuse(rows[0], f'the vote names {shown(piece)}, which no project has{more or ""}: '
-                            f'{cause or advice}')
+                            + (cause or (empties if is_nothing else drops)))
+
+    def is_like(self, piece):
+        """Whether it differs from a project's id only by digits, or stands beside one and has no other kinds."""
+        form = form_of(piece)
+        return form in self.forms or (piece in self.beside and ('0' in form or self.has_words)
+                                      and kinds_of(piece) <= self.kinds)
 
     def cause_of(self, piece):
         """What an unknown id is, if it is hardly that of a project that is gone. Then it is never dropped."""
         parts = [it for it in re.split(r'[\W_]+', piece) if it]
-        lines = [*map(seen, piece.splitlines())]
-        has_known = any(it in self.ids for it in parts)
         cut = [piece[it:it + self.length] for it in range(0, len(piece), self.length)]
         like, called = self.alike.get(plain(piece), ''), self.called.get(plain(piece), '')
-        again = 'get the votes again, as text'
         causes = [
-            (not self.ids, 'PROJECTS has no projects: get its rows first'),
-            (len(lines) > 1 and self.ids.keys() >= {*lines},
-             'its ids are on lines of their own: write `,` between them'),
-            (len(lines) > 1, 'it goes over several lines: a quotation mark is not closed, or is too many'),
-            (SHORTENED.fullmatch(piece), f'a spreadsheet shortened it: {again}'),
-            (CELL_DATE.fullmatch(piece) or DATE.fullmatch(piece),
-             f'a spreadsheet made a date of it: {again}'),
-            (re.fullmatch('[0-9]+[.][0-9]+', piece) and has_known,
-             f'a spreadsheet read ids with a comma as one number, so ids are lost: {again}'),
-            (piece.lower() in ('true', 'false', 'yes', 'no'),
-             'it says yes or no, and not of which project: get the ids that the voter approves'),
-            (like, f'the project {shown(like)} differs only by case, zeros, marks, white space or how '
-             'its letters are coded: correct one of both'),
-            (len(parts) > 1 and has_known,
-             'it has the id of a project and more: write `,` between ids, and nothing else; points and '
-             'ranks are no approvals'),
+            (len(piece.splitlines()) > 1, 'it goes over several lines: a quotation mark is not closed, or is too '
+             'many; if its ids are on lines of their own, write `,` between them'),
+            (piece == '0' and self.has_zeros,
+             'it stands beside ids, so the votes may be places, counted from 0: get the ids'),
+            (re.fullmatch('[-+\u2212].+', piece),
+             'it has a sign: votes against a project, and points, are no approvals'),
+            (len(parts) > 1 and any(it in self.ids for it in parts), 'it has the id of a project and more: ids '
+             'have only `,` between; points, ranks and what is crossed out are no approvals; if a spreadsheet '
+             'made one number of ids, get the votes again, as text'),
+            (like, f'the project {shown(like)} differs only by case, zeros, marks, white space, how its '
+             'letters are coded, or 0 for O and 1 for l: if it is meant, correct one of both'),
             (self.length > 1 and len(cut) > 1 and piece.isdigit() and self.ids.keys() >= {*cut},
-             f'it is made of ids whose commas are lost: {again}'),
+             'it is made of ids whose commas are lost: get the votes again, as text'),
             (self.dated, f'a spreadsheet made a date of the id {shown(self.dated)}: get PROJECTS again'),
             (called, f'it is the name of the project {shown(called)}, or a part of it: write its id')]
         return next((words for holds, words in causes if holds), '')

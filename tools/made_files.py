@@ -57,7 +57,8 @@ def many_faults():
 def listed_faults():
     """What a check of them lists: the three voters' file has 13 records."""
     rows = [f'fault;read;17;RepeatedVoter;{at}' for at in range(14, 1_014)]
-    rows += [f'warning;EmptyBallot;{at}' for at in range(1_015, 1_115)] + ['warning;MoreOf;EmptyBallot;2']
+    rows += [f'warning;EmptyBallot;{at}' for at in range(1_015, 1_115)]
+    rows += ['warning;MoreOf;EmptyBallot;2', 'warning;NoteRows;1015']
     return ''.join(row + '\n' for row in rows).encode()
 
 

@@ -24,9 +24,10 @@ use crate::notes::Notes;
 use crate::perform::perform;
 use crate::system::System;
 use pb_command_line::parse::parse;
-use pb_command_line::{Asked, Parsed};
+use pb_command_line::{Asked, Parsed, Task};
 use pb_commands::{AppFault, BAD_ARGUMENTS, rows_status};
 use pb_streams::{End, Output, ProgressLine};
+use pb_witness::warnings::Warnings;
 use std::io::{IsTerminal, Write};
 use std::process::ExitCode;
 use std::rt::Env;
@@ -89,11 +90,16 @@ fn obey<R: System>(rt: &R, arguments: &[String], terminals: Terminals) -> Result
 /// Does a task, and says on standard error what came of it.
 fn done<'a, R: System>(rt: &'a R, asked: &'a Asked<'a>, terminals: Terminals) -> u8 {
     let mut output = Output::new(rt, asked, terminals.output);
-    let mut notes = Notes::new(rt.alloc(), asked.is_strict);
+    let warnings = match &asked.task {
+        Task::Check(_) => Warnings::of_check(rt.alloc()),
+        _ => Warnings::of_count(rt.alloc(), asked.is_strict),
+    };
+    let mut notes = Notes::new(rt.alloc(), warnings);
     let progress = ProgressLine::new(rt, asked.shows.unwrap_or(terminals.error));
     let begun = Instant::now(rt).ok();
     let result = perform(asked, &mut output, &mut notes, &progress, terminals.input);
     progress.clear();
+    let has_result = result.is_ok();
     let status = match result {
         Ok(()) => {
             words::say_result(rt, asked, &notes);
@@ -108,7 +114,10 @@ fn done<'a, R: System>(rt: &'a R, asked: &'a Asked<'a>, terminals: Terminals) ->
             status
         }
     };
-    words::say_warnings(rt, &asked.task, &notes);
+    words::say_warnings(rt, asked, &notes.seen);
+    if has_result {
+        words::say_rule(rt, asked, &notes);
+    }
     words::say_lacking(rt, &asked.task, &notes.lacking);
     drop(progress);
     drop(notes);

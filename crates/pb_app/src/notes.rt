@@ -3,7 +3,7 @@
 use pb_read::ReadFault;
 use pb_witness::entry_counts::EntryCounts;
 use pb_witness::rule_counts::RuleCounts;
-use pb_witness::warnings::{ResultWarnings, Warnings};
+use pb_witness::warnings::Warnings;
 use std::alloc::Global;
 
 /// What a run tells of what it read, beside its result.
@@ -19,25 +19,22 @@ pub(crate) struct Notes {
     pub(crate) has_no_ballot: bool,
     /// The faults of a file that was checked.
     pub(crate) faults: Vec<ReadFault>,
-    /// The warnings of that file.
-    pub(crate) checked: Warnings,
-    /// What can change the result of a file that is counted.
-    pub(crate) seen: ResultWarnings,
+    /// What was seen of the .pb file, and its warnings.
+    pub(crate) seen: Warnings,
     /// Which keys that Pabulib asks for an exported file lacks.
     pub(crate) lacking: [bool; 6],
 }
 
 impl Notes {
-    /// Nothing yet; a warning may refuse the file.
-    pub(crate) fn new(alloc: Global, is_strict: bool) -> Notes {
+    /// Nothing yet; these are the warnings for the task.
+    pub(crate) fn new(alloc: Global, seen: Warnings) -> Notes {
         Notes {
             entries: EntryCounts::new(),
             refused: 0,
             by_rule: RuleCounts::new(),
             has_no_ballot: false,
             faults: Vec::new(alloc),
-            checked: Warnings::new(alloc),
-            seen: ResultWarnings::new(alloc, is_strict),
+            seen,
             lacking: [false; 6],
         }
     }

@@ -17,7 +17,7 @@ use pb_faults::RunText;
 use pb_page::{Speech, WordsFault};
 use pb_streams::{End, RunRefusal, open_file};
 use pb_witness::page_notes::PageNotes;
-use pb_witness::warnings::ResultWarnings;
+use pb_witness::warnings::Warnings;
 use std::fs::File;
 use std::io::{ErrorKind, Read, Write};
 
@@ -29,7 +29,7 @@ pub(crate) fn page<'a, R: System, W: Write>(
     run: &CommandRun<'a, R>,
     asked: &PageRun<'a>,
     writer: &mut W,
-    seen: &mut ResultWarnings,
+    seen: &mut Warnings,
 ) -> Result<(), RunRefusal>
     ensures ok { OnOk result ((e : ElectionView) × HasWritten (IsPageBy run.now.counting.rule.now e)
         (W.contents writer.old) (W.contents writer.new)) }
@@ -57,7 +57,7 @@ pub(crate) fn page<'a, R: System, W: Write>(
 fn write_page<'a, R: System, W: Write>(
     run: &CommandRun<'a, R>,
     maker: &PageMaker<'a, Speech>,
-    watch: &mut KeepingWatch<'_, ResultWarnings, PageNotes>,
+    watch: &mut KeepingWatch<'_, Warnings, PageNotes>,
     writer: &mut W,
 ) -> Result<(), AppFault>
     ensures ok { OnOk result ((e : ElectionView) × HasWritten (IsPageBy run.now.counting.rule.now e)

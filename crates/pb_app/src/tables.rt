@@ -16,7 +16,7 @@ use pb_core::gate::NoGate;
 use pb_faults::RunText;
 use pb_read::read_pb;
 use pb_streams::{LineCount, Shown, open_both, open_shown};
-use pb_witness::warnings::ResultWarnings;
+use pb_witness::warnings::Warnings;
 use std::io::Write;
 use std::mem;
 
@@ -26,7 +26,7 @@ pub(crate) fn tell<'a, R: System, W: Write>(
     ballots: &Ballots<'a>,
     table: Table,
     writer: &mut W,
-    seen: &mut ResultWarnings,
+    seen: &mut Warnings,
 ) -> Result<(), AppFault> {
     let inputs = run.inputs(ballots)?;
     run_table(&run.counting, inputs, seen, writer, table)
@@ -41,9 +41,9 @@ pub(crate) fn check<R: System, W: Write>(
 ) -> Result<(), AppFault> {
     let file = open_shown(run.counting.gate, &asked.file)?;
     let listed = if asked.compares {
-        run_check_against(&run.counting, file, writer, &mut notes.checked)
+        run_check_against(&run.counting, file, writer, &mut notes.seen)
     } else {
-        run_check(run.counting.alloc, file, writer, &mut notes.checked)
+        run_check(run.counting.alloc, file, writer, &mut notes.seen)
     };
     drop(mem::replace(&mut notes.faults, listed?));
     Ok(())

@@ -6,7 +6,7 @@ use pb_command_line::{OneChange, WhatIfRun};
 use pb_commands::{AppFault, Changes, WhatIfFault, election_of, what_if_text, write_out};
 use pb_reasons::Change;
 use pb_streams::{End, RunRefusal};
-use pb_witness::warnings::ResultWarnings;
+use pb_witness::warnings::Warnings;
 use pb_words::Said;
 use pb_words::what_if_words::{no_cost_words, no_project_words, too_many_voters_words};
 use std::alloc::Global;
@@ -18,7 +18,7 @@ pub(crate) fn what_if<'a, R: System, W: Write>(
     run: &CommandRun<'a, R>,
     asked: &WhatIfRun<'a>,
     writer: &mut W,
-    seen: &mut ResultWarnings,
+    seen: &mut Warnings,
 ) -> Result<(), RunRefusal> {
     let alloc = run.counting.alloc;
     let election = election_of(alloc, run.inputs(&asked.ballots)?, seen)?;

@@ -1,13 +1,13 @@
 //! What is said where the file with the words of a page is refused.
 
 use pb_commands::{WordsPlace, WordsRefusal};
-use pb_page::{Key, Plural, WordsFault, WordsLine, entry_at};
+use pb_page::{Plural, WordsFault, WordsKey, WordsLine, entry_at};
 use pb_witness::text::Text;
-use pb_words::Value::Name;
+use pb_words::PlaceholderValue::Name;
 use pb_words::page_words::{
     KeyLine, put_bad_line, put_missing_key, put_not_text, put_unknown_key, put_unused_key,
 };
-use pb_words::{NO_MEMORY, Words, unread_words};
+use pb_words::{NO_MEMORY, WordsWriter, unread_words};
 use std::alloc::{AllocError, Global};
 use std::rt::Files;
 
@@ -52,7 +52,7 @@ pub(crate) fn words_file_words<R: Files>(
         WordsPlace::Key(_) | WordsPlace::Nowhere => 0,
     };
     let row = Text::new(rt, alloc, Some(path)).line_at(number)?;
-    let mut out = Words::new(alloc);
+    let mut out = WordsWriter::new(alloc);
     put_fault(&mut out, path, fault, row.as_str());
     drop(row);
     out.finish()
@@ -60,7 +60,7 @@ pub(crate) fn words_file_words<R: Files>(
 
 /// Puts what is wrong in the file with this path, and what to do. The row of the fault is this, if it could
 /// be read again.
-fn put_fault(out: &mut Words, path: &str, fault: &WordsFault, row: &str) {
+fn put_fault(out: &mut WordsWriter, path: &str, fault: &WordsFault, row: &str) {
     let (key, value) = row.split_once('=').unwrap_or(("", ""));
     out.fill("{}", &[Name(Some(path))]);
     match *fault {
@@ -87,8 +87,8 @@ fn put_fault(out: &mut Words, path: &str, fault: &WordsFault, row: &str) {
 /// A line with this value, as words speak of it.
 fn key_line<'a>(line: WordsLine, value: &'a str) -> KeyLine<'a> {
     let entry = match line.key {
-        Key::Sentence(index) => entry_at(usize::from(index)),
-        Key::Plural | Key::Group | Key::Point => None,
+        WordsKey::Sentence(index) => entry_at(usize::from(index)),
+        WordsKey::Plural | WordsKey::Group | WordsKey::Point => None,
     };
     let (numbers, nouns): (&'static [&'static str], &'static [&'static str]) = match entry {
         Some(entry) => (entry.numbers, entry.nouns),

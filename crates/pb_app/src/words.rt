@@ -14,6 +14,7 @@ use pb_script::ScriptFault;
 use pb_streams::{End, ProgressLine, RunRefusal};
 use pb_witness::audited::AuditPaths;
 use pb_witness::text::is_file;
+use pb_witness::warnings::Warnings;
 use pb_words::belonging_words::other_file_words;
 use pb_words::count_words::{count_words, spent_words};
 use pb_words::export_words::{comma_words, heading_words, lacking_words};
@@ -25,7 +26,7 @@ use pb_words::serve_words::{
     bad_rows_words, changed_words, locked_words, open_desk_words, spelling_words, unanswered_words,
 };
 use pb_words::tally_words::{by_rule_words, no_ballot_words, tally_words};
-use pb_words::warning_words::{swallowing_words, warning_words};
+use pb_words::warning_words::{rule_words, warning_words};
 use pb_words::{Said, mistaken_words, open_words, said, say, say_words, write_words};
 use std::alloc::AllocError;
 use std::io::Error;
@@ -67,7 +68,7 @@ pub(crate) fn say_result<R: System>(rt: &R, asked: &Asked<'_>, notes: &Notes) {
     let faults = notes.faults.as_slice();
     if !faults.is_empty() {
         let (file, _) = asked.task.paths();
-        let witness = &notes.checked.witness;
+        let witness = &notes.seen.witness;
         say_words(rt, list_words(rt, rt.alloc(), file, faults, witness));
     }
 }
@@ -105,16 +106,26 @@ fn say_counts<R: System>(rt: &R, task: &Task<'_>, notes: &Notes) {
 }
 
 /// Says what in a file that was read is probably not meant.
-pub(crate) fn say_warnings<R: System>(rt: &R, task: &Task<'_>, notes: &Notes) {
-    let (file, _) = task.paths();
-    let (found, witness) = match task {
-        Task::Check(_) => (notes.checked.found(), &notes.checked.witness),
-        Task::Desk(..) | Task::Serve(..) | Task::Ballots(..) => return,
-        _ => (notes.seen.found(), &notes.seen.witness),
+pub(crate) fn say_warnings<R: System>(rt: &R, asked: &Asked<'_>, seen: &Warnings) {
+    if !matches!(
+        asked.task,
+        Task::Desk(..) | Task::Serve(..) | Task::Ballots(..)
+    ) {
+        let (file, _) = asked.task.paths();
+        say_words(rt, warning_words(rt, rt.alloc(), file, seen.found()));
+    }
+}
+
+/// Says that a file which was counted names another rule.
+pub(crate) fn say_rule<R: System>(rt: &R, asked: &Asked<'_>, notes: &Notes) {
+    let counts = match &asked.task {
+        Task::Check(run) => run.compares && notes.faults.is_empty(),
+        Task::Desk(..) | Task::Serve(..) | Task::Ballots(..) => false,
+        _ => true,
     };
-    say_words(rt, warning_words(rt, rt.alloc(), file, found));
-    if let Some(rows) = witness.swallowing() {
-        say_words(rt, swallowing_words(rt, rt.alloc(), file, rows));
+    let (file, _) = asked.task.paths();
+    if let (Some(named), true) = (notes.seen.rule(), counts) {
+        say_words(rt, rule_words(rt, rt.alloc(), file, named, &asked.rule));
     }
 }
 

@@ -39,5 +39,5 @@ pub use language::Language;
 pub use made::page_of;
 pub use markup::{Form, Plural, Words};
 pub use speech::Speech;
-pub use table::{Entry, entries, entry_at};
-pub use words_fault::{Key, WordsFault, WordsLine};
+pub use table::{SentenceEntry, entries, entry_at};
+pub use words_fault::{WordsFault, WordsKey, WordsLine};

@@ -1,6 +1,6 @@
 //! A sentence of a file of words, as a page takes it.
 
-use crate::table::Entry;
+use crate::table::SentenceEntry;
 use crate::words_fault::{WordsFault, WordsLine};
 use std::alloc::Global;
 
@@ -12,7 +12,7 @@ const MOST_PLACES: usize = 32;
 pub(crate) fn with_places(
     alloc: Global,
     text: &str,
-    entry: &Entry,
+    entry: &SentenceEntry,
     line: WordsLine,
 ) -> Result<String, WordsFault> {
     let made = placed(alloc, text, entry, line)?;
@@ -24,7 +24,12 @@ pub(crate) fn with_places(
 }
 
 /// The sentence of a line with a byte in the place of each name, whatever places it has.
-fn placed(alloc: Global, text: &str, entry: &Entry, line: WordsLine) -> Result<String, WordsFault> {
+fn placed(
+    alloc: Global,
+    text: &str,
+    entry: &SentenceEntry,
+    line: WordsLine,
+) -> Result<String, WordsFault> {
     let mut made = String::new(alloc);
     let mut is_first = true;
     for part in text.split('{') {
@@ -37,7 +42,7 @@ fn placed(alloc: Global, text: &str, entry: &Entry, line: WordsLine) -> Result<S
 /// Puts a part of the line behind those before it. Each part but the first begins with the name of a place.
 fn put_part(
     made: &mut String,
-    entry: &Entry,
+    entry: &SentenceEntry,
     part: &str,
     is_first: bool,
     line: WordsLine,
@@ -57,7 +62,7 @@ fn put_part(
 /// Puts the byte of the place whose name a part begins with: the text behind the name.
 fn put_place<'a>(
     made: &mut String,
-    entry: &Entry,
+    entry: &SentenceEntry,
     part: &'a str,
     line: WordsLine,
 ) -> Result<&'a str, WordsFault> {
@@ -67,7 +72,7 @@ fn put_place<'a>(
 }
 
 /// The byte of the place with this name.
-fn place_named(entry: &Entry, name: &str) -> Option<char> {
+fn place_named(entry: &SentenceEntry, name: &str) -> Option<char> {
     let place = match position_of(entry.numbers, name) {
         Some(place) => place,
         None => {
@@ -88,7 +93,7 @@ fn position_of(names: &[&str], name: &str) -> Option<usize> {
 }
 
 /// The first place of a number that is not there once, and how many times it is there.
-fn misplaced(sentence: &str, entry: &Entry) -> Option<(u8, usize)> {
+fn misplaced(sentence: &str, entry: &SentenceEntry) -> Option<(u8, usize)> {
     let bytes = sentence.as_bytes();
     for place in 0..entry.numbers.len() {
         let times = bytes

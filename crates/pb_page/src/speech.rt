@@ -5,8 +5,8 @@ ghost use Rattle.std.specs.Prelude.{◌≡◌, unwrap_or};
 use crate::keys;
 use crate::markup::Plural;
 use crate::sentence::{is_plain, with_places};
-use crate::table::{Entry, entries, entry_at, entry_of};
-use crate::words_fault::{Key, WordsFault, WordsLine};
+use crate::table::{SentenceEntry, entries, entry_at, entry_of};
+use crate::words_fault::{WordsFault, WordsKey, WordsLine};
 use std::alloc::Global;
 use std::{mem, str};
 
@@ -99,9 +99,9 @@ impl Speech {
             return Err(WordsFault::BadLine(line));
         }
         match key {
-            "plural" => set(&mut self.plural, PLURALS, value, Key::Plural.on(line)),
-            "group" => set(&mut self.group, GROUPS, value, Key::Group.on(line)),
-            "point" => set(&mut self.point, POINTS, value, Key::Point.on(line)),
+            "plural" => set(&mut self.plural, PLURALS, value, WordsKey::Plural.on(line)),
+            "group" => set(&mut self.group, GROUPS, value, WordsKey::Group.on(line)),
+            "point" => set(&mut self.point, POINTS, value, WordsKey::Point.on(line)),
             _ => self.take_sentence(alloc, key, value, line),
         }
     }
@@ -148,12 +148,12 @@ impl Speech {
 
     /// Whether all is there, and nothing that is of no use.
     fn judge(&self) -> Result<(), WordsFault> {
-        let plural = self.plural.ok_or(WordsFault::MissingKey(Key::Plural))?;
+        let plural = self.plural.ok_or(WordsFault::MissingKey(WordsKey::Plural))?;
         if self.group.is_none() {
-            return Err(WordsFault::MissingKey(Key::Group));
+            return Err(WordsFault::MissingKey(WordsKey::Group));
         }
         if self.point.is_none() {
-            return Err(WordsFault::MissingKey(Key::Point));
+            return Err(WordsFault::MissingKey(WordsKey::Point));
         }
         for index in 0..entries() {
             if let Some(entry) = entry_at(index) {
@@ -167,7 +167,7 @@ impl Speech {
     fn judge_sentence(
         &self,
         index: usize,
-        entry: &Entry,
+        entry: &SentenceEntry,
         plural: Plural,
     ) -> Result<(), WordsFault> {
         let is_there = self.sentence(index) != "";
@@ -283,6 +283,6 @@ fn is_needed(key: &str, plural: Plural) -> bool {
 }
 
 /// The key of the sentence at this index.
-fn key_at(index: usize) -> Key {
-    Key::Sentence(u16::try_from(index).unwrap_or(u16::MAX))
+fn key_at(index: usize) -> WordsKey {
+    WordsKey::Sentence(u16::try_from(index).unwrap_or(u16::MAX))
 }

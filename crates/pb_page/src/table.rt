@@ -2,7 +2,7 @@
 
 /// A sentence of a page.
 #[derive(Clone, Copy)]
-pub struct Entry {
+pub struct SentenceEntry {
     pub key: &'static str,
     /// The places that the sentence has to have, each once: place 0 is the first.
     pub numbers: &'static [&'static str],
@@ -14,7 +14,7 @@ pub struct Entry {
 /// A sentence without places.
 macro_rules! plain {
     ($key:literal, $english:literal) => {
-        Entry { key: $key, numbers: &[], nouns: &[], english: $english }
+        SentenceEntry { key: $key, numbers: &[], nouns: &[], english: $english }
     };
 }
 
@@ -25,7 +25,7 @@ pub fn entries() -> usize {
 }
 
 /// The sentence at this index.
-pub fn entry_at(index: usize) -> Option<Entry> {
+pub fn entry_at(index: usize) -> Option<SentenceEntry> {
     match first().get(index) {
         Some(entry) => Some(*entry),
         None => middle_at(index.saturating_sub(first().len())),
@@ -33,7 +33,7 @@ pub fn entry_at(index: usize) -> Option<Entry> {
 }
 
 /// The sentence at this index of those behind the first ones.
-fn middle_at(index: usize) -> Option<Entry> {
+fn middle_at(index: usize) -> Option<SentenceEntry> {
     match middle().get(index) {
         Some(entry) => Some(*entry),
         None => later_at(index.saturating_sub(middle().len())),
@@ -41,7 +41,7 @@ fn middle_at(index: usize) -> Option<Entry> {
 }
 
 /// The sentence at this index of the later ones.
-fn later_at(index: usize) -> Option<Entry> {
+fn later_at(index: usize) -> Option<SentenceEntry> {
     match later().get(index) {
         Some(entry) => Some(*entry),
         None => None,
@@ -49,7 +49,7 @@ fn later_at(index: usize) -> Option<Entry> {
 }
 
 /// The sentence with this key, and its index.
-pub(crate) fn entry_of(key: &str) -> Option<(usize, Entry)> {
+pub(crate) fn entry_of(key: &str) -> Option<(usize, SentenceEntry)> {
     for index in 0..entries() {
         if let Some(entry) = entry_at(index) {
             if entry.key == key {
@@ -63,43 +63,43 @@ pub(crate) fn entry_of(key: &str) -> Option<(usize, Entry)> {
 // The sentences are in three lists, each with a function of its own, since a proof writes out all texts of a
 // constant.
 
-fn first() -> &'static [Entry] {
+fn first() -> &'static [SentenceEntry] {
     FIRST
 }
 
-fn middle() -> &'static [Entry] {
+fn middle() -> &'static [SentenceEntry] {
     MIDDLE
 }
 
-fn later() -> &'static [Entry] {
+fn later() -> &'static [SentenceEntry] {
     LATER
 }
 
 /// The first sentences, in the order of their keys' numbers.
-const FIRST: &[Entry] = &[
+const FIRST: &[SentenceEntry] = &[
     plain!("lang", "en"),
     plain!("dir", "ltr"),
     plain!("title", "Participatory budgeting"),
-    Entry {
+    SentenceEntry {
         key: "lead.voted",
         numbers: &["voters", "projects", "budget"],
         nouns: &["people", "topics"],
         english: "{voters} {people} voted on {projects} {topics}, with a budget of {budget}.",
     },
-    Entry {
+    SentenceEntry {
         key: "lead.won",
         numbers: &["won", "spent", "left"],
         nouns: &["winners"],
         english: "{won} {winners} won, for {spent} in all; {left} of the budget is left.",
     },
     plain!("budget.heading", "Where the budget goes"),
-    Entry {
+    SentenceEntry {
         key: "budget.picture",
         numbers: &["budget", "spent", "left"],
         nouns: &[],
         english: "Of {budget}, {spent} is spent and {left} is left.",
     },
-    Entry {
+    SentenceEntry {
         key: "budget.caption",
         numbers: &["spent", "left", "surplus"],
         nouns: &[],
@@ -135,14 +135,14 @@ const FIRST: &[Entry] = &[
     plain!("others.none", "There are none."),
     plain!("column.left", "Its supporters have left"),
     plain!("column.missing", "Missing"),
-    Entry {
+    SentenceEntry {
         key: "others.short",
         numbers: &["missing"],
         nouns: &[],
         english: "{missing} short",
     },
     plain!("voters.heading", "What the voters got"),
-    Entry {
+    SentenceEntry {
         key: "voters.got",
         numbers: &["with", "voters", "without"],
         nouns: &["all", "have", "lack"],
@@ -154,13 +154,13 @@ const FIRST: &[Entry] = &[
     ),
     plain!("column.chosen", "Winners chosen"),
     plain!("column.voters", "Voters"),
-    Entry {
+    SentenceEntry {
         key: "voters.exactly",
         numbers: &["number"],
         nouns: &[],
         english: "{number}",
     },
-    Entry {
+    SentenceEntry {
         key: "voters.or_more",
         numbers: &["number"],
         nouns: &[],
@@ -169,9 +169,9 @@ const FIRST: &[Entry] = &[
 ];
 
 /// The sentences behind them, on how it was counted and how to check it.
-const MIDDLE: &[Entry] = &[
+const MIDDLE: &[SentenceEntry] = &[
     plain!("rule.heading", "How it was counted"),
-    Entry {
+    SentenceEntry {
         key: "rule.share",
         numbers: &["share", "raises", "step"],
         nouns: &["times"],
@@ -220,7 +220,7 @@ const MIDDLE: &[Entry] = &[
         "check.bytes",
         "These bytes were counted. The same bytes give the same winners, whoever counts them."
     ),
-    Entry {
+    SentenceEntry {
         key: "check.recount",
         numbers: &["link"],
         nouns: &[],
@@ -238,7 +238,7 @@ const MIDDLE: &[Entry] = &[
 ];
 
 /// The sentences behind those, in the same order. A noun has a row for each of its forms.
-const LATER: &[Entry] = &[
+const LATER: &[SentenceEntry] = &[
     plain!("compared.heading", "Compared with most votes"),
     plain!(
         "compared.caption",
@@ -256,7 +256,7 @@ const LATER: &[Entry] = &[
         "compared.more",
         "Voters with more winners than by the other rule"
     ),
-    Entry {
+    SentenceEntry {
         key: "amount",
         numbers: &["amount", "currency"],
         nouns: &[],
@@ -283,20 +283,20 @@ const LATER: &[Entry] = &[
     plain!("times.one", "raise"),
     plain!("times.few", "raises"),
     plain!("times.many", "raises"),
-    Entry {
+    SentenceEntry {
         key: "lead.none",
         numbers: &["left"],
         nouns: &[],
         english: "No project won. Nothing is spent: {left} is left.",
     },
     plain!("budget.none", "The bar is empty, because no project won."),
-    Entry {
+    SentenceEntry {
         key: "check.options",
         numbers: &["measure", "completion", "step", "limit"],
         nouns: &[],
         english: "Options of this count: measure {measure}, completion {completion}, step {step}, limit of raises {limit}.",
     },
-    Entry {
+    SentenceEntry {
         key: "check.made_by",
         numbers: &["program"],
         nouns: &[],
@@ -306,7 +306,7 @@ const LATER: &[Entry] = &[
         "rule.exhausted",
         "The shares were not raised further, because no other project that somebody chose fits into what is left of the budget."
     ),
-    Entry {
+    SentenceEntry {
         key: "rule.over",
         numbers: &["share", "cost"],
         nouns: &[],
@@ -317,13 +317,13 @@ const LATER: &[Entry] = &[
         "These projects would be elected only with that raise:"
     ),
     plain!("rule.ties", "Ties that the order of the file decided:"),
-    Entry {
+    SentenceEntry {
         key: "rule.tie_by_votes",
         numbers: &["round", "winner", "other"],
         nouns: &[],
         english: "Round {round}: {winner} was elected. {other} had the same price, but comes later in the file, and was not elected in a later round.",
     },
-    Entry {
+    SentenceEntry {
         key: "rule.tie_by_cost",
         numbers: &["round", "winner", "other"],
         nouns: &[],

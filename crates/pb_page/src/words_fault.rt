@@ -30,7 +30,7 @@ pub const NAMES: [&str; 14] = [
 
 /// A key of a file of words.
 #[derive(Clone, Copy)]
-pub enum Key {
+pub enum WordsKey {
     Plural,
     Group,
     Point,
@@ -38,14 +38,14 @@ pub enum Key {
     Sentence(u16),
 }
 
-impl Key {
+impl WordsKey {
     /// The key, as a file has it.
     pub fn text(self) -> &'static str {
         match self {
-            Key::Plural => "plural",
-            Key::Group => "group",
-            Key::Point => "point",
-            Key::Sentence(index) => match entry_at(usize::from(index)) {
+            WordsKey::Plural => "plural",
+            WordsKey::Group => "group",
+            WordsKey::Point => "point",
+            WordsKey::Sentence(index) => match entry_at(usize::from(index)) {
                 Some(entry) => entry.key,
                 None => "",
             },
@@ -63,7 +63,7 @@ impl Key {
 pub struct WordsLine {
     /// Its number, from 1.
     pub number: u32,
-    pub key: Key,
+    pub key: WordsKey,
 }
 
 /// Why a file of words is refused. Lines have their numbers from 1.
@@ -90,9 +90,9 @@ pub enum WordsFault {
     /// The value of this line is not one that its key takes.
     BadValue(WordsLine),
     /// No line has this key.
-    MissingKey(Key),
+    MissingKey(WordsKey),
     /// A line has this key, but a file with this plural has no use for it.
-    UnusedKey(Key, Plural),
+    UnusedKey(WordsKey, Plural),
     /// The file could not be read.
     ReadFailed,
     /// Memory was refused.

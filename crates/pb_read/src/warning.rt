@@ -7,7 +7,7 @@ ghost use Rattle.pb_read.specs.contracts.warning.Oddity.{the_type};
 use pb_core::names::name_at;
 
 /// The names of `Oddity`, in the order of its variants.
-pub const NAMES: [&str; 14] = [
+pub const NAMES: [&str; 24] = [
     "VotesMissing",
     "ProjectsMissing",
     "SurplusFields",
@@ -22,6 +22,16 @@ pub const NAMES: [&str; 14] = [
     "FooterRow",
     "VotesOf",
     "SelectedOf",
+    "BudgetBelowCosts",
+    "NoteRows",
+    "SwallowedRows",
+    "IdBehindVote",
+    "TwiceInVote",
+    "RepeatedColumn",
+    "VotesWithPoints",
+    "ValidColumn",
+    "DistrictBudgets",
+    "CutName",
 ];
 
 /// What is accepted in a file, and probably not meant, in the order in which warnings are written.
@@ -55,6 +65,26 @@ pub enum Oddity {
     VotesOf,
     /// The column `selected` says of a project what a count does not.
     SelectedOf,
+    /// The budget is less than every cost.
+    BudgetBelowCosts,
+    /// The last rows of VOTES, two or more, have no vote, and no other row has none.
+    NoteRows,
+    /// A field in quotation marks has lines in it that look like rows.
+    SwallowedRows,
+    /// A field behind the vote has a project's id.
+    IdBehindVote,
+    /// A vote names a project twice; it counts once.
+    TwiceInVote,
+    /// A needed column stands twice in a row of column names; the first counts.
+    RepeatedColumn,
+    /// VOTES has a column of points, which no count reads.
+    VotesWithPoints,
+    /// A column says which rows are valid, and no count reads it.
+    ValidColumn,
+    /// META has further budgets, which no count reads.
+    DistrictBudgets,
+    /// A row of PROJECTS has more fields than there are column names: a name was probably cut.
+    CutName,
 }
 
 impl Oddity {

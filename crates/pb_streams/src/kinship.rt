@@ -73,8 +73,8 @@ impl Kinship {
         }
     }
 
-    /// The same of the journal of a desk that is to be opened. One without an entry gets to belong to the .pb file,
-    /// before it has a byte more.
+    /// The same of the journal of a desk that is to be opened. One without an entry gets to belong to the
+    /// .pb file, before it has a byte more.
     pub fn belonging_for_desk<R: Files<File = File> + AllocGlobal>(
         &self,
         rt: &R,
@@ -88,7 +88,8 @@ impl Kinship {
         Ok(standing)
     }
 
-    /// Has it stand beside the journal with this path, whose desk was opened, that it belongs to the .pb file.
+    /// Has it stand beside the journal with this path, whose desk was opened, that it belongs to the .pb
+    /// file.
     pub fn keep_belonging<R: Files<File = File> + Eprint + AllocGlobal>(
         &self,
         rt: &R,

@@ -1,43 +1,38 @@
 //! A record of a .pb file that was refused, and what can be known of it.
 
-use crate::fields::{JoinedBy, has_more, joined, text_at};
-use crate::heads::{OddHead, head_of, odd_head_of, section_of};
+use crate::changed::{has_digit, is_digits, is_nothing, is_power, without_hidden};
+use crate::fields::{JoinedBy, column_of, has_more, joined, raw_text, text_at};
+use crate::heads::{OddHead, head_of, is_column, odd_head_of, section_of};
+use crate::ids::Ids;
 use crate::mark::Mark;
-use crate::records::Records;
+use crate::quote::Span;
+use crate::records::TextRecords;
 use crate::seen::Seen;
 use crate::text::Text;
-use crate::witness::Refused;
 use csv::ByteRecord;
 use pb_core::money::Money;
-use pb_read::{ReadKind, Refusal, Section, Stage};
+use pb_read::{Column, ReadKind, Refusal, Section, Stage};
 use std::rt::Files;
 
-/// A record that was refused.
-#[derive(Clone, Copy)]
-pub struct FaultyRecord<'r> {
-    pub kind: ReadKind,
-    /// What its fault is about.
+/// A record that the reader refused.
+#[derive(Drop)]
+pub struct FaultyRecord {
+    /// Why, and what its fault is about.
     pub refusal: Refusal,
-    pub record: &'r ByteRecord,
-    /// Where the record begins.
+    /// Its fields; none where there is no record.
+    pub record: ByteRecord,
+    /// Where it begins.
     pub mark: Mark,
     /// How far the file was read before it.
-    pub stage: &'r Stage,
+    pub stage: Stage,
     /// What the records before it say.
-    pub seen: &'r Seen,
+    pub seen: Seen,
 }
 
-impl<'r> FaultyRecord<'r> {
-    /// The record that a witness kept.
-    pub fn of(refused: &'r Refused) -> FaultyRecord<'r> {
-        FaultyRecord {
-            kind: refused.refusal.fault.kind,
-            refusal: refused.refusal,
-            record: &refused.record,
-            mark: refused.mark,
-            stage: &refused.stage,
-            seen: &refused.seen,
-        }
+impl FaultyRecord {
+    /// Its fault.
+    pub fn kind(&self) -> ReadKind {
+        self.refusal.fault.kind
     }
 
     /// The places of its id, and of the other value that a row of its section needs.
@@ -50,8 +45,8 @@ impl<'r> FaultyRecord<'r> {
     }
 
     /// The row's id; the empty text where it has none.
-    pub fn id(&self) -> &'r str {
-        text_at(self.record, self.places().0)
+    pub fn id(&self) -> &str {
+        text_at(&self.record, self.places().0)
     }
 
     /// Whether the row has a field for its id.
@@ -60,33 +55,132 @@ impl<'r> FaultyRecord<'r> {
     }
 
     /// The row's other value; the empty text where it has none.
-    pub fn value(&self) -> &'r str {
-        text_at(self.record, self.places().1)
+    pub fn value(&self) -> &str {
+        text_at(&self.record, self.places().1)
     }
 
     /// The piece of its vote that is no project's id; the empty text where its fault is about none.
-    pub fn piece(&self) -> &'r str {
-        let piece = self.refusal.piece.unwrap_or(usize::MAX);
-        self.value().split(',').nth(piece).unwrap_or("").trim()
+    pub fn piece(&self) -> &str {
+        piece_of(self.value(), self.refusal.piece.unwrap_or(usize::MAX))
     }
 
     /// What stands where its other value would be if a text before it had no `;`; the empty text where the
     /// row has no more fields than there are column names.
-    pub fn shifted(&self) -> &'r str {
+    pub fn shifted(&self) -> &str {
         let surplus = self.record.len().saturating_sub(self.seen.columns);
         if surplus == 0 {
             return "";
         }
-        text_at(self.record, self.places().1.saturating_add(surplus))
+        text_at(&self.record, self.places().1.saturating_add(surplus))
+    }
+
+    /// Whether a space is before a quotation mark, in the refused value or in a field before it.
+    pub fn is_spaced_quote(&self) -> bool {
+        let (id, value) = self.places();
+        for place in 0..=value.max(id).min(self.record.len()) {
+            let field = raw_text(&self.record, place);
+            if field.starts_with(' ') && field.trim().starts_with('"') {
+                return true;
+            }
+        }
+        false
+    }
+
+    /// The line of the first quotation mark behind a backslash, if the record may be broken by it.
+    pub fn escaped(&self, span: Span) -> Option<u64> {
+        let is_broken = span.unclosed().is_some()
+            || span.over.is_some()
+            || self.record.len() != self.seen.columns;
+        if is_broken { span.escaped } else { None }
+    }
+
+    /// Whether the name of a needed column is there, but for characters beside it that can't be seen.
+    pub fn has_hidden_column(&self) -> bool {
+        for place in 0..self.record.len() {
+            let name = text_at(&self.record, place);
+            let bare = without_hidden(name);
+            if bare.len() < name.len() && is_column(bare) {
+                return true;
+            }
+        }
+        false
+    }
+
+    /// Whether it is the column names of a row for each voter and project.
+    pub fn is_by_project(&self) -> bool {
+        self.kind() == ReadKind::MissingColumn
+            && column_of(&self.record, Column::VoterId.name()).is_some()
+            && column_of(&self.record, Column::ProjectId.name()).is_some()
+    }
+
+    /// Whether the row has a vote for projects of the file.
+    pub fn is_ballot(&self, ids: &Ids) -> bool {
+        !self.value().is_empty() && ids.are_all(self.value())
     }
 
     /// Whether it is a project's row whose cost seems to stand further right, because of a `;` in a text
     /// before it.
     pub fn is_split(&self) -> bool {
-        match (self.kind, self.stage) {
+        match (self.kind(), self.stage) {
             (ReadKind::BadMoney, Stage::InProjects(_)) => Money::read(self.shifted()).is_ok(),
             _ => false,
         }
+    }
+
+    /// The place of a field beside the vote that names projects, and is more than a number, where the vote
+    /// names none.
+    pub fn moved(&self, ids: &Ids) -> Option<usize> {
+        let (_, vote) = self.places();
+        if ids.have_one(self.value()) {
+            return None;
+        }
+        for place in 0..self.record.len() {
+            let field = text_at(&self.record, place);
+            if place != vote && !is_digits(field) && ids.have_one(field) && ids.are_all(field) {
+                return Some(place);
+            }
+        }
+        None
+    }
+
+    /// Whether it is the first row of VOTES, and all its fields are texts without a digit, as titles are.
+    pub fn has_titles(&self) -> bool {
+        let mut has_texts = self.record.len() > 1 && self.seen.last.at == self.seen.names.at;
+        for place in 0..self.record.len() {
+            let field = text_at(&self.record, place);
+            has_texts &= !field.is_empty() && !has_digit(field);
+        }
+        has_texts && !is_nothing(self.value()) && matches!(self.stage, Stage::InVotes(_))
+    }
+
+    /// Whether it is a row of VOTES with an id like that of the first project, and an amount where PROJECTS
+    /// has the cost.
+    pub fn is_like_project<R: Files>(&self, text: &Text<'_, R>) -> bool {
+        if !matches!(self.stage, Stage::InVotes(_)) {
+            return false;
+        }
+        let Some(mut records) = text.record_at(self.seen.project_names) else {
+            return false;
+        };
+        let id = column_of(&records.last, Column::ProjectId.name()).unwrap_or(0);
+        let cost = column_of(&records.last, Column::Cost.name()).unwrap_or(0);
+        let is_like = records.advance()
+            && are_alike(text_at(&records.last, id), text_at(&self.record, id))
+            && Money::read(text_at(&self.record, cost)).is_ok();
+        drop(records);
+        is_like
+    }
+
+    /// Whether it is one field with tabs, and without a `;`.
+    pub fn has_tabs(&self) -> bool {
+        self.kind() == ReadKind::MissingField
+            && matches!(joined(&self.record), Some(JoinedBy::Tabs))
+    }
+
+    /// Whether it is a project's row with an id alone.
+    pub fn is_id_alone(&self) -> bool {
+        let is_missing = self.kind() == ReadKind::BadMoney && self.value().is_empty();
+        is_missing && matches!(self.stage, Stage::InProjects(_)) && !has_more(&self.record)
     }
 
     /// Whether it is the first record that is not blank.
@@ -98,7 +192,7 @@ impl<'r> FaultyRecord<'r> {
     pub fn is_same_head(&self) -> bool {
         match self.stage {
             Stage::Header(section) => {
-                text_at(self.record, 0).eq_ignore_ascii_case(head_of(*section))
+                text_at(&self.record, 0).eq_ignore_ascii_case(head_of(section))
             }
             _ => false,
         }
@@ -106,8 +200,8 @@ impl<'r> FaultyRecord<'r> {
 
     /// Whether it is META's head, behind a quotation mark that is closed on another line or never.
     pub fn is_quoted_meta(&self) -> bool {
-        let first = text_at(self.record, 0).split_once('\n');
-        match (self.kind, first) {
+        let first = text_at(&self.record, 0).split_once('\n');
+        match (self.kind(), first) {
             (ReadKind::NoSection, Some((line, _))) => line.trim().eq_ignore_ascii_case("META"),
             _ => false,
         }
@@ -123,7 +217,7 @@ impl<'r> FaultyRecord<'r> {
 
     /// The row, read again, that has further fields and is read as a head which can't be there: this one, or
     /// the one before.
-    pub fn like_head<R: Files>(&self, text: &Text<'_, R>) -> Option<Records<R::File>> {
+    pub fn like_head<R: Files>(&self, text: &Text<'_, R>) -> Option<TextRecords<R::File>> {
         let records = text.record_at(self.head_mark()?)?;
         if has_more(&records.last) {
             return Some(records);
@@ -133,7 +227,7 @@ impl<'r> FaultyRecord<'r> {
     }
 
     fn head_mark(&self) -> Option<Mark> {
-        match (self.kind, self.stage) {
+        match (self.kind(), self.stage) {
             (ReadKind::SectionOrder, _) => Some(self.mark),
             (ReadKind::NoHeader | ReadKind::MissingColumn, Stage::Header(_)) => {
                 Some(self.seen.last)
@@ -144,14 +238,14 @@ impl<'r> FaultyRecord<'r> {
 
     /// Whether it is META's head, behind characters that are not seen.
     pub fn is_behind_mark(&self) -> bool {
-        let word = text_at(self.record, 0);
+        let word = text_at(&self.record, 0);
         let bare = word.trim_start_matches(|c: char| is_hidden(u32::from(c)));
         bare.len() < word.len() && bare.eq_ignore_ascii_case("META")
     }
 
     /// Whether it has only one field, and nothing in it that can be seen.
     pub fn is_invisible(&self) -> bool {
-        let text = text_at(self.record, 0);
+        let text = text_at(&self.record, 0);
         for c in text.chars() {
             if !is_hidden(u32::from(c)) {
                 return false;
@@ -163,23 +257,26 @@ impl<'r> FaultyRecord<'r> {
     /// Whether it lacks a field, and more is there than one word of PROJECTS or what can't be seen.
     pub fn is_short(&self) -> bool {
         let is_word = self.record.len() == 1 && matches!(self.stage, Stage::InProjects(_));
-        matches!(self.kind, ReadKind::MissingField) && !is_word && !self.is_invisible()
+        matches!(self.kind(), ReadKind::MissingField) && !is_word && !self.is_invisible()
     }
 
     /// The row that seems to be meant as a section's head: one before it in the section, or this one.
     pub fn odd_head(&self) -> Option<OddHead> {
+        if self.is_behind_mark() {
+            return None;
+        }
         if self.seen.odd_head.is_some() {
             return self.seen.odd_head;
         }
-        match section_of(self.stage) {
+        match section_of(&self.stage) {
             Section::Votes => None,
-            Section::Meta | Section::Projects => odd_head_of(self.record, self.mark),
+            Section::Meta | Section::Projects => odd_head_of(&self.record, self.mark),
         }
     }
 
     /// Why the row is one field that seems to be a whole row, if it is one.
     pub fn joined(&self) -> Option<JoinedBy> {
-        match (self.kind, joined(self.record)) {
+        match (self.kind(), joined(&self.record)) {
             (ReadKind::NoSection | ReadKind::MissingColumn, joined) => joined,
             (ReadKind::MissingField, Some(JoinedBy::Quotes)) => Some(JoinedBy::Quotes),
             _ => None,
@@ -189,11 +286,30 @@ impl<'r> FaultyRecord<'r> {
     /// What separates its column names in place of `;`, if it is a row of them that seems to be one field by
     /// that.
     pub fn separators(&self) -> Option<&'static str> {
-        match (self.kind, self.joined()) {
+        match (self.kind(), self.joined()) {
             (ReadKind::MissingColumn, Some(joined)) => joined.separators(),
             _ => None,
         }
     }
+}
+
+/// Whether two ids have the same text before their numbers, and are as long as each other.
+fn are_alike(one: &str, other: &str) -> bool {
+    let is_digit = |c: char| c.is_ascii_digit();
+    let begin = one.trim_end_matches(is_digit);
+    one.len() == other.len()
+        && !begin.is_empty()
+        && begin.len() < one.len()
+        && begin == other.trim_end_matches(is_digit)
+}
+
+/// The piece at this place of a vote; the whole vote if a spreadsheet made one number of it, which may have a
+/// comma.
+pub(crate) fn piece_of(vote: &str, place: usize) -> &str {
+    if is_power(vote) {
+        return vote;
+    }
+    vote.split(',').nth(place).unwrap_or("").trim()
 }
 
 /// Whether a character is a control character, or one that is not seen or turns the direction of a line.

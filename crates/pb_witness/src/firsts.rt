@@ -28,12 +28,17 @@ impl Firsts {
 
     /// Whether an id is there.
     pub fn has(&self, id: &str) -> bool {
-        self.places.get(id).is_some()
+        self.place(id).is_some()
+    }
+
+    /// How many others came before an id, if it is there.
+    pub fn place(&self, id: &str) -> Option<u32> {
+        self.places.get(id)
     }
 
     /// Where an id stood first.
     pub fn mark(&self, id: &str) -> Option<Mark> {
-        self.marks.get(self.places.get(id)? as usize).copied()
+        self.marks.get(self.place(id)? as usize).copied()
     }
 
     /// Where the id stands that came first after this many others.
@@ -51,4 +56,17 @@ impl Firsts {
         self.marks.push(mark)?;
         Ok(())
     }
+}
+
+/// The first id that stands twice among the ids of a vote, which commas separate; the empty text if there is
+/// none, or memory is refused.
+pub fn twice_in(alloc: Global, vote: &str) -> &str {
+    let mut before = IdTable::new(alloc);
+    for piece in vote.split(',') {
+        let id = piece.trim();
+        if !id.is_empty() && !matches!(before.insert(alloc, id, 0), Ok(None)) {
+            return id;
+        }
+    }
+    ""
 }

@@ -1,9 +1,10 @@
 //! The heads of a .pb file's sections: rows that seem to be meant as one, and META's head where it comes
 //! late.
 
+use crate::faulty_record::is_hidden;
 use crate::fields::{joined, text_at};
 use crate::mark::Mark;
-use crate::records::Records;
+use crate::records::TextRecords;
 use crate::text::Text;
 use csv::ByteRecord;
 use pb_read::{Column, Section, Stage};
@@ -65,7 +66,7 @@ pub fn section_of(stage: &Stage) -> Section {
 }
 
 /// Whether a word is a column that a section needs.
-fn is_column(word: &str) -> bool {
+pub(crate) fn is_column(word: &str) -> bool {
     for column in COLUMNS {
         if word.eq_ignore_ascii_case(column.name()) {
             return true;
@@ -85,8 +86,11 @@ pub fn odd_head_of(record: &ByteRecord, mark: Mark) -> Option<OddHead> {
         Some((word, rest)) if is_column(rest.trim()) => (word, true),
         _ => (field, false),
     };
-    let name = word.trim_matches(|c: char| c.is_ascii_punctuation() || c.is_whitespace());
-    if name.len() == field.len() {
+    let is_beside = |c: char| c.is_ascii_punctuation()
+        || c.is_whitespace()
+        || is_hidden(u32::from(c));
+    let name = word.trim_matches(is_beside);
+    if name.len() == field.len() || field.starts_with('>') {
         return None;
     }
     for section in SECTIONS {
@@ -109,7 +113,7 @@ pub fn late_meta<R: Files>(text: &Text<'_, R>, first: Mark) -> Option<Mark> {
     mark
 }
 
-fn next_meta<F: Read>(records: &mut Records<F>) -> Option<Mark> {
+fn next_meta<F: Read>(records: &mut TextRecords<F>) -> Option<Mark> {
     for _ in 0..MOST_BEFORE_META {
         if !records.advance() {
             return None;

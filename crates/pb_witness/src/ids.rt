@@ -1,22 +1,12 @@
 //! The ids of a file's projects, as far as a witness was shown them.
 
-use crate::faulty_record::is_hidden;
 use crate::fields::{raw_text, text_at};
 use crate::firsts::Firsts;
 use crate::mark::Mark;
 use crate::swallowed::later_lines;
-use crate::voters::FirstRows;
 use csv::ByteRecord;
-use pb_read::{Part, ReadKind, Refusal, Stage};
+use pb_read::{Part, Stage};
 use std::alloc::{AllocError, Global};
-use std::cell::Cell;
-use strsim::levenshtein;
-
-/// Ids longer than this many bytes are not compared.
-const LONGEST: usize = 64;
-
-/// For so many ids the nearest one is looked for.
-const MOST_COMPARED: u32 = 100;
 
 /// The ids of projects, each with where its first row stands.
 #[derive(Drop)]
@@ -30,9 +20,6 @@ pub struct Ids {
     pub swallowed: Firsts,
     /// The pieces of ids that have a comma.
     pub pieces: Firsts,
-    /// The ids of the projects that were not left out.
-    project_ids: Vec<String>,
-    compared: Cell<u32>,
 }
 
 impl Ids {
@@ -44,8 +31,6 @@ impl Ids {
             left_out: Firsts::new(alloc),
             swallowed: Firsts::new(alloc),
             pieces: Firsts::new(alloc),
-            project_ids: Vec::new(alloc),
-            compared: Cell::new(0),
         }
     }
 
@@ -85,6 +70,9 @@ impl Ids {
                 if let Some((id, _)) = raw_text(record, 0).split_once(';') {
                     self.swallowed.keep(self.alloc, id.trim(), mark)?;
                 }
+                if let Some((id, _)) = raw_text(record, 0).split_once('\t') {
+                    self.left_out.keep(self.alloc, id.trim(), mark)?;
+                }
                 self.left_out
                     .keep(self.alloc, text_at(record, columns.id), mark)
             }
@@ -99,19 +87,7 @@ impl Ids {
                 self.pieces.keep(self.alloc, piece.trim(), mark)?;
             }
         }
-        let id = String::from_str(self.alloc, id)?;
-        self.project_ids.push(id)?;
         Ok(())
-    }
-
-    /// The id of a project that this one is without the quotation marks and unseen characters at its ends, if
-    /// it has some.
-    pub fn bare<'v>(&self, id: &'v str) -> Option<&'v str> {
-        let bare = id.trim_matches(|c: char| c == '"' || is_hidden(u32::from(c)));
-        if bare.len() < id.len() && self.projects.has(bare) {
-            return Some(bare);
-        }
-        None
     }
 
     /// Whether a text names projects alone.
@@ -125,10 +101,36 @@ impl Ids {
         true
     }
 
-    /// Whether a piece of a vote is ids of projects that blanks separate.
-    pub fn are_apart_by_blanks(&self, piece: &str) -> bool {
+    /// Whether a piece of a text names a project.
+    pub(crate) fn have_one(&self, vote: &str) -> bool {
+        for piece in vote.split(',') {
+            if self.projects.has(piece.trim()) {
+                return true;
+            }
+        }
+        false
+    }
+
+    /// Whether column names are ids of several projects.
+    pub fn are_columns(&self, names: &ByteRecord) -> bool {
         let mut count = 0u64;
-        for id in piece.split_whitespace() {
+        for place in 0..names.len() {
+            if self.projects.has(text_at(names, place)) {
+                count = count.saturating_add(1);
+            }
+        }
+        count > 1
+    }
+
+    /// Whether a piece of a vote is ids of projects that this character separates; a blank stands for all white
+    /// space.
+    pub(crate) fn are_apart_by(&self, piece: &str, mark: char) -> bool {
+        let mut count = 0u64;
+        for id in piece.split(|c: char| c == mark || (mark == ' ' && c.is_whitespace())) {
+            let id = id.trim();
+            if id.is_empty() {
+                continue;
+            }
             if !self.projects.has(id) {
                 return false;
             }
@@ -136,59 +138,4 @@ impl Ids {
         }
         count > 1
     }
-
-    /// The id of a project that is nearest to this one, if one is near: it differs in case alone, or in at
-    /// most a third of the characters. It is looked for a limited number of times.
-    pub fn nearest(&self, id: &str) -> Result<Option<&str>, AllocError> {
-        let compared = self.compared.get();
-        if compared >= MOST_COMPARED {
-            return Ok(None);
-        }
-        self.compared.set(compared.saturating_add(1));
-        nearest(self.alloc, self.project_ids.as_slice(), id)
-    }
-}
-
-/// The ids of a file that words look up.
-#[derive(Clone, Copy)]
-pub struct Known<'i> {
-    pub ids: &'i Ids,
-    /// Where the first rows of the voters stand whose ids are repeated.
-    pub voters: &'i FirstRows,
-}
-
-impl Known<'_> {
-    /// Where the earlier row with the same id stands, where the fault is about one.
-    pub fn earlier(&self, refusal: &Refusal) -> Option<Mark> {
-        let place = refusal.earlier?;
-        match refusal.fault.kind {
-            ReadKind::RepeatedVoter => self.voters.mark(place),
-            _ => self.ids.projects.mark_at(place),
-        }
-    }
-}
-
-fn nearest<'i>(
-    alloc: Global,
-    project_ids: &'i [String],
-    id: &str,
-) -> Result<Option<&'i str>, AllocError> {
-    let length = id.chars().count();
-    let mut best = None;
-    let mut least = length / 3 + 1;
-    for other in project_ids {
-        let other = other.as_str();
-        if other.eq_ignore_ascii_case(id) {
-            return Ok(Some(other));
-        }
-        let is_short = other.len() <= LONGEST && id.len() <= LONGEST;
-        if is_short && other.chars().count().abs_diff(length) < least {
-            let distance = levenshtein(alloc, other, id)?;
-            if distance < least {
-                least = distance;
-                best = Some(other);
-            }
-        }
-    }
-    Ok(best)
 }

@@ -2,7 +2,7 @@
 
 use crate::mark::Mark;
 use crate::quote::State;
-use crate::records::Records;
+use crate::records::TextRecords;
 use std::alloc::Global;
 
 /// The most bytes of the rows that are kept.
@@ -84,7 +84,7 @@ impl LastRows {
 
     /// The rows up to the one with this number, from 1, which is read last, if it is among them and all bytes
     /// are there.
-    pub fn records_to(&self, number: u64) -> Option<Records<&[u8]>> {
+    pub fn records_to(&self, number: u64) -> Option<TextRecords<&[u8]>> {
         if number <= self.before || !self.is_whole {
             return None;
         }
@@ -92,7 +92,7 @@ impl LastRows {
             at: self.before,
             ..Mark::start()
         };
-        let mut records = Records::new(self.alloc, self.bytes.as_slice(), start);
+        let mut records = TextRecords::new(self.alloc, self.bytes.as_slice(), start);
         if records.advance_to(number) {
             return Some(records);
         }

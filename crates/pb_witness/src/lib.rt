@@ -1,15 +1,16 @@
 //! What was seen of the texts that a run reads, and is found when they are looked at again.
 //!
 //! While pb_read reads a .pb file, a `Witness` looks on and keeps what words need of what is refused;
-//! `Warnings` and `ResultWarnings` collect what is accepted and probably not meant. `EntryCounts` count the
-//! answers of a journal. After a run has failed, a text that is a file is looked at again:
-//! where a record begins, which quotation mark is open, what the proved desk answers. Nothing but that each
-//! call returns is proved of this, and no result can change by it but by `--strict`, which refuses a file for
-//! a warning.
+//! `Warnings` collect what is accepted and probably not meant. `EntryCounts` count the answers of a journal.
+//! After a run has failed, a text that is a file is looked at again: where a record begins, which quotation
+//! mark is open, what the proved desk answers. Nothing but that each call returns is proved of this, and no
+//! result can change by it but by `--strict`, which refuses a file for a warning.
 #![tactic(auto)]
 
 pub mod audited;
-mod claims;
+pub mod behind_vote;
+pub mod cause;
+pub mod changed;
 pub mod desk_answer;
 pub mod entry_counts;
 pub mod failures;
@@ -19,19 +20,25 @@ pub mod firsts;
 pub mod heads;
 pub mod ids;
 pub mod keys;
+pub mod known;
 pub mod last_rows;
 pub mod mark;
+mod meta_oddities;
 pub mod oddities;
 pub mod page_notes;
+mod project_oddities;
+pub mod projects;
 pub mod quote;
 pub mod records;
-mod result_columns;
-mod result_oddities;
+pub mod rows;
 pub mod rule_counts;
 pub mod seen;
-pub mod swallowed;
+mod swallowed;
 pub mod text;
+pub mod unknown;
 pub mod unwritable;
+pub mod valid_columns;
+mod vote_oddities;
 pub mod voters;
 pub mod warnings;
 pub mod witness;

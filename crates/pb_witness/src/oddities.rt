@@ -2,13 +2,14 @@
 
 use crate::mark::Mark;
 use pb_core::no_memory::NoMemory;
-use pb_read::{Oddity, ProjectColumns, VoteColumns, Warning, WarningRow};
+use pb_read::{Oddity, Part, ProjectColumns, VoteColumns, Warning, WarningRow};
 use std::alloc::Global;
 
-/// The oddities in the order in which warnings are written.
-pub const ALL: [Oddity; 14] = [
-    Oddity::VotesMissing,
-    Oddity::ProjectsMissing,
+/// The kinds in the order in which a check lists them. Where no record is named behind a kind, its record is
+/// the row of the project or the voter that it is about.
+const LISTED: [Oddity; 24] = [
+    Oddity::VotesMissing, // META's row
+    Oddity::ProjectsMissing, // META's row
     Oddity::SurplusFields,
     Oddity::TooLongBallot,
     Oddity::TooShortBallot,
@@ -16,20 +17,58 @@ pub const ALL: [Oddity; 14] = [
     Oddity::NoSupporter,
     Oddity::OverBudget,
     Oddity::CommaInId,
-    Oddity::ThousandsMark,
-    Oddity::RepeatedKey,
+    Oddity::ThousandsMark, // the project's row, or META's
+    Oddity::RepeatedKey, // META's row
     Oddity::FooterRow,
     Oddity::VotesOf,
     Oddity::SelectedOf,
+    Oddity::BudgetBelowCosts, // META's row
+    Oddity::NoteRows, // the first of these rows
+    Oddity::SwallowedRows, // the row with such a field, in any section
+    Oddity::IdBehindVote, // once a column: its first row with an id
+    Oddity::TwiceInVote,
+    Oddity::RepeatedColumn, // the row of column names
+    Oddity::VotesWithPoints, // the row of column names
+    Oddity::ValidColumn, // once a column: the first row that differs from the section's first
+    Oddity::DistrictBudgets, // the first of these rows of META
+    Oddity::CutName,
 ];
 
-/// How many they are.
-const COUNT: usize = ALL.len();
+/// The kinds that can change a result, in the order in which a count tells them; `--strict` refuses the first.
+const TOLD: [Oddity; 19] = [
+    Oddity::VotesMissing,
+    Oddity::ProjectsMissing,
+    Oddity::SurplusFields,
+    Oddity::ThousandsMark,
+    Oddity::RepeatedKey,
+    Oddity::FooterRow,
+    Oddity::TooLongBallot,
+    Oddity::TooShortBallot,
+    Oddity::VotesOf,
+    Oddity::BudgetBelowCosts,
+    Oddity::NoteRows,
+    Oddity::SwallowedRows,
+    Oddity::IdBehindVote,
+    Oddity::TwiceInVote,
+    Oddity::RepeatedColumn,
+    Oddity::VotesWithPoints,
+    Oddity::ValidColumn,
+    Oddity::DistrictBudgets,
+    Oddity::CutName,
+];
+
+/// How many kinds there are.
+const COUNT: usize = LISTED.len();
+
+/// The most warnings of one kind that a check lists.
+pub const MOST: u64 = 100;
 
 /// What a row is of.
 #[derive(Clone, Copy, PartialEq, Eq)]
 pub enum Subject {
     Key,
+    /// A row of column names is about one of them.
+    Column,
     Project,
     Voter,
 }
@@ -39,6 +78,7 @@ impl Subject {
     pub fn word(self) -> &'static str {
         match self {
             Subject::Key => "key",
+            Subject::Column => "column",
             Subject::Project => "project",
             Subject::Voter => "voter",
         }
@@ -60,7 +100,8 @@ pub struct Odd {
     pub number: u64,
     /// What the number should not pass, or should be, where META says so.
     pub limit: Option<u64>,
-    /// Where the key stood before, if it is repeated.
+    /// The earlier row that it repeats, or differs from; of a row without a vote the row of column names, if
+    /// another field seems to be its vote.
     pub before: Option<Mark>,
 }
 
@@ -79,12 +120,14 @@ impl Odd {
         }
     }
 
-    /// A row of META that is odd, measured by this number.
-    pub fn of_key(oddity: Oddity, mark: Mark, number: u64) -> Odd {
-        Odd {
-            number,
-            ..Odd::of(oddity, mark, Subject::Key, (0, 1))
-        }
+    /// A row of META that is odd.
+    pub fn of_key(oddity: Oddity, mark: Mark) -> Odd {
+        Odd::of(oddity, mark, Subject::Key, (0, 1))
+    }
+
+    /// A row of column names that is odd for the one at this place.
+    pub fn of_column(oddity: Oddity, mark: Mark, place: usize) -> Odd {
+        Odd::of(oddity, mark, Subject::Column, (place, place))
     }
 
     /// A row of PROJECTS that is odd.
@@ -92,13 +135,36 @@ impl Odd {
         Odd::of(oddity, mark, Subject::Project, (columns.id, columns.cost))
     }
 
-    /// A row of VOTES that is odd, measured by this number.
-    pub fn of_vote(oddity: Oddity, mark: Mark, columns: VoteColumns, number: u64) -> Odd {
-        let places = (columns.voter, columns.vote);
-        Odd {
-            number,
-            ..Odd::of(oddity, mark, Subject::Voter, places)
+    /// A row of VOTES that is odd.
+    pub fn of_vote(oddity: Oddity, mark: Mark, columns: VoteColumns) -> Odd {
+        Odd::of(oddity, mark, Subject::Voter, (columns.voter, columns.vote))
+    }
+
+    /// A row of this part that is odd.
+    pub fn of_part(oddity: Oddity, mark: Mark, part: Part) -> Odd {
+        match part {
+            Part::Project(columns) => Odd::of_project(oddity, mark, columns),
+            Part::Vote(columns) => Odd::of_vote(oddity, mark, columns),
+            _ => Odd::of_key(oddity, mark),
         }
+    }
+
+    /// The same row as odd in another way.
+    pub fn as_a(self, oddity: Oddity) -> Odd {
+        Odd { oddity, ..self }
+    }
+
+    /// The same, odd for the value at this place.
+    pub fn at(self, value_place: usize) -> Odd {
+        Odd {
+            value_place,
+            ..self
+        }
+    }
+
+    /// The same, measured by this number.
+    pub fn by(self, number: u64) -> Odd {
+        Odd { number, ..self }
     }
 }
 
@@ -106,27 +172,53 @@ impl Odd {
 #[derive(Drop)]
 pub struct Oddities {
     alloc: Global,
+    /// The kinds that are told, in their order.
+    pub kinds: &'static [Oddity],
     most: u64,
     found: Vec<Odd>,
     counts: [u64; COUNT],
     firsts: [u64; COUNT],
     /// Whether the file has no row of VOTES, as that of a desk that has not opened.
     pub has_no_votes: bool,
+    /// Whether the budget or a cost has one or two decimals.
+    pub has_decimals: bool,
+    /// Whether `min_length` is more than `max_length`.
+    pub has_no_length: bool,
+    /// How many voters the file has.
+    pub voters: u64,
     is_whole: bool,
 }
 
 impl Oddities {
-    /// Nothing was found yet; of each kind this many are kept.
-    pub fn new(alloc: Global, most: u64) -> Oddities {
+    /// For a check, which lists all kinds. Nothing was found yet.
+    pub fn of_check(alloc: Global) -> Oddities {
+        Oddities::new(alloc, &LISTED, MOST)
+    }
+
+    /// For a count, which tells once of each kind that can change its result. Nothing was found yet.
+    pub fn of_count(alloc: Global) -> Oddities {
+        Oddities::new(alloc, &TOLD, 1)
+    }
+
+    fn new(alloc: Global, kinds: &'static [Oddity], most: u64) -> Oddities {
         Oddities {
             alloc,
+            kinds,
             most,
             found: Vec::new(alloc),
             counts: [0; COUNT],
             firsts: [0; COUNT],
             has_no_votes: false,
+            has_decimals: false,
+            has_no_length: false,
+            voters: 0,
             is_whole: true,
         }
+    }
+
+    /// Whether a kind is told.
+    pub fn tells(&self, oddity: Oddity) -> bool {
+        self.kinds.contains(&oddity)
     }
 
     /// Takes an odd record.
@@ -156,6 +248,16 @@ impl Oddities {
         self.counts[oddity as usize] > 0
     }
 
+    /// How many there are of a kind.
+    pub fn count(&self, oddity: Oddity) -> u64 {
+        self.counts[oddity as usize]
+    }
+
+    /// Whether a check lists them, and not a count that tells of each kind once.
+    pub fn is_of_check(&self) -> bool {
+        self.most == MOST
+    }
+
     /// How many there are of a kind beyond those that are kept.
     pub fn more(&self, oddity: Oddity) -> u64 {
         self.counts[oddity as usize].saturating_sub(self.most)
@@ -166,9 +268,9 @@ impl Oddities {
         self.found.as_slice()
     }
 
-    /// The first of the first kind that was found.
+    /// The first of the first kind that is told.
     pub fn first(&self) -> Option<Warning> {
-        for oddity in ALL {
+        for oddity in self.kinds.iter().copied() {
             if self.has(oddity) {
                 let at = self.firsts[oddity as usize];
                 return Some(Warning { oddity, at });
@@ -183,7 +285,7 @@ impl Oddities {
             return Err(NoMemory);
         }
         let mut rows = Vec::new(self.alloc);
-        for oddity in ALL {
+        for oddity in self.kinds.iter().copied() {
             if self.put_rows(oddity, &mut rows).is_err() {
                 drop(rows);
                 return Err(NoMemory);

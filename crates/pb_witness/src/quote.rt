@@ -34,6 +34,9 @@ pub struct Span {
     opened: u64,
     /// The lines of the first quoted field that runs over several: where it opens and where it closes.
     pub over: Option<(u64, u64)>,
+    /// The line of the first quotation mark behind a backslash.
+    pub escaped: Option<u64>,
+    is_behind_backslash: bool,
     /// Whether each of these two lines has one quotation mark.
     pub is_single: bool,
     /// How many quotation marks came so far in the line.
@@ -48,6 +51,8 @@ impl Span {
             begins: line,
             opened: line,
             over: None,
+            escaped: None,
+            is_behind_backslash: false,
             is_single: true,
             marks: 0,
         }
@@ -79,7 +84,11 @@ impl Span {
         }
         if byte == b'"' {
             self.take_mark();
+            if self.is_behind_backslash && self.escaped.is_none() {
+                self.escaped = Some(self.line);
+            }
         }
+        self.is_behind_backslash = byte == b'\\';
         self.state = self.state.behind(byte);
     }
 

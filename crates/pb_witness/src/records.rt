@@ -7,7 +7,7 @@ use std::io::Read;
 
 /// The records of a text, read one at a time.
 #[derive(Drop)]
-pub struct Records<F: Read> {
+pub struct TextRecords<F: Read> {
     reader: Reader<F>,
     /// The record that was read last.
     pub last: ByteRecord,
@@ -17,15 +17,15 @@ pub struct Records<F: Read> {
     start: Mark,
 }
 
-impl<F: Read> Records<F> {
+impl<F: Read> TextRecords<F> {
     /// The records of the text that a reader gives from this mark on.
-    pub fn new(alloc: Global, reader: F, start: Mark) -> Records<F> {
+    pub fn new(alloc: Global, reader: F, start: Mark) -> TextRecords<F> {
         let reader = ReaderBuilder::new()
             .delimiter(b';')
             .has_headers(false)
             .flexible(true)
             .from_reader(alloc, reader);
-        Records {
+        TextRecords {
             reader,
             last: ByteRecord::new(alloc),
             at: start.at,

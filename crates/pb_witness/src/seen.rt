@@ -23,6 +23,8 @@ pub struct Seen {
     /// The last row of column names, and how many it has.
     pub names: Mark,
     pub columns: usize,
+    /// The row of column names of PROJECTS.
+    pub project_names: Mark,
 }
 
 impl Seen {
@@ -35,6 +37,7 @@ impl Seen {
             last: Mark::start(),
             names: Mark::start(),
             columns: 0,
+            project_names: Mark::start(),
         }
     }
 
@@ -51,7 +54,10 @@ impl Seen {
                 let _ = self.keys.take(text_at(record, 0), mark);
             }
             Part::Project(_) => self.take_head(record, mark),
-            Part::Names(_) => {
+            Part::Names(section) => {
+                if matches!(section, Section::Projects) {
+                    self.project_names = mark;
+                }
                 self.names = mark;
                 self.columns = record.len();
             }

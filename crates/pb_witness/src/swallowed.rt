@@ -3,56 +3,9 @@
 use crate::fields::raw_text;
 use crate::firsts::Firsts;
 use crate::heads::is_head;
-use crate::mark::Mark;
 use csv::ByteRecord;
 use pb_core::money::Money;
 use pb_read::{MetaKey, Part};
-use std::alloc::{AllocError, Global};
-
-/// So many rows are kept that seem to have further rows in a field.
-const MOST_KEPT: usize = 10;
-
-/// Rows that are accepted, and seem to have further rows in a field in quotes.
-#[derive(Drop)]
-pub struct SwallowingRows {
-    /// Where the first of them begin.
-    pub first: Vec<Mark>,
-    /// How many there are.
-    pub count: u64,
-}
-
-impl SwallowingRows {
-    /// No row yet.
-    pub fn new(alloc: Global) -> SwallowingRows {
-        SwallowingRows {
-            first: Vec::new(alloc),
-            count: 0,
-        }
-    }
-
-    /// How many there are beyond those that are kept.
-    pub fn more(&self) -> u64 {
-        self.count.saturating_sub(self.first.len() as u64)
-    }
-
-    /// Takes a record that is accepted. The ids of the projects before it are given.
-    pub(crate) fn take(
-        &mut self,
-        record: &ByteRecord,
-        mark: Mark,
-        part: Part,
-        projects: &Firsts,
-    ) -> Result<(), AllocError> {
-        if !record.as_slice().contains(&b'\n') || !swallows_row(record, part, projects) {
-            return Ok(());
-        }
-        self.count = self.count.saturating_add(1);
-        if self.first.len() < MOST_KEPT {
-            self.first.push(mark)?;
-        }
-        Ok(())
-    }
-}
 
 /// The lines of a field behind its first; the empty text where it has no others.
 pub(crate) fn later_lines(record: &ByteRecord, place: usize) -> &str {
@@ -79,13 +32,34 @@ pub(crate) fn swallows_head(record: &ByteRecord) -> bool {
     false
 }
 
-/// Whether a field of a row has a line in it that seems to be a row of the same part of the file.
-fn swallows_row(record: &ByteRecord, part: Part, projects: &Firsts) -> bool {
+/// Whether a field of a row has a line in it that seems to be a row of the same part of the file, which has so
+/// many column names. The ids of the projects before it are given.
+pub(crate) fn swallows_row(
+    record: &ByteRecord,
+    part: Part,
+    names: usize,
+    projects: &Firsts,
+) -> bool {
+    if !record.as_slice().contains(&b'\n') {
+        return false;
+    }
     for place in 0..record.len() {
-        for line in later_lines(record, place).split('\n') {
-            if is_row(line, part, projects) {
+        let mut lines = later_lines(record, place);
+        for _ in 0..lines.len() {
+            let (line, rest) = lines.split_once('\n').unwrap_or((lines, ""));
+            let behind = if rest.is_empty() {
+                record.len().saturating_sub(place).saturating_sub(1)
+            } else {
+                0
+            };
+            let fields = line.split(';').count().saturating_add(behind);
+            if fields >= names && is_row(line, part, projects) {
                 return true;
             }
+            if rest.is_empty() {
+                break;
+            }
+            lines = rest;
         }
     }
     false

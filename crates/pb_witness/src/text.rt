@@ -1,8 +1,8 @@
 //! The text that words speak of. Where it is a file it is read again.
 
-use crate::fields::{JoinedBy, joined, text_at};
+use crate::fields::{JoinedBy, joined, number_in, text_at};
 use crate::mark::Mark;
-use crate::records::Records;
+use crate::records::TextRecords;
 use std::alloc::{AllocError, Global};
 use std::io::{Read, Seek, SeekFrom};
 use std::rt::Files;
@@ -101,6 +101,14 @@ impl<'a, R: Files> Text<'a, R> {
         is_it
     }
 
+    /// The number that the last row of META with this key gives, if it gives one.
+    pub fn number_of(&self, key: &str) -> Option<u32> {
+        let mut records = self.records_from(Mark::start())?;
+        let number = last_number(&mut records, key);
+        drop(records);
+        number
+    }
+
     /// Whether the record with this mark is the last one.
     pub fn is_last(&self, mark: Mark) -> bool {
         let Some(mut records) = self.record_at(mark) else {
@@ -112,18 +120,18 @@ impl<'a, R: Files> Text<'a, R> {
     }
 
     /// Its records from this mark on, if it is a file that can be read again.
-    pub fn records_from(&self, start: Mark) -> Option<Records<R::File>> {
+    pub fn records_from(&self, start: Mark) -> Option<TextRecords<R::File>> {
         let file = self.open_at(start.byte)?;
-        Some(Records::new(self.alloc, file, start))
+        Some(TextRecords::new(self.alloc, file, start))
     }
 
     /// The record that begins at this mark, which is read last; none where there is no such record any more.
-    pub fn record_at(&self, mark: Mark) -> Option<Records<R::File>> {
+    pub fn record_at(&self, mark: Mark) -> Option<TextRecords<R::File>> {
         self.records_at(mark.before(), mark.at)
     }
 
     /// Its records from the one with this number on, which is read last; none where it has no such record.
-    pub fn records_at(&self, start: Mark, at: u64) -> Option<Records<R::File>> {
+    pub fn records_at(&self, start: Mark, at: u64) -> Option<TextRecords<R::File>> {
         let mut records = self.records_from(start)?;
         if records.advance_to(at) {
             return Some(records);
@@ -131,6 +139,19 @@ impl<'a, R: Files> Text<'a, R> {
         drop(records);
         None
     }
+}
+
+fn last_number<F: Read>(records: &mut TextRecords<F>, key: &str) -> Option<u32> {
+    let mut number = None;
+    for _ in 0..u64::MAX {
+        if !records.advance() || text_at(&records.last, 0).eq_ignore_ascii_case("PROJECTS") {
+            return number;
+        }
+        if text_at(&records.last, 0).eq_ignore_ascii_case(key) {
+            number = number_in(text_at(&records.last, 1).as_bytes());
+        }
+    }
+    number
 }
 
 /// Whether a path names a file. A pipe or a device is none: it has given what it had.
@@ -160,6 +181,20 @@ fn behind<F: Seek + Drop>(mut file: F, byte: u64) -> Option<F> {
     }
     drop(file);
     None
+}
+
+/// Whether a text begins as JSON does: with an opening bracket, and a further one or a quotation mark behind it.
+pub fn is_json(bytes: &[u8]) -> bool {
+    let mut is_open = false;
+    for byte in bytes {
+        match byte {
+            b' ' | b'\t' | b'\r' | b'\n' | 0xef | 0xbb | 0xbf => {}
+            b'{' | b'[' if !is_open => is_open = true,
+            b'{' | b'[' | b'"' => return is_open,
+            _ => return false,
+        }
+    }
+    false
 }
 
 /// Whether a text begins as a web page does: with a `<` behind white space and perhaps a byte order mark.

@@ -3,7 +3,7 @@
 use crate::fields::text_at;
 use crate::heads::is_head;
 use crate::mark::Mark;
-use crate::records::Records;
+use crate::records::TextRecords;
 use crate::text::Text;
 use pb_core::election::Election;
 use pb_read::read_pb;
@@ -27,7 +27,7 @@ pub fn voter_like_a_heading<R: Files>(journal: &Text<'_, R>) -> Result<Option<St
 }
 
 /// Reads on to an entry of such a voter, and answers whether there is one.
-fn next_like_a_heading<F: Read>(records: &mut Records<F>) -> bool {
+fn next_like_a_heading<F: Read>(records: &mut TextRecords<F>) -> bool {
     for _ in 0..u64::MAX {
         if !records.advance() {
             return false;

@@ -1,10 +1,11 @@
 //! Where the first rows of the voters stand whose ids are repeated.
 
+use crate::faulty_record::FaultyRecord;
 use crate::fields::is_blank;
 use crate::mark::Mark;
-use crate::records::Records;
+use crate::records::TextRecords;
 use crate::text::Text;
-use crate::witness::{Refused, Witness};
+use crate::witness::Witness;
 use pb_read::{ReadKind, Stage};
 use std::alloc::{AllocError, Global};
 use std::io::Read;
@@ -48,7 +49,7 @@ pub fn first_rows<R: Files>(
     if rows.places.is_empty() {
         return Ok(rows);
     }
-    if let Some(mut records) = text.record_at(witness.names_mark()) {
+    if let Some(mut records) = text.record_at(witness.seen.names) {
         let found = find(&mut records, witness.refused.as_slice(), &mut rows);
         drop(records);
         found?;
@@ -57,7 +58,7 @@ pub fn first_rows<R: Files>(
 }
 
 /// The places of the voters whose ids are repeated, rising and each once.
-fn repeated(alloc: Global, refused: &[Refused]) -> Result<Vec<u32>, AllocError> {
+fn repeated(alloc: Global, refused: &[FaultyRecord]) -> Result<Vec<u32>, AllocError> {
     let mut places = Vec::new(alloc);
     for row in refused {
         if let (ReadKind::RepeatedVoter, Some(place)) = (
@@ -74,8 +75,8 @@ fn repeated(alloc: Global, refused: &[Refused]) -> Result<Vec<u32>, AllocError> 
 
 /// Finds the rows: those of VOTES that are neither blank nor refused are of the voters, in their order.
 fn find<F: Read>(
-    records: &mut Records<F>,
-    refused: &[Refused],
+    records: &mut TextRecords<F>,
+    refused: &[FaultyRecord],
     rows: &mut FirstRows,
 ) -> Result<(), AllocError> {
     let mut place = 0u32;

@@ -2,222 +2,224 @@
 
 ghost use Rattle.std.specs.Prelude.{◌≡◌, Option};
 
+use crate::fields::text_at;
 use crate::mark::Mark;
+use crate::meta_oddities::MetaOddities;
 use crate::oddities::{Odd, Oddities};
-use crate::result_columns::{ResultClaims, ResultColumns};
-use crate::result_oddities::{ResultOddities, last_ballot};
+use crate::project_oddities::ProjectOddities;
+use crate::swallowed::swallows_row;
+use crate::vote_oddities::{VoteOddities, VoteRow};
 use crate::witness::Witness;
 use csv::ByteRecord;
 use pb_core::election::Election;
 use pb_core::no_memory::NoMemory;
 use pb_read::{
-    Compare, Heed, Oddity, Part, ProjectColumns, Refusal, Section, Stage, VoteColumns, Warn,
-    Warning, WarningRow, Watch,
+    Column, Compare, Heed, Oddity, Part, Refusal, Section, Stage, Warn, Warning, WarningRow, Watch,
 };
 use std::alloc::{AllocError, Global};
 
-/// The most warnings of one name that a check lists.
-const MOST: u64 = 100;
-
-/// A project, and how it is backed.
-#[derive(Clone, Copy)]
-struct Backed {
-    /// What it is where no vote names it.
-    alone: Odd,
-    /// How many votes name it.
-    supporters: u64,
-    /// Whether it wins the count with which `selected` is compared.
-    is_winner: bool,
-    /// What its row claims of the result.
-    claims: ResultClaims,
-}
-
-impl Backed {
-    /// What its row says of its votes, if the ballots have another number.
-    fn wrong_votes(&self) -> Option<Odd> {
-        let value_place = self.claims.votes?.unless(self.supporters)?;
-        Some(Odd {
-            oddity: Oddity::VotesOf,
-            value_place,
-            number: self.supporters,
-            ..self.alone
-        })
-    }
-
-    /// What its row says of whether it wins, if the count says otherwise.
-    fn wrong_selected(&self) -> Option<Odd> {
-        let value_place = self.claims.selected?.unless_is(self.is_winner)?;
-        Some(Odd {
-            oddity: Oddity::SelectedOf,
-            value_place,
-            number: u64::from(self.is_winner),
-            ..self.alone
-        })
-    }
-}
-
-/// Looks on while a file is checked, and collects warnings.
+/// Looks on while a file is read, and collects warnings: all of them for a check, and what can change the
+/// result for a count.
 #[derive(Drop)]
 pub struct Warnings {
     alloc: Global,
-    results: ResultOddities,
-    projects: Vec<Backed>,
-    /// The columns of PROJECTS that claim a result.
-    columns: ResultColumns,
+    found: Oddities,
+    meta: MetaOddities,
+    projects: Option<ProjectOddities>,
+    votes: Option<VoteOddities>,
+    /// How many rows VOTES and PROJECTS have, those that are left out too.
+    rows: (u64, u64),
     /// Whether a record was refused: then what the file claims of the result is not compared.
     has_fault: bool,
     /// Whether the file has ended, and may end there.
     has_ended: bool,
+    /// Whether a warning refuses the file of a count.
+    is_strict: bool,
+    /// The first warning, once the file has ended and may end there.
+    first: Option<Warning>,
     /// What words need of what is refused.
     pub witness: Witness,
 }
 
 impl Warnings {
-    /// Nothing was seen yet.
-    pub fn new(alloc: Global) -> Warnings {
+    /// For a check. Nothing was seen yet.
+    pub fn of_check(alloc: Global) -> Warnings {
+        Warnings::new(alloc, Oddities::of_check(alloc), false)
+    }
+
+    /// For a count. Nothing was seen yet; where it is strict a warning refuses the file.
+    pub fn of_count(alloc: Global, is_strict: bool) -> Warnings {
+        Warnings::new(alloc, Oddities::of_count(alloc), is_strict)
+    }
+
+    fn new(alloc: Global, found: Oddities, is_strict: bool) -> Warnings {
         Warnings {
             alloc,
-            results: ResultOddities::new(Oddities::new(alloc, MOST)),
-            projects: Vec::new(alloc),
-            columns: ResultColumns::none(),
+            found,
+            meta: MetaOddities::new(alloc),
+            projects: None,
+            votes: None,
+            rows: (0, 0),
             has_fault: false,
             has_ended: false,
+            is_strict,
+            first: None,
             witness: Witness::new(alloc),
         }
     }
 
-    /// What was found, once the file has ended and may end there.
+    /// What was found, once the file has ended and may end there, where anything was.
     pub fn found(&self) -> Option<&Oddities> {
-        if self.has_ended {
-            Some(&self.results.found)
+        if self.first.is_some() {
+            Some(&self.found)
         } else {
             None
         }
     }
 
-    /// Takes a project that is accepted, the last one of the election.
-    fn take_project(
+    /// The rule that META names and where, once the file has ended and may end there.
+    pub fn rule(&self) -> Option<(&str, Mark)> {
+        if self.has_ended {
+            self.meta.rule()
+        } else {
+            None
+        }
+    }
+
+    /// Takes a record that is accepted.
+    fn take(
         &mut self,
         row: &ByteRecord,
-        at: u32,
-        columns: ProjectColumns,
+        mark: Mark,
+        part: Part,
         election: &Election,
     ) -> Result<(), AllocError> {
-        let mark = Mark::of(row, u64::from(at));
-        if let Some(project) = election.projects().last() {
-            if project.id().contains(',') {
-                let odd = Odd::of_project(Oddity::CommaInId, mark, columns);
-                self.results.found.take(odd);
+        let names = self.names_of(part);
+        let found = &mut self.found;
+        if swallows_row(row, part, names, &self.witness.ids.projects) {
+            found.take(Odd::of_part(Oddity::SwallowedRows, mark, part));
+        }
+        match part {
+            Part::Other | Part::Head(_) => Ok(()),
+            Part::Names(section) => self.take_names(row, mark, section),
+            Part::Key => self.meta.take(row, mark, self.witness.keys(), found),
+            Part::Project(columns) => {
+                self.rows.1 = self.rows.1.saturating_add(1);
+                match &mut self.projects {
+                    Some(projects) => projects.take(row, mark, columns, found),
+                    None => Ok(()),
+                }
             }
-            if project.cost().0 > election.budget().0 {
-                let odd = Odd::of_project(Oddity::OverBudget, mark, columns);
-                self.results.found.take(odd);
+            Part::Vote(columns) => {
+                self.rows.0 = self.rows.0.saturating_add(1);
+                let row = VoteRow {
+                    record: row,
+                    mark,
+                    columns,
+                    election,
+                    projects: &self.witness.ids.projects,
+                    min_length: self.meta.min_length,
+                };
+                match &mut self.votes {
+                    Some(votes) => votes.take(row, found),
+                    None => Ok(()),
+                }
             }
         }
-        let alone = Odd::of_project(Oddity::NoSupporter, mark, columns);
-        self.projects.push(Backed {
-            alone,
-            supporters: 0,
-            is_winner: false,
-            claims: self.columns.claims_of(row),
-        })?;
+    }
+
+    /// How many column names the section of a row has; 0 where it has none that count.
+    fn names_of(&self, part: Part) -> usize {
+        match (part, &self.projects, &self.votes) {
+            (Part::Project(_), Some(projects), _) => projects.names,
+            (Part::Vote(_), _, Some(votes)) => votes.names,
+            _ => 0,
+        }
+    }
+
+    /// Takes a section's row of column names. After META its budget is known.
+    fn take_names(
+        &mut self,
+        names: &ByteRecord,
+        mark: Mark,
+        section: Section,
+    ) -> Result<(), AllocError> {
+        let found = &mut self.found;
+        match section {
+            Section::Meta => {}
+            Section::Projects => {
+                self.meta.end_meta(found);
+                take_repeated(names, mark, [Column::ProjectId, Column::Cost], found);
+                self.projects = Some(ProjectOddities::of(self.alloc, names)?);
+            }
+            Section::Votes => {
+                take_repeated(names, mark, [Column::VoterId, Column::Vote], found);
+                self.votes = Some(VoteOddities::of(self.alloc, names, mark)?);
+            }
+        }
         Ok(())
     }
 
-    /// Compares what the column `selected` says with a count that elects or adds the projects at these
-    /// places.
-    fn compare(&mut self, winners: &[u32]) {
-        for winner in winners {
-            let place = *winner as usize;
-            if place < self.projects.len() {
-                self.projects[place].is_winner = true;
-            }
+    /// Takes the end of the file, whose accepted rows give this election.
+    fn take_end(&mut self, election: &Election) -> Result<(), AllocError> {
+        let found = &mut self.found;
+        found.has_no_votes = self.rows.0 == 0;
+        found.voters = election.voters().len() as u64;
+        if let Some(projects) = &self.projects {
+            let has_districts = projects.has_districts;
+            self.meta.end(election, self.rows, has_districts, found);
+            projects.end(election, self.has_fault, found)?;
         }
-        for project in &self.projects {
-            if let Some(odd) = project.wrong_selected() {
-                self.results.found.take(odd);
-            }
-        }
-    }
-
-    /// Takes a vote that is accepted, the last one of the election.
-    fn take_vote(&mut self, row: &ByteRecord, at: u32, columns: VoteColumns, election: &Election) {
-        let ballot = last_ballot(election);
-        for place in ballot {
-            self.back(*place as usize);
-        }
-        let length = ballot.len() as u64;
-        let mark = Mark::of(row, u64::from(at));
-        let empty = Odd::of_vote(Oddity::EmptyBallot, mark, columns, length);
-        if length == 0 {
-            self.results.found.take(empty);
-        }
-        let limit = election.max_length().map(u64::from);
-        if length > limit.unwrap_or(u64::MAX) {
-            let oddity = Oddity::TooLongBallot;
-            self.results.found.take(Odd {
-                oddity,
-                limit,
-                ..empty
-            });
-        }
-        let limit = self.results.claims.min_length;
-        if length < limit.unwrap_or(0) {
-            let oddity = Oddity::TooShortBallot;
-            self.results.found.take(Odd {
-                oddity,
-                limit,
-                ..empty
-            });
+        match &self.votes {
+            Some(votes) => votes.end(election.voters().len() as u64, found),
+            None => Ok(()),
         }
     }
+}
 
-    /// Counts one more supporter of the project at this place.
-    fn back(&mut self, place: usize) {
-        if place < self.projects.len() {
-            let supporters = self.projects[place].supporters;
-            self.projects[place].supporters = supporters.saturating_add(1);
+/// Takes a row of column names, which is odd for each of these that stands in it twice.
+fn take_repeated(row: &ByteRecord, mark: Mark, needed: [Column; 2], found: &mut Oddities) {
+    for column in needed {
+        let mut last = 0usize;
+        let mut count = 0u64;
+        for place in 0..row.len() {
+            if text_at(row, place).eq_ignore_ascii_case(column.name()) {
+                last = place;
+                count = count.saturating_add(1);
+            }
+        }
+        if count > 1 {
+            found.take(Odd::of_column(Oddity::RepeatedColumn, mark, last).by(count));
         }
     }
 }
 
 impl Watch for Warnings {
     fn see(&mut self, record: &ByteRecord, at: u32, part: Part, election: &Election) {
-        self.witness.see(record, at, part, election);
-        self.results.take(record, at, part, election);
-        match part {
-            Part::Project(columns) => {
-                if self.take_project(record, at, columns, election).is_err() {
-                    self.results.found.fail();
-                }
-            }
-            Part::Vote(columns) => self.take_vote(record, at, columns, election),
-            Part::Names(Section::Projects) => self.columns = ResultColumns::of(record),
-            Part::Other | Part::Head(_) | Part::Names(_) | Part::Key => {}
+        let mark = Mark::of(record, u64::from(at));
+        if self.take(record, mark, part, election).is_err() {
+            self.found.fail();
         }
+        self.witness.take(record, mark, part);
     }
 
     fn refuse(&mut self, record: &ByteRecord, refusal: Refusal, stage: &Stage) {
         self.has_fault = true;
         self.witness.refuse(record, refusal, stage);
-        self.results.leave_out(stage);
+        match stage {
+            Stage::InProjects(_) => self.rows.1 = self.rows.1.saturating_add(1),
+            Stage::InVotes(_) => self.rows.0 = self.rows.0.saturating_add(1),
+            _ => {}
+        }
     }
 
     fn end(&mut self, election: &Election) {
         self.witness.end(election);
-        self.has_ended = true;
-        self.results.end(election);
-        for project in &self.projects {
-            if project.supporters == 0 {
-                self.results.found.take(project.alone);
-            }
-            if self.has_fault {
-                continue;
-            }
-            if let Some(odd) = project.wrong_votes() {
-                self.results.found.take(odd);
-            }
+        if self.take_end(election).is_err() {
+            self.found.fail();
         }
+        self.has_ended = true;
+        self.first = self.found.first();
     }
 }
 
@@ -228,7 +230,7 @@ impl Warn for Warnings {
 
     fn warnings(&mut self) -> Result<Vec<WarningRow>, NoMemory> {
         if self.has_ended {
-            self.results.found.rows()
+            self.found.rows()
         } else {
             Ok(Vec::new(self.alloc))
         }
@@ -241,64 +243,15 @@ impl Compare for Warnings {
     ghost has_compared = { λ _ _. ⊤ };
 
     fn warnings_beside(&mut self, winners: &[u32]) -> Result<Vec<WarningRow>, NoMemory> {
-        self.compare(winners);
+        if let Some(projects) = &mut self.projects {
+            projects.compare(winners, &mut self.found);
+        }
+        self.first = self.found.first();
         self.warnings()
     }
 }
 
-/// Looks on while a file is read that is counted, and collects what can change the result.
-#[derive(Drop)]
-pub struct ResultWarnings {
-    alloc: Global,
-    results: ResultOddities,
-    /// Whether a warning refuses the file.
-    is_strict: bool,
-    /// The first warning, once the file has ended and may end there.
-    first: Option<Warning>,
-    /// What words need of what is refused.
-    pub witness: Witness,
-}
-
-impl ResultWarnings {
-    /// Nothing was seen yet; where it is strict a warning refuses the file.
-    pub fn new(alloc: Global, is_strict: bool) -> ResultWarnings {
-        ResultWarnings {
-            alloc,
-            results: ResultOddities::new(Oddities::new(alloc, 1)),
-            is_strict,
-            first: None,
-            witness: Witness::new(alloc),
-        }
-    }
-
-    /// What was found, each kind once, where anything was.
-    pub fn found(&self) -> Option<&Oddities> {
-        if self.first.is_some() {
-            Some(&self.results.found)
-        } else {
-            None
-        }
-    }
-}
-
-impl Watch for ResultWarnings {
-    fn see(&mut self, record: &ByteRecord, at: u32, part: Part, election: &Election) {
-        self.witness.see(record, at, part, election);
-        self.results.take(record, at, part, election);
-    }
-
-    fn refuse(&mut self, record: &ByteRecord, refusal: Refusal, stage: &Stage) {
-        self.witness.refuse(record, refusal, stage);
-    }
-
-    fn end(&mut self, election: &Election) {
-        self.witness.end(election);
-        self.results.end(election);
-        self.first = self.results.found.first();
-    }
-}
-
-impl Heed for ResultWarnings {
+impl Heed for Warnings {
     ghost use Rattle.std.specs.Prelude.{None, if◌then◌else◌};
 
     ghost refused_for = { λ warnings. if warnings.is_strict then warnings.first else None };

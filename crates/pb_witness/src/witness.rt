@@ -1,40 +1,31 @@
 //! Who looks on while a .pb file is read, and keeps what words need of what the reader refuses.
 
+use crate::faulty_record::{FaultyRecord, piece_of};
+use crate::fields::text_at;
 use crate::ids::Ids;
+use crate::keys::Keys;
 use crate::mark::Mark;
+use crate::rows::VoteRows;
 use crate::seen::Seen;
-use crate::swallowed::SwallowingRows;
 use crate::text::Text;
+use crate::unknown::UnknownIds;
 use csv::ByteRecord;
 use pb_core::election::Election;
-use pb_read::{MOST_FAULTS, Part, ReadKind, Refusal, Stage, Watch, read_pb_watched};
+use pb_read::{MOST_FAULTS, Part, ReadKind, Refusal, Stage, VoteColumns, Watch, check_pb};
 use std::alloc::{AllocError, Global};
 use std::rt::Files;
-
-/// A record that the reader refused.
-#[derive(Drop)]
-pub struct Refused {
-    pub refusal: Refusal,
-    /// Its fields; none where there is no record.
-    pub record: ByteRecord,
-    /// Where it begins.
-    pub mark: Mark,
-    /// How far the file was read before it.
-    pub stage: Stage,
-    /// What the records before it say.
-    pub seen: Seen,
-}
 
 /// Looks on while a .pb file is read, and keeps what words need of the first 1,000 records that are refused.
 #[derive(Drop)]
 pub struct Witness {
-    seen: Seen,
+    alloc: Global,
+    pub seen: Seen,
     pub ids: Ids,
-    pub refused: Vec<Refused>,
-    /// Rows that are accepted, and seem to have further rows in a field.
-    swallowing: SwallowingRows,
-    /// Whether the file has ended, and may end there.
-    has_ended: bool,
+    /// The ids that no project has.
+    pub unknown: UnknownIds,
+    /// The rows of VOTES.
+    pub rows: VoteRows,
+    pub refused: Vec<FaultyRecord>,
     /// Whether all was kept: no memory was refused.
     pub is_whole: bool,
 }
@@ -43,40 +34,49 @@ impl Witness {
     /// Nothing was shown yet.
     pub fn new(alloc: Global) -> Witness {
         Witness {
+            alloc,
             seen: Seen::nothing(),
             ids: Ids::new(alloc),
+            unknown: UnknownIds::new(alloc),
+            rows: VoteRows::new(alloc),
             refused: Vec::new(alloc),
-            swallowing: SwallowingRows::new(alloc),
-            has_ended: false,
             is_whole: true,
         }
     }
 
-    /// The rows that are accepted and seem to have further rows in a field, once the file has ended and may
-    /// end there.
-    pub fn swallowing(&self) -> Option<&SwallowingRows> {
-        if self.has_ended {
-            Some(&self.swallowing)
-        } else {
-            None
-        }
-    }
-
-    /// Looks on while a text is read once more, if it is a file.
+    /// Looks on while a text is checked once more, if it is a file.
     pub fn look_again<R: Files>(&mut self, text: &Text<'_, R>) {
         let Some(file) = text.open_at(0) else {
             return;
         };
-        match read_pb_watched(text.alloc, file, self) {
-            Ok(election) => drop(election),
-            Err(again) if again.kind == ReadKind::NoMemory => self.is_whole = false,
-            Err(_) => {}
+        match check_pb(text.alloc, file, self) {
+            Ok(checked) => drop(checked),
+            Err(_) => self.is_whole = false,
         }
     }
 
-    /// Where the row of the column names begins that was shown last.
-    pub fn names_mark(&self) -> Mark {
-        self.seen.names
+    /// Whether no vote names a project of the file, although all of its projects are accepted.
+    pub(crate) fn is_of_other_projects(&self) -> bool {
+        let is_none = !self.rows.names_project && self.ids.left_out.len() == 0;
+        is_none && self.unknown.found.len() > 1
+    }
+
+    /// The rows of META that gave keys so far.
+    pub fn keys(&self) -> &Keys {
+        &self.seen.keys
+    }
+
+    /// Takes a record that is accepted, and begins here.
+    pub(crate) fn take(&mut self, record: &ByteRecord, mark: Mark, part: Part) {
+        self.seen.take(record, mark, part);
+        if self.ids.take(record, mark, part).is_err() {
+            self.is_whole = false;
+        }
+        if let Part::Vote(columns) = part {
+            self.rows.accepted = self.rows.accepted.saturating_add(1);
+            let is_first = !self.rows.names_project;
+            self.rows.names_project |= is_first && !text_at(record, columns.vote).is_empty();
+        }
     }
 
     /// Takes a record that is refused.
@@ -87,7 +87,7 @@ impl Witness {
         stage: &Stage,
     ) -> Result<(), AllocError> {
         let mark = Mark::of(record, u64::from(refusal.fault.at));
-        self.refused.push(Refused {
+        self.refused.push(FaultyRecord {
             refusal,
             record: record.clone()?,
             mark,
@@ -99,23 +99,54 @@ impl Witness {
     }
 }
 
+impl Witness {
+    /// Counts a row of VOTES that is refused.
+    fn count(
+        &mut self,
+        record: &ByteRecord,
+        refusal: Refusal,
+        columns: &VoteColumns,
+    ) -> Result<(), AllocError> {
+        self.rows.refused = self.rows.refused.saturating_add(1);
+        let vote = text_at(record, columns.vote);
+        match (refusal.fault.kind, refusal.piece, refusal.earlier) {
+            (ReadKind::UnknownProject, Some(piece), _) => {
+                for piece in vote.split(',') {
+                    if let Some(place) = self.ids.projects.place(piece.trim()) {
+                        self.rows.names_project = true;
+                        self.rows.name(place)?;
+                    }
+                }
+                let id = piece_of(vote, piece);
+                let mark = Mark::of(record, u64::from(refusal.fault.at));
+                self.unknown.take(self.alloc, id, vote, mark)
+            }
+            (ReadKind::RepeatedVoter, _, Some(place)) => self.rows.repeat(place, vote),
+            _ => Ok(()),
+        }
+    }
+}
+
 impl Watch for Witness {
     fn see(&mut self, record: &ByteRecord, at: u32, part: Part, _election: &Election) {
-        let mark = Mark::of(record, u64::from(at));
-        self.seen.take(record, mark, part);
-        let kept = self.swallowing.take(record, mark, part, &self.ids.projects);
-        if kept.is_err() || self.ids.take(record, mark, part).is_err() {
-            self.is_whole = false;
-        }
+        self.take(record, Mark::of(record, u64::from(at)), part);
     }
 
     fn refuse(&mut self, record: &ByteRecord, refusal: Refusal, stage: &Stage) {
+        let counted = match stage {
+            Stage::InVotes(columns) => self.count(record, refusal, columns),
+            _ => Ok(()),
+        };
+        self.is_whole &= counted.is_ok();
         if self.refused.len() < MOST_FAULTS && self.keep(record, refusal, stage).is_err() {
             self.is_whole = false;
         }
     }
 
-    fn end(&mut self, _election: &Election) {
-        self.has_ended = true;
+    fn end(&mut self, election: &Election) {
+        self.rows.end(election);
+        if self.unknown.votes > 0 && self.rows.name_all(election).is_err() {
+            self.is_whole = false;
+        }
     }
 }

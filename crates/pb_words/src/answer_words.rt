@@ -1,7 +1,7 @@
 //! Words for the answer to a request that was typed with ids of projects.
 
-use crate::words::Value::{Number, Own, Quoted};
-use crate::words::{Said, Words};
+use crate::words::PlaceholderValue::{Number, Own, Quoted};
+use crate::words::{Said, WordsWriter};
 use csv::ByteRecord;
 use pb_core::answer::Answer;
 use pb_core::row_words::{CAST, REPLACE, SHUT};
@@ -12,7 +12,7 @@ use std::alloc::Global;
 /// Words for the answer to the row with this number, from 1, of standard input. They name its voter and its
 /// projects, if the row is among those that were read last.
 pub fn answer_words(alloc: Global, rows: &LastRows, number: u64, answer: Answer) -> Said {
-    let mut out = Words::new(alloc);
+    let mut out = WordsWriter::new(alloc);
     out.fill("standard input: row {}", &[Number(number)]);
     if let Some(records) = rows.records_to(number) {
         put_request(&mut out, &records.last);
@@ -22,7 +22,7 @@ pub fn answer_words(alloc: Global, rows: &LastRows, number: u64, answer: Answer)
 }
 
 /// Puts what a row asks. The desk has admitted it, so its request is one of the four words.
-fn put_request(out: &mut Words, row: &ByteRecord) {
+fn put_request(out: &mut WordsWriter, row: &ByteRecord) {
     let request = raw_text(row, 1);
     if request == SHUT {
         return out.put(", shut");
@@ -35,7 +35,7 @@ fn put_request(out: &mut Words, row: &ByteRecord) {
 }
 
 /// Puts the ids of projects that a ballot names, as they were typed.
-fn put_projects(out: &mut Words, ids: &str) {
+fn put_projects(out: &mut WordsWriter, ids: &str) {
     let count = ids.split(',').filter(|id| !id.trim().is_empty()).count();
     let first = match count {
         0 => return out.put(" (no project)"),
@@ -50,7 +50,7 @@ fn put_projects(out: &mut Words, ids: &str) {
 }
 
 /// Puts the id of a project, unless it is empty; `first` stands before the first one.
-fn put_id(out: &mut Words, is_first: &mut bool, first: &'static str, id: &str) {
+fn put_id(out: &mut WordsWriter, is_first: &mut bool, first: &'static str, id: &str) {
     if !id.is_empty() {
         let before = if *is_first { first } else { ", " };
         out.fill("{}{}", &[Own(before), Quoted(id)]);
@@ -59,7 +59,7 @@ fn put_id(out: &mut Words, is_first: &mut bool, first: &'static str, id: &str) {
 }
 
 /// Puts whether a request was carried out, and why it was not.
-fn put_answer(out: &mut Words, answer: Answer) {
+fn put_answer(out: &mut WordsWriter, answer: Answer) {
     let why = match answer {
         Answer::Done => return out.put(": carried out.\n"),
         Answer::UnknownPlace(place) => {

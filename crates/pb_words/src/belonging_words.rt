@@ -1,6 +1,6 @@
 //! Words for a journal and the file that it belongs to.
 
-use crate::words::Value::{Beside, Name, Own};
+use crate::words::PlaceholderValue::{Beside, Name, Own};
 use crate::words::{Said, failed, said};
 use std::alloc::Global;
 use std::io::Error;

@@ -1,7 +1,7 @@
 //! Words for a count's options, and for raises that were spent.
 
-use crate::words::Value::{Amount, Count, Name, Number, Own};
-use crate::words::{Said, Words};
+use crate::words::PlaceholderValue::{Amount, Count, Name, Number, Own};
+use crate::words::{Said, WordsWriter};
 use pb_rounds::count_fault::CountFault;
 use pb_rounds::options::CountOptions;
 use std::alloc::Global;
@@ -29,7 +29,7 @@ pub fn count_words(
     fault: CountFault,
     options: &CountOptions,
 ) -> Said {
-    let mut out = Words::new(alloc);
+    let mut out = WordsWriter::new(alloc);
     match fault {
         CountFault::RaisesSpent => out.fill(
             "{}: the count is not finished after {} of {}, so there is no result.\n",
@@ -52,7 +52,7 @@ pub fn spent_words(
     deciding: Deciding,
     step: Option<u64>,
 ) -> Said {
-    let mut out = Words::new(alloc);
+    let mut out = WordsWriter::new(alloc);
     out.put("First see what the rules of your vote say about the step and the number of raises.\n");
     put_raises(&mut out, deciding);
     if options.max_raises > 0 {
@@ -62,7 +62,7 @@ pub fn spent_words(
 }
 
 /// Puts how many raises would decide.
-fn put_raises(out: &mut Words, deciding: Deciding) {
+fn put_raises(out: &mut WordsWriter, deciding: Deciding) {
     match deciding {
         Deciding::Least(raises) => out.fill(
             "You can allow more raises: `--raises {}` is enough, and any smaller number is not.\n",
@@ -85,7 +85,7 @@ fn put_raises(out: &mut Words, deciding: Deciding) {
 }
 
 /// Puts a larger step, which is known to decide with so many raises where it is given, and what it may cost.
-fn put_step(out: &mut Words, raises: u32, step: Option<u64>) {
+fn put_step(out: &mut WordsWriter, raises: u32, step: Option<u64>) {
     match step {
         Some(step) => out.fill(
             "You can use a larger step: with {}, `--step {}` ({}) is certainly enough; \
@@ -102,7 +102,7 @@ fn put_step(out: &mut Words, raises: u32, step: Option<u64>) {
 }
 
 /// Puts which option a count refuses.
-fn put_option(out: &mut Words, fault: CountFault, options: &CountOptions) {
+fn put_option(out: &mut WordsWriter, fault: CountFault, options: &CountOptions) {
     let (option, value, range) = match fault {
         CountFault::WorkerCount => ("workers", u64::from(options.workers), "1 to 64"),
         CountFault::StepRange => ("step", options.step.0, "1 to 1000000000"),
@@ -113,7 +113,7 @@ fn put_option(out: &mut Words, fault: CountFault, options: &CountOptions) {
 }
 
 /// Puts that an option is out of its range.
-pub(crate) fn put_range<'w>(out: &mut Words, option: &'w str, value: u64, range: &'w str) {
+pub(crate) fn put_range<'w>(out: &mut WordsWriter, option: &'w str, value: u64, range: &'w str) {
     out.fill(
         "option --{}: {} is not allowed. Give a value from {}.\n",
         &[Own(option), Number(value), Own(range)],

@@ -1,7 +1,7 @@
 //! Words for an exported file: what it lacks, and why there is none.
 
-use crate::words::Value::{Name, Own, Quoted};
-use crate::words::{Said, Words, said};
+use crate::words::PlaceholderValue::{Name, Own, Quoted};
+use crate::words::{Said, WordsWriter, said};
 use pb_witness::text::Text;
 use pb_witness::unwritable::{project_with_comma, voter_like_a_heading};
 use std::alloc::Global;
@@ -20,7 +20,7 @@ pub const ASKED_FOR: [&str; 6] = [
 /// Words where the file with this path lacks some of these keys, and so does the exported file; no path is
 /// standard input.
 pub fn lacking_words(alloc: Global, path: Option<&str>, lacking: &[bool; 6]) -> Said {
-    let mut out = Words::new(alloc);
+    let mut out = WordsWriter::new(alloc);
     let mut before = "";
     for place in 0..6usize {
         if lacking[place] {
@@ -64,7 +64,7 @@ pub fn heading_words<R: Files>(
 /// Words for an election with a vote for a project whose id has a comma; whether its ballots are those of a
 /// journal.
 pub fn comma_words<R: Files>(rt: &R, alloc: Global, file: Option<&str>, has_journal: bool) -> Said {
-    let mut out = Words::new(alloc);
+    let mut out = WordsWriter::new(alloc);
     let project = project_with_comma(&Text::new(rt, alloc, file))?;
     out.fill("{}: a ballot names ", &[Name(file)]);
     match &project {

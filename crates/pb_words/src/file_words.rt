@@ -1,8 +1,8 @@
 //! Words for files: those that cannot be opened, read or written.
 
 use crate::mark_words::put_record_number;
-use crate::words::Value::{Name, Own};
-use crate::words::{Said, Words, failed, said};
+use crate::words::PlaceholderValue::{Name, Own};
+use crate::words::{Said, WordsWriter, failed, said};
 use pb_witness::failures::{is_folder, opening_failure, reading_failure};
 use pb_witness::text::{Text, is_file};
 use std::alloc::Global;
@@ -66,7 +66,7 @@ const CUT_OFF: &str =
 /// Puts why a text could not be read to its end, at the record with this number where there is one, if it has
 /// a path; answers whether it has. A file is tried once more, for the system's reason.
 pub(crate) fn put_reading_failed<R: Files>(
-    out: &mut Words,
+    out: &mut WordsWriter,
     text: &Text<R>,
     at: Option<u64>,
 ) -> bool {
@@ -93,7 +93,7 @@ pub(crate) fn put_reading_failed<R: Files>(
 
 /// Words for a file that could not be read to its end.
 pub fn unread_words<R: Files>(rt: &R, alloc: Global, path: &str) -> Said {
-    let mut out = Words::new(alloc);
+    let mut out = WordsWriter::new(alloc);
     let _ = put_reading_failed(&mut out, &Text::new(rt, alloc, Some(path)), None);
     out.finish()
 }

@@ -3,8 +3,8 @@
 use crate::file_words::{NO_MEMORY, put_reading_failed};
 use crate::mark_words::{put_mark, put_record_number, put_subject, put_unclosed};
 use crate::row_words::{JOURNAL_FIELDS, put_field_count, put_flaw};
-use crate::words::Value::{Bytes, Count, Name, Number, Numbers, Own};
-use crate::words::{Said, Words};
+use crate::words::PlaceholderValue::{Bytes, Count, Name, Number, Numbers, Own};
+use crate::words::{Said, WordsWriter};
 use csv::ByteRecord;
 use pb_core::answer::Answer;
 use pb_core::row_words::{
@@ -54,12 +54,12 @@ pub fn journal_words<R: Files>(
     paths: AuditPaths<'_>,
     fault: AuditFault,
 ) -> Said {
-    let mut out = Words::new(alloc);
+    let mut out = WordsWriter::new(alloc);
     put_words(&mut out, &Audited::new(rt, alloc, paths, fault));
     out.finish()
 }
 
-fn put_words<R: Files>(out: &mut Words, audited: &Audited<R>) {
+fn put_words<R: Files>(out: &mut WordsWriter, audited: &Audited<R>) {
     let is_put = match audited.fault {
         AuditFault::ReadFailed(_) => put_reading_failed(out, &audited.journal, Some(audited.at)),
         _ => put_found(out, audited),
@@ -71,19 +71,19 @@ fn put_words<R: Files>(out: &mut Words, audited: &Audited<R>) {
 }
 
 /// Puts this sentence, and where to get a journal that is right.
-fn put_get<R>(out: &mut Words, audited: &Audited<R>, why: &str) {
+fn put_get<R>(out: &mut WordsWriter, audited: &Audited<R>, why: &str) {
     out.put(why);
     out.put(if audited.is_served { GET_COPY } else { GET_IT })
 }
 
 /// Puts what to do about a wrong answer.
-fn put_other_answer<R>(out: &mut Words, audited: &Audited<R>) {
+fn put_other_answer<R>(out: &mut WordsWriter, audited: &Audited<R>) {
     out.fill(OTHER_ANSWER, &[Name(audited.file.path)]);
     put_get(out, audited, "")
 }
 
 /// Puts what is wrong and what to do, where no more than the fault is known.
-fn put_fault<R>(out: &mut Words, audited: &Audited<R>) {
+fn put_fault<R>(out: &mut WordsWriter, audited: &Audited<R>) {
     match audited.fault {
         AuditFault::ReadFailed(_) => out.put(
             ": the journal could not be read to its end.\nCheck the disk or the connection, then run again.\n",
@@ -112,7 +112,7 @@ fn put_fault<R>(out: &mut Words, audited: &Audited<R>) {
 }
 
 /// Looks at the faulty row again, and puts what is wrong there; answers whether it was found.
-fn put_found<R: Files>(out: &mut Words, audited: &Audited<R>) -> bool {
+fn put_found<R: Files>(out: &mut WordsWriter, audited: &Audited<R>) -> bool {
     if let Some(desk) = audited.answer(ROOM) {
         let _ = put_mark(out, &audited.journal, desk.mark);
         put_wrong_answer(out, &desk.row, Some(&desk));
@@ -126,7 +126,7 @@ fn put_found<R: Files>(out: &mut Words, audited: &Audited<R>) -> bool {
     true
 }
 
-fn put_row<R: Files>(out: &mut Words, audited: &Audited<R>, row: &ByteRecord, mark: Mark) {
+fn put_row<R: Files>(out: &mut WordsWriter, audited: &Audited<R>, row: &ByteRecord, mark: Mark) {
     let span = put_mark(out, &audited.journal, mark);
     match audited.fault {
         AuditFault::BadRow(0) => {
@@ -160,7 +160,7 @@ fn put_row<R: Files>(out: &mut Words, audited: &Audited<R>, row: &ByteRecord, ma
 
 /// Puts what to do about a bad row: a text whose first row is one, and that does not begin as journals do,
 /// may be another file.
-fn put_bad_remedy<R: Files>(out: &mut Words, audited: &Audited<R>, mark: Mark) {
+fn put_bad_remedy<R: Files>(out: &mut WordsWriter, audited: &Audited<R>, mark: Mark) {
     if audited.at == 1 && audited.journal.before == 0 {
         out.fill(OTHER_FILE, &[Name(audited.journal.path)]);
         put_get(out, audited, "")
@@ -172,7 +172,7 @@ fn put_bad_remedy<R: Files>(out: &mut Words, audited: &Audited<R>, mark: Mark) {
 }
 
 /// Puts which condition a row breaks.
-fn put_bad_row(out: &mut Words, row: &ByteRecord) {
+fn put_bad_row(out: &mut WordsWriter, row: &ByteRecord) {
     match flaw_of_journal_row(row) {
         Some(flaw) if flaw.condition == Condition::FieldCount => {
             put_field_count(out, row, JOURNAL_FIELDS.len())
@@ -183,7 +183,7 @@ fn put_bad_row(out: &mut Words, row: &ByteRecord) {
 }
 
 /// Puts what the row says, and what the desk answers there, if that is known.
-fn put_wrong_answer(out: &mut Words, row: &ByteRecord, desk: Option<&DeskAnswer>) {
+fn put_wrong_answer(out: &mut WordsWriter, row: &ByteRecord, desk: Option<&DeskAnswer>) {
     put_subject(out, "voter", raw_text(row, 3));
     out.fill(
         ", request {}: the journal says {}",
@@ -196,7 +196,7 @@ fn put_wrong_answer(out: &mut Words, row: &ByteRecord, desk: Option<&DeskAnswer>
 }
 
 /// Puts the answer to this request, and why it is given and not the one that the journal says.
-fn put_answer(out: &mut Words, desk: &DeskAnswer, request: &str, said: &str) {
+fn put_answer(out: &mut WordsWriter, desk: &DeskAnswer, request: &str, said: &str) {
     match desk.answer {
         Answer::UnknownPlace(place) => put_unknown(out, u64::from(place), desk.projects),
         Answer::TooLong => out.fill(
@@ -224,7 +224,7 @@ fn put_answer(out: &mut Words, desk: &DeskAnswer, request: &str, said: &str) {
 }
 
 /// Puts that no project has this position, and which positions the projects have.
-fn put_unknown(out: &mut Words, place: u64, projects: u64) {
+fn put_unknown(out: &mut WordsWriter, place: u64, projects: u64) {
     out.fill(
         ", but the right answer is `unknown-place {}`, because no project has the position {}: the file has ",
         &[Number(place), Number(place)],
@@ -238,7 +238,7 @@ fn put_unknown(out: &mut Words, place: u64, projects: u64) {
 }
 
 /// Puts that the ballot of a row is not too long, and why.
-fn put_short_enough(out: &mut Words, desk: &DeskAnswer) {
+fn put_short_enough(out: &mut WordsWriter, desk: &DeskAnswer) {
     let count = match raw_text(&desk.row, 4) {
         "" => 0,
         places => places.split(',').count() as u64,
@@ -255,7 +255,7 @@ fn put_short_enough(out: &mut Words, desk: &DeskAnswer) {
     }
 }
 
-fn put_plain(out: &mut Words, answer: &'static str, why: &'static str) {
+fn put_plain(out: &mut WordsWriter, answer: &'static str, why: &'static str) {
     out.fill(
         ", but the right answer is `{}`, because {}.\n",
         &[Own(answer), Own(why)],

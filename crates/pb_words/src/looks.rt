@@ -1,6 +1,9 @@
 //! What a file looks like that is none of the program's texts.
 
-use pb_witness::text::{Text, is_web_page};
+use crate::unknown_words::put_clean;
+use crate::words::PlaceholderValue::{Name, Own};
+use crate::words::WordsWriter;
+use pb_witness::text::{Text, is_json, is_web_page};
 use std::rt::Files;
 
 /// What files look like that begin with certain bytes, and what to do with them.
@@ -9,12 +12,25 @@ const LOOKS: &[(&[u8], &str)] = &[
         b"\x1f\x8b",
         ": the file looks like a gzip archive.\nUnpack it first, for example with `gunzip`.\n",
     ),
+    (b"BZh", ARCHIVE),
+    (b"\xfd7zXZ", ARCHIVE),
+    (b"7z\xbc\xaf", ARCHIVE),
+    (b"Rar!", ARCHIVE),
+    (b"SQLite format 3", DATABASE),
+    (b"-- MySQL dump", DATABASE),
+    (b"--\n-- PostgreSQL", DATABASE),
+    (
+        b"\xd0\xcf\x11\xe0",
+        ": the file looks like a spreadsheet in the old format .xls.\nSave it as text with `;` between the fields, or as .xlsx, which `pb_clean` reads.\n",
+    ),
+    (
+        b"{\\rtf",
+        ": the file looks like a document of an office program (RTF).\nSave it as plain text.\n",
+    ),
     (
         b"PK\x03\x04",
-        ": the file looks like a zip archive, or a document of an office program.\nUnpack it first, or save the document as text with `;` between the fields.\n",
+        ": the file looks like a zip archive, or a document of an office program.\nUnpack it first, or save the document as text with `;` between the fields, or as .xlsx, which `pb_clean` reads.\n",
     ),
-    (b"\xff\xfe", UTF_16),
-    (b"\xfe\xff", UTF_16),
     (
         b"journal;",
         ": this is the journal of a desk, not a .pb file.\nTo check it and count its ballots, run `pb_app audit FILE JOURNAL`. FILE is the .pb file of the desk.\n",
@@ -25,6 +41,17 @@ const LOOKS: &[(&[u8], &str)] = &[
     ),
 ];
 
+const DATABASE: &str =
+    ": the file looks like that of a database.\nExport the .pb file, which is text with `;` between the fields.\n";
+
+const ARCHIVE: &str = ": the file looks like an archive.\nUnpack it first.\n";
+
+const WORKBOOK: &str =
+    ": the file looks like a spreadsheet (.xlsx).\nSave it as text with `;` between the fields.\n";
+
+const JSON: &str =
+    ": the file looks like JSON.\nGet the .pb file itself, which is text with `;` between the fields.\n";
+
 const UTF_16: &str =
     ": the file looks like text in the encoding UTF-16.\nSave the file again with the encoding UTF-8.\n";
 
@@ -34,11 +61,40 @@ pub(crate) const EMPTY: &str = ": the file is empty.\nGet or save the file again
 const WEB_PAGE: &str =
     ": the file looks like a web page.\nGet the file itself, and not the page that shows it.\n";
 
-/// What a text that is a file looks like by its first bytes, and what to do; none where they say nothing.
-pub(crate) fn looks_of<R: Files>(text: &Text<R>) -> Option<&'static str> {
+/// Puts what a text that is a file looks like by its first bytes, and what to do, and answers whether they say
+/// something.
+pub(crate) fn put_looks<R: Files>(out: &mut WordsWriter, text: &Text<R>) -> bool {
     let mut buffer = [0u8; 512];
-    let count = text.read_start(&mut buffer)?;
-    looks_by(&buffer[..count.min(512)])
+    let Some(count) = text.read_start(&mut buffer) else {
+        return false;
+    };
+    let bytes = &buffer[..count.min(512)];
+    let is_utf_16 = is_utf_16(bytes);
+    let is_workbook = bytes.starts_with(b"PK")
+        && text.path.is_some_and(|path| path.ends_with(".xlsx"));
+    let looks = match looks_by(bytes) {
+        _ if is_workbook => Some(WORKBOOK),
+        _ if is_utf_16 => Some(UTF_16),
+        looks => looks,
+    };
+    let Some(looks) = looks else {
+        return false;
+    };
+    out.fill("{}{}", &[Name(text.path), Own(looks)]);
+    if is_utf_16 || is_workbook {
+        put_clean(out, text, "");
+    }
+    true
+}
+
+/// Whether a text seems to be encoded in UTF-16: it has the mark of it, or each second byte is 0.
+fn is_utf_16(bytes: &[u8]) -> bool {
+    let is_0 = |place: usize| bytes.get(place) == Some(&0);
+    let is_pair = |first: usize, second: usize| is_0(first) && !is_0(second);
+    bytes.starts_with(b"\xff\xfe")
+        || bytes.starts_with(b"\xfe\xff")
+        || (is_pair(0, 1) && is_pair(2, 3))
+        || (is_pair(1, 0) && is_pair(3, 2) && bytes.len() > 3)
 }
 
 /// What a text looks like that begins with these bytes.
@@ -47,6 +103,7 @@ fn looks_by(bytes: &[u8]) -> Option<&'static str> {
         Some((_, words)) => Some(*words),
         None if bytes.is_empty() => Some(EMPTY),
         None if is_web_page(bytes) => Some(WEB_PAGE),
+        None if is_json(bytes) => Some(JSON),
         None => None,
     }
 }

@@ -1,7 +1,7 @@
 //! Where a record stands in its text, in words.
 
-use crate::words::Value::{Name, Number, Own, Quoted};
-use crate::words::Words;
+use crate::words::PlaceholderValue::{Name, Number, Own, Quoted};
+use crate::words::WordsWriter;
 use pb_witness::mark::Mark;
 use pb_witness::quote::{Span, span_of};
 use pb_witness::text::Text;
@@ -25,12 +25,12 @@ const LOOK_THERE: &str =
     "If each line should be a row of its own, line {} has one quotation mark too many, or one too few. The quotation marks on line {} may be right.\n";
 
 /// Puts where a record stands that was not read again: `standard input: row 32`.
-pub(crate) fn put_record_number<R>(out: &mut Words, text: &Text<R>, at: u64) {
+pub(crate) fn put_record_number<R>(out: &mut WordsWriter, text: &Text<R>, at: u64) {
     out.fill("{}: row {}", &[Name(text.path), Number(at)])
 }
 
 /// Puts where a record begins: `city.pb: line 39`; answers what its bytes say.
-pub(crate) fn put_mark<R: Files>(out: &mut Words, text: &Text<R>, mark: Mark) -> Span {
+pub(crate) fn put_mark<R: Files>(out: &mut WordsWriter, text: &Text<R>, mark: Mark) -> Span {
     let span = span_of(text, mark);
     out.fill("{}: line {}", &[Name(text.path), Number(span.begins)]);
     span
@@ -42,14 +42,14 @@ pub(crate) fn line_of<R: Files>(text: &Text<R>, mark: Mark) -> u64 {
 }
 
 /// Puts whose row it is, where it has an id: `, project "p7"`.
-pub(crate) fn put_subject(out: &mut Words, subject: &str, id: &str) {
+pub(crate) fn put_subject(out: &mut WordsWriter, subject: &str, id: &str) {
     if !id.is_empty() {
         out.fill(", {} {}", &[Own(subject), Quoted(id)]);
     }
 }
 
 /// Puts that a quotation mark opens on a line of the record whose line was put.
-fn put_opening(out: &mut Words, span: Span, opens: u64) {
+fn put_opening(out: &mut WordsWriter, span: Span, opens: u64) {
     if opens == span.begins {
         out.put(": a quotation mark opens here")
     } else {
@@ -59,7 +59,7 @@ fn put_opening(out: &mut Words, span: Span, opens: u64) {
 
 /// Puts that a quotation mark in the record whose line was put is never closed, if so, and answers whether it
 /// is.
-pub(crate) fn put_unclosed(out: &mut Words, span: Span) -> bool {
+pub(crate) fn put_unclosed(out: &mut WordsWriter, span: Span) -> bool {
     let Some(opens) = span.unclosed() else {
         return false;
     };
@@ -70,7 +70,7 @@ pub(crate) fn put_unclosed(out: &mut Words, span: Span) -> bool {
 
 /// Puts that a quotation mark makes several lines one field, if one does, of the record whose line was put,
 /// or as a sentence of its own; answers whether one does.
-pub(crate) fn put_over(out: &mut Words, span: Span, is_sentence: bool) -> bool {
+pub(crate) fn put_over(out: &mut WordsWriter, span: Span, is_sentence: bool) -> bool {
     let Some((opens, closes)) = span.over else {
         return false;
     };
@@ -91,7 +91,11 @@ pub(crate) fn put_over(out: &mut Words, span: Span, is_sentence: bool) -> bool {
 
 /// Puts the same of an earlier row that swallowed rows which are missed now, if there is one; answers whether
 /// it did.
-pub(crate) fn put_swallowing<R: Files>(out: &mut Words, text: &Text<R>, row: Option<Mark>) -> bool {
+pub(crate) fn put_swallowing<R: Files>(
+    out: &mut WordsWriter,
+    text: &Text<R>,
+    row: Option<Mark>,
+) -> bool {
     match row {
         Some(mark) => put_over(out, span_of(text, mark), true),
         None => false,

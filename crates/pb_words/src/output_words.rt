@@ -1,6 +1,6 @@
 //! Words for a result that does not go to the path that was named for it.
 
-use crate::words::Value::Name;
+use crate::words::PlaceholderValue::Name;
 use crate::words::{Said, said};
 use std::alloc::Global;
 

@@ -1,7 +1,7 @@
 //! What is said of a file with the words of a page that is refused: what is wrong, and what to do.
 
-use crate::words::Value::{Number, Own, Quoted};
-use crate::words::{Value, Words};
+use crate::words::PlaceholderValue::{Number, Own, Quoted};
+use crate::words::{PlaceholderValue, WordsWriter};
 
 /// A line of such a file, where its key is known.
 #[derive(Clone, Copy)]
@@ -19,7 +19,7 @@ pub struct KeyLine<'a> {
 
 impl KeyLine<'_> {
     /// Puts the line and its key, and what is wrong there.
-    fn put(&self, out: &mut Words, what: &'static str) {
+    fn put(&self, out: &mut WordsWriter, what: &'static str) {
         out.fill(
             ": line {}, key {}{}",
             &[Number(u64::from(self.number)), Own(self.key), Own(what)],
@@ -27,7 +27,7 @@ impl KeyLine<'_> {
     }
 
     /// Puts that a line before it has its key.
-    pub fn put_repeated(&self, out: &mut Words) {
+    pub fn put_repeated(&self, out: &mut WordsWriter) {
         self.put(
             out,
             ": an earlier line has the same key.\nDelete one of the two lines.\n",
@@ -35,7 +35,7 @@ impl KeyLine<'_> {
     }
 
     /// Puts which character it has that could be taken for markup.
-    pub fn put_markup(&self, out: &mut Words) {
+    pub fn put_markup(&self, out: &mut WordsWriter) {
         let otherwise = if self.value.is_empty() {
             "<, >, & or a control character"
         } else {
@@ -46,7 +46,7 @@ impl KeyLine<'_> {
     }
 
     /// Puts that its key does not take its value, and which values it takes.
-    pub fn put_bad_value(&self, out: &mut Words) {
+    pub fn put_bad_value(&self, out: &mut WordsWriter) {
         self.put(out, "");
         let value = shown(self.value, "this value");
         out.fill(
@@ -56,7 +56,7 @@ impl KeyLine<'_> {
     }
 
     /// Puts which place its sentence does not have, and which it has.
-    pub fn put_unknown_place(&self, out: &mut Words) {
+    pub fn put_unknown_place(&self, out: &mut WordsWriter) {
         self.put(out, "");
         out.fill(
             ": {} in braces is not allowed in this sentence.\n",
@@ -66,13 +66,13 @@ impl KeyLine<'_> {
     }
 
     /// Puts that it has a brace that belongs to no place, and which places its sentence has.
-    pub fn put_lone_brace(&self, out: &mut Words) {
+    pub fn put_lone_brace(&self, out: &mut WordsWriter) {
         self.put(out, ": a `{` or a `}` has no partner.\n");
         self.put_places(out)
     }
 
     /// Puts that it lacks the place of the number at this index.
-    pub fn put_missing_place(&self, out: &mut Words, index: u8) {
+    pub fn put_missing_place(&self, out: &mut WordsWriter, index: u8) {
         self.put(out, "");
         out.fill(
             ": {{}} is missing.\nWrite it where the page should show this value.\n",
@@ -81,7 +81,7 @@ impl KeyLine<'_> {
     }
 
     /// Puts that it has the place of the number at this index more than once.
-    pub fn put_repeated_place(&self, out: &mut Words, index: u8) {
+    pub fn put_repeated_place(&self, out: &mut WordsWriter, index: u8) {
         self.put(out, "");
         out.fill(
             ": {{}} is there more than once.\nWrite it only once.\n",
@@ -90,7 +90,7 @@ impl KeyLine<'_> {
     }
 
     /// The name of the place of the number at this index.
-    fn number_at(&self, index: u8) -> Value<'static> {
+    fn number_at(&self, index: u8) -> PlaceholderValue<'static> {
         Own(self.numbers.get(usize::from(index)).copied().unwrap_or(""))
     }
 
@@ -107,7 +107,7 @@ impl KeyLine<'_> {
     }
 
     /// Puts which places its sentence has.
-    fn put_places(&self, out: &mut Words) {
+    fn put_places(&self, out: &mut WordsWriter) {
         let count = self.numbers.len().saturating_add(self.nouns.len());
         if count == 0 {
             return out.put("Write this sentence without braces.\n");
@@ -136,7 +136,7 @@ const NO_FEW: &str =
     "The line `plural = polish` asks for it: nouns then have three forms, as words/pl.words shows. If the language has no such form, correct the line `plural`.\n";
 
 /// Puts that the line with this number is not text.
-pub fn put_not_text(out: &mut Words, line: u32) {
+pub fn put_not_text(out: &mut WordsWriter, line: u32) {
     out.fill(
         ": line {} is not UTF-8.\nSave the file with the encoding UTF-8.\n",
         &[Number(u64::from(line))],
@@ -144,7 +144,7 @@ pub fn put_not_text(out: &mut Words, line: u32) {
 }
 
 /// Puts that the line with this number is not of the form.
-pub fn put_bad_line(out: &mut Words, line: u32) {
+pub fn put_bad_line(out: &mut WordsWriter, line: u32) {
     out.fill(
         ": line {} is not of the form `key = sentence`.\nWrite the key, `=` and the sentence; a line that begins with # is a comment.\n",
         &[Number(u64::from(line))],
@@ -152,7 +152,7 @@ pub fn put_bad_line(out: &mut Words, line: u32) {
 }
 
 /// Puts that the line with this number has a key that is none; this is the key, if it could be read again.
-pub fn put_unknown_key(out: &mut Words, line: u32, key: &str) {
+pub fn put_unknown_key(out: &mut WordsWriter, line: u32, key: &str) {
     out.fill(
         ": line {}: {} is not a key.\nCompare it with the keys in words/en.words.\n",
         &[Number(u64::from(line)), shown(key, "this name")],
@@ -160,7 +160,7 @@ pub fn put_unknown_key(out: &mut Words, line: u32, key: &str) {
 }
 
 /// Puts that no line has this key, and what to do.
-pub fn put_missing_key(out: &mut Words, key: &'static str) {
+pub fn put_missing_key(out: &mut WordsWriter, key: &'static str) {
     out.fill(": no line has the key `{}`.\n", &[Own(key)]);
     match values_of(key) {
         "" if key.ends_with(".few") => out.put(NO_FEW),
@@ -173,7 +173,7 @@ pub fn put_missing_key(out: &mut Words, key: &'static str) {
 }
 
 /// Puts that a line has this key, which a file with this plural does not use.
-pub fn put_unused_key(out: &mut Words, key: &'static str, plural: &'static str) {
+pub fn put_unused_key(out: &mut WordsWriter, key: &'static str, plural: &'static str) {
     out.fill(
         ": the file says `plural = {}`, so nothing uses the key {}.\nDelete its line, or correct the line `plural`.\n",
         &[Own(plural), Own(key)],
@@ -181,7 +181,7 @@ pub fn put_unused_key(out: &mut Words, key: &'static str, plural: &'static str) 
 }
 
 /// A text of the line without the white space at its ends, or this where the line could not be read again.
-fn shown<'t>(text: &'t str, otherwise: &'t str) -> Value<'t> {
+fn shown<'t>(text: &'t str, otherwise: &'t str) -> PlaceholderValue<'t> {
     match text.trim() {
         "" => Own(otherwise),
         text => Quoted(text),

@@ -1,13 +1,43 @@
 //! What is said of each fault of a .pb file: what is wrong, and what to do.
 
-use crate::words::Value::Quoted;
-use crate::words::Words;
+use crate::meta_words::ONE_CHOICE;
+use crate::read_texts::{
+    BAD_LENGTH, BAD_MONEY, EMPTY_ID, MISSING_COLUMN, MISSING_FIELD, MISSING_KEY, MONEY_TOO_FINE,
+    MONEY_TOO_LARGE, NO_HEADER, NO_MEMORY, NO_SECTION, NOT_TEXT, READ_FAILED, REPEATED_PROJECT,
+    REPEATED_VOTER, SECTION_ORDER, TOO_MANY_PROJECTS, TOO_MANY_RECORDS, TOO_MANY_VOTERS,
+    UNKNOWN_PROJECT, VOTE_TYPE, ZERO_COST,
+};
+use crate::unknown_words::DROP_ZERO_COST;
+use crate::words::PlaceholderValue::Quoted;
+use crate::words::WordsWriter;
+use pb_core::money::Money;
 use pb_read::ReadKind;
+use pb_witness::changed::{has_power, is_calculation, is_grouped, is_nothing, without_hidden};
+
+/// What to do about an amount that seems to be worked out.
+const CALCULATION: &str =
+    "If this is a calculation, work it out, and write the result with digits only, like `1200` or `1200.50`. If not, ask whoever made the file which amount is meant.\n";
+
+/// What to do about an amount that a spreadsheet may have shortened.
+const POWER: &str =
+    "Spreadsheets shorten numbers like this, and digits may be lost. Get the amount again, and write it with digits only, like `1200` or `1200.50`.\n";
+
+/// What to do about an amount, where more is known than that it is refused.
+pub(crate) fn amount_remedy(value: &str) -> Option<&'static str> {
+    if is_calculation(value) {
+        Some(CALCULATION)
+    } else if has_power(value) {
+        Some(POWER)
+    } else {
+        None
+    }
+}
 
 /// Puts how a value breaks the rule of this fault.
-pub(crate) fn put_broken(out: &mut Words, kind: ReadKind, value: &str) {
+pub(crate) fn put_broken(out: &mut WordsWriter, kind: ReadKind, value: &str) {
     let form = match (kind, value) {
         (ReadKind::BadMoney, "") => return out.put(": the amount is missing.\n"),
+        (ReadKind::BadMoney, _) if is_nothing(value) => ": the amount is missing: it says {}.\n",
         (ReadKind::VoteType, "") => return out.put(": the vote type is missing.\n"),
         (ReadKind::EmptyId, _) => return out.put(": the id is empty.\n"),
         (ReadKind::ZeroCost, _) => {
@@ -25,62 +55,49 @@ pub(crate) fn put_broken(out: &mut Words, kind: ReadKind, value: &str) {
     out.fill(form, &[Quoted(value)])
 }
 
+/// The options by which `pb_clean` does what words for a value of this fault say, where it does.
+pub(crate) fn clean_options(kind: ReadKind, value: &str) -> Option<&'static str> {
+    match kind {
+        ReadKind::ZeroCost => Some(DROP_ZERO_COST),
+        ReadKind::VoteType if value.eq_ignore_ascii_case(ONE_CHOICE) => Some(" --single-choice"),
+        ReadKind::BadMoney if is_grouped(value) => Some(""),
+        ReadKind::BadMoney if is_hidden_amount(value) => Some(""),
+        _ => None,
+    }
+}
+
+/// Whether a value is an amount but for characters at its ends that can't be seen.
+fn is_hidden_amount(value: &str) -> bool {
+    let bare = without_hidden(value);
+    bare.len() < value.len() && Money::read(bare).is_ok()
+}
+
 /// What is wrong by this fault, where no more is known, and what to do, which is the second line of each
 /// text.
 pub(crate) fn words_of(kind: ReadKind) -> (&'static str, &'static str) {
     let rule = match kind {
-        ReadKind::ReadFailed => "the file could not be read to its end.
-Check the disk or the connection, then run again.\n",
-        ReadKind::NotText => "a field is not UTF-8 text.
-Save the file again with the encoding UTF-8.\n",
-        ReadKind::TooManyRecords => "this is row 2,000,001.
-Delete rows that are not needed, such as empty ones: a file with more than 2,000,000 rows can't be \
-    counted.\n",
-        ReadKind::NoSection => "a section is missing.
-A .pb file has the sections META, PROJECTS and VOTES. Get the whole file again, or add what is missing.\n",
-        ReadKind::SectionOrder => "a section comes too early, or a second time.
-The sections are META, PROJECTS and VOTES, in this order and each once. Correct the order. If a heading is \
-    missing or misspelled, write it.\n",
-        ReadKind::NoHeader => "a section has no row of column names.
-Add the row of column names below the section's heading.\n",
-        ReadKind::MissingColumn => "a needed column is missing in the row of column names.
-PROJECTS needs the columns `project_id` and `cost`; VOTES needs `voter_id` and `vote`.\n",
-        ReadKind::MissingField => "the row has no field for a needed column.
-Complete the row, or delete it if it does not belong here. If a voter approves no project, leave the field \
-    empty, but keep its `;`.\n",
-        ReadKind::MissingKey => "META has no row for `budget`, or none for `vote_type`.
-Add the row that is missing: `budget;AMOUNT`, or `vote_type;approval` (only if the votes are approval \
-    votes).\n",
-        ReadKind::VoteType => "the vote type is not `approval`.
-If voters only tick projects, without ranks or points, write `vote_type;approval`. If not, this program \
-    can't count the file.\n",
-        ReadKind::BadMoney => "an amount is missing, or is not one that the program can read.
-Write the amount with digits only, like `1200` or `1200.50`: no currency, no minus sign, nothing between \
-    thousands.\n",
-        ReadKind::MoneyTooFine => "an amount has more than two decimals.
-If the point or comma separates thousands, delete it. If not, round the amount to two decimals.\n",
-        ReadKind::MoneyTooLarge =>
-            "an amount is more than 10,000,000,000,000.00, the largest that the \
-    program takes.
-Check whether the amount has too many digits.\n",
-        ReadKind::ZeroCost => "a project's cost is 0, but every project must cost something.
-Write the project's cost, or delete the project.\n",
-        ReadKind::EmptyId => "an id is empty.
-Fill in the id, or delete the row if it is a total or a note.\n",
-        ReadKind::RepeatedProject => "an earlier row has the same project id.
-Delete one of the two rows, or give one project another id.\n",
-        ReadKind::RepeatedVoter => "an earlier row has the same voter id.
-Find out which of the voter's rows is valid, and delete every other row of this voter.\n",
-        ReadKind::UnknownProject => "the vote names an id that no project has.
-Correct the id, or add the project. Capital and small letters count as different.\n",
-        ReadKind::TooManyProjects => "this is project row 10,001.
-A file with more than 10,000 projects can't be counted.\n",
-        ReadKind::TooManyVoters => "this is vote row 1,000,001.
-A file with more than 1,000,000 voters can't be counted.\n",
-        ReadKind::NoMemory => "memory ran out.
-Run again on a machine with more memory.\n",
-        ReadKind::BadLength => "`max_length` is not a whole number in digits.
-Write `max_length` in digits, or leave its value empty.\n",
+        ReadKind::ReadFailed => READ_FAILED,
+        ReadKind::NotText => NOT_TEXT,
+        ReadKind::TooManyRecords => TOO_MANY_RECORDS,
+        ReadKind::NoSection => NO_SECTION,
+        ReadKind::SectionOrder => SECTION_ORDER,
+        ReadKind::NoHeader => NO_HEADER,
+        ReadKind::MissingColumn => MISSING_COLUMN,
+        ReadKind::MissingField => MISSING_FIELD,
+        ReadKind::MissingKey => MISSING_KEY,
+        ReadKind::VoteType => VOTE_TYPE,
+        ReadKind::BadMoney => BAD_MONEY,
+        ReadKind::MoneyTooFine => MONEY_TOO_FINE,
+        ReadKind::MoneyTooLarge => MONEY_TOO_LARGE,
+        ReadKind::ZeroCost => ZERO_COST,
+        ReadKind::EmptyId => EMPTY_ID,
+        ReadKind::RepeatedProject => REPEATED_PROJECT,
+        ReadKind::RepeatedVoter => REPEATED_VOTER,
+        ReadKind::UnknownProject => UNKNOWN_PROJECT,
+        ReadKind::TooManyProjects => TOO_MANY_PROJECTS,
+        ReadKind::TooManyVoters => TOO_MANY_VOTERS,
+        ReadKind::NoMemory => NO_MEMORY,
+        ReadKind::BadLength => BAD_LENGTH,
     };
     rule.split_once(".\n").unwrap_or((rule, ""))
 }

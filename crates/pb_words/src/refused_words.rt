@@ -2,8 +2,8 @@
 
 use crate::file_words::{FOLDER, NO_MEMORY};
 use crate::mark_words::{put_mark, put_record_number};
-use crate::words::Value::{Name, Number, Own, Quoted};
-use crate::words::{Said, Value, Words, said};
+use crate::words::PlaceholderValue::{Name, Number, Own, Quoted};
+use crate::words::{PlaceholderValue, Said, WordsWriter, said};
 use pb_script::{RollFault, RowRefusal};
 use pb_witness::failures::is_folder;
 use pb_witness::fields::{JoinedBy, text_at};
@@ -33,7 +33,7 @@ pub struct RefusedRow<'a> {
 
 /// Words for a row that a desk refuses by its rules.
 pub fn refused_words<R: Files>(rt: &R, alloc: Global, refused: &RefusedRow<'_>) -> Said {
-    let mut out = Words::new(alloc);
+    let mut out = WordsWriter::new(alloc);
     let text = Text::new(rt, alloc, refused.path);
     match text.records_at(Mark::start(), refused.row) {
         Some(records) => {
@@ -55,7 +55,7 @@ pub fn refused_words<R: Files>(rt: &R, alloc: Global, refused: &RefusedRow<'_>) 
 }
 
 /// Puts what to do about it.
-fn put_remedy<R: Files>(out: &mut Words, refused: &RefusedRow<'_>, roll: &Text<R>) {
+fn put_remedy<R: Files>(out: &mut WordsWriter, refused: &RefusedRow<'_>, roll: &Text<R>) {
     let remedy = match refused.why {
         RowRefusal::UnknownId if refused.unknown.contains('"') => {
             "Delete all quotation marks in this field"
@@ -81,7 +81,7 @@ fn put_remedy<R: Files>(out: &mut Words, refused: &RefusedRow<'_>, roll: &Text<R
 }
 
 /// Puts why a row of this voter is refused.
-fn put_why(out: &mut Words, refused: &RefusedRow<'_>, voter: Value<'_>) {
+fn put_why(out: &mut WordsWriter, refused: &RefusedRow<'_>, voter: PlaceholderValue<'_>) {
     match refused.why {
         RowRefusal::UnknownId if refused.unknown.contains('"') => {
             out.put(", field places: a quotation mark is beside an id, and is read as part of it.")

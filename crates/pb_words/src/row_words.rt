@@ -1,7 +1,7 @@
 //! Words for a row of a script or of a journal that has not the form of one.
 
-use crate::words::Value::{Bytes, Count, Number, Numbers, Own};
-use crate::words::Words;
+use crate::words::PlaceholderValue::{Bytes, Count, Number, Numbers, Own};
+use crate::words::WordsWriter;
 use csv::ByteRecord;
 use pb_desk::desk::MOST_CLERKS;
 use pb_desk::row_flaw::{Condition, RowFlaw};
@@ -48,7 +48,12 @@ Delete it, or write the position that is missing beside it.",
 }
 
 /// Puts which condition a row with these fields breaks, in a run of so many clerks.
-pub(crate) fn put_flaw(out: &mut Words, flaw: &RowFlaw, fields: &[&'static str], clerks: u32) {
+pub(crate) fn put_flaw(
+    out: &mut WordsWriter,
+    flaw: &RowFlaw,
+    fields: &[&'static str],
+    clerks: u32,
+) {
     let field = fields.get(flaw.place).copied().unwrap_or("after the last");
     out.fill(
         ", field {}: {}{}",
@@ -61,7 +66,7 @@ pub(crate) fn put_flaw(out: &mut Words, flaw: &RowFlaw, fields: &[&'static str],
 }
 
 /// Puts so many clerks, with their numbers.
-fn put_clerks(out: &mut Words, clerks: u32) {
+fn put_clerks(out: &mut WordsWriter, clerks: u32) {
     let form = match clerks {
         1 => "this run has {}, with the number {}",
         MOST_CLERKS => "a desk has at most {}, with the numbers {}",
@@ -72,7 +77,7 @@ fn put_clerks(out: &mut Words, clerks: u32) {
 }
 
 /// Puts what to do about a clerk's number that is too high, in a run of so many clerks.
-pub(crate) fn put_clerk_remedy(out: &mut Words, is_shut: bool, flaw: &RowFlaw, clerks: u32) {
+pub(crate) fn put_clerk_remedy(out: &mut WordsWriter, is_shut: bool, flaw: &RowFlaw, clerks: u32) {
     out.put(if clerks == 1 {
         "Write 0"
     } else {
@@ -93,7 +98,7 @@ pub(crate) fn put_clerk_remedy(out: &mut Words, is_shut: bool, flaw: &RowFlaw, c
 }
 
 /// Puts how many fields a row has, and how many it needs.
-pub(crate) fn put_field_count(out: &mut Words, row: &ByteRecord, needed: usize) {
+pub(crate) fn put_field_count(out: &mut WordsWriter, row: &ByteRecord, needed: usize) {
     out.fill(
         ": the row has {}, but it needs {}.\n",
         &[Count(row.len() as u64, "field"), Number(needed as u64)],

@@ -5,8 +5,8 @@ use crate::file_words::{NO_MEMORY, put_reading_failed};
 use crate::mark_words::{CLOSE_IT, put_mark, put_over, put_record_number, put_unclosed};
 use crate::meta_words::{BALLOT, TYPED, put_joined};
 use crate::row_words::{SCRIPT_FIELDS, broken, put_clerk_remedy, put_field_count, put_flaw};
-use crate::words::Value::{Number, Own};
-use crate::words::{Said, Words};
+use crate::words::PlaceholderValue::{Number, Own};
+use crate::words::{Said, WordsWriter};
 use csv::ByteRecord;
 use pb_desk::desk::MOST_CLERKS;
 use pb_desk::row_flaw::{Condition, flaw_of_script_row};
@@ -58,7 +58,7 @@ pub fn script_words<R: Files>(
     fault: Option<ScriptFault>,
     taking: Taking,
 ) -> Said {
-    let mut out = Words::new(alloc);
+    let mut out = WordsWriter::new(alloc);
     match fault {
         Some(fault) if taking.clerks > 0 || !matches!(fault, ScriptFault::BadRow(_)) => {
             put_words(&mut out, &Text::new(rt, alloc, path), fault, taking)
@@ -68,7 +68,7 @@ pub fn script_words<R: Files>(
     out.finish()
 }
 
-fn put_words<R: Files>(out: &mut Words, text: &Text<R>, fault: ScriptFault, taking: Taking) {
+fn put_words<R: Files>(out: &mut WordsWriter, text: &Text<R>, fault: ScriptFault, taking: Taking) {
     let at = u64::from(fault.at());
     let is_put = match fault {
         ScriptFault::ReadFailed(_) => put_reading_failed(out, text, Some(at)),
@@ -105,7 +105,7 @@ To see what is wrong, save the script in a file, and name this file in the comma
 }
 
 /// Reads the script again up to a bad row, and puts which condition it breaks; answers whether it was found.
-fn put_row<R: Files>(out: &mut Words, text: &Text<R>, at: u64, clerks: u32) -> bool {
+fn put_row<R: Files>(out: &mut WordsWriter, text: &Text<R>, at: u64, clerks: u32) -> bool {
     let Some(records) = text.records_at(Mark::start(), at) else {
         return false;
     };
@@ -121,7 +121,7 @@ fn put_row<R: Files>(out: &mut Words, text: &Text<R>, at: u64, clerks: u32) -> b
 
 /// Words for why the row with this number is none, if it is among those that were read last.
 pub fn last_row_words(alloc: Global, rows: &LastRows, number: u64) -> Said {
-    let mut out = Words::new(alloc);
+    let mut out = WordsWriter::new(alloc);
     if let Some(records) = rows.records_to(number) {
         out.fill("standard input: row {}", &[Number(number)]);
         put_row_words(&mut out, &records.last, MOST_CLERKS, true);
@@ -131,7 +131,7 @@ pub fn last_row_words(alloc: Global, rows: &LastRows, number: u64) -> Said {
 
 /// Puts which condition a row breaks, in a run of so many clerks, and what to do. A row that `serve` reads is
 /// not shown how to shut the desk.
-fn put_row_words(out: &mut Words, row: &ByteRecord, clerks: u32, is_served: bool) {
+fn put_row_words(out: &mut WordsWriter, row: &ByteRecord, clerks: u32, is_served: bool) {
     if is_of_journal(row) {
         return out.put(JOURNAL_ROW);
     }

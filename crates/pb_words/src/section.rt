@@ -35,6 +35,10 @@ const NO_SECTION: &str = "there is no section {}.\n";
 
 pub(crate) const NO_NAMES: &str = "{} has no row of column names.\n";
 
+/// What to do about a section other than META that comes again.
+const AGAIN: &str =
+    "Each section may come only once. If these rows belong to this election, move them below the section's first rows, in the order of the columns there, without the heading and the column names. If they belong to another, put that into a file of its own.\n";
+
 /// What things are called in a section.
 pub(crate) fn names_of(section: Section) -> &'static Names {
     match section {
@@ -69,7 +73,11 @@ pub(crate) fn wrong_head(stage: &Stage, head: &str) -> (&'static str, &'static s
         ),
         _ => (
             ": {} begins a section that the file has already.\n",
-            "Each section may come only once. If the file has two elections, put each into a file of its own.\n",
+            if head.eq_ignore_ascii_case("META") {
+                "Each section may come only once. If the file has two elections, put each into a file of its own.\n"
+            } else {
+                AGAIN
+            },
         ),
     }
 }

@@ -3,15 +3,27 @@
 use crate::mark_words::{
     CLOSE_IT, line_of, put_mark, put_over, put_record_number, put_subject, put_unclosed,
 };
-use crate::words::Value::{Amount, Name, Number, Own, Quoted};
-use crate::words::{Said, Words};
+use crate::warning_texts::{
+    BESIDE_DECIMALS, BUDGET_BELOW_COSTS, COMMA_IN_ID, CUT_NAME, DISTRICT_BUDGETS, EMPTY_BALLOT,
+    FOOTER_ROW, FOOTER_ROW_OF_VOTER, ID_BEHIND_VOTE, NO_SUPPORTER, NOTE_ROWS, OVER_BUDGET,
+    PROJECTS_MISSING, REPEATED_COLUMN, REPEATED_KEY, SELECTED_OF, STRAY_VOTE, SURPLUS_FIELDS,
+    SWALLOWED_ROWS, THOUSANDS_MARK, TOO_LONG_BALLOT, TWICE_IN_VOTE, VALID_COLUMN,
+    VALID_COLUMN_OF_VOTER, VOTES_MISSING, VOTES_OF, VOTES_WITH_POINTS,
+};
+use crate::words::PlaceholderValue::{Amount, Count, Name, Number, Own, Quoted};
+use crate::words::{Said, WordsWriter};
 use pb_core::money::Money;
 use pb_read::Oddity;
+use pb_rounds::rule::Rule;
+use pb_witness::behind_vote::is_one_of;
 use pb_witness::fields::text_at;
+use pb_witness::firsts::twice_in;
 use pb_witness::mark::Mark;
-use pb_witness::oddities::{ALL, Odd, Oddities, Subject};
-use pb_witness::swallowed::SwallowingRows;
+use pb_witness::oddities::{MOST, Odd, Oddities, Subject};
+use pb_witness::quote::span_of;
+use pb_witness::records::TextRecords;
 use pb_witness::text::Text;
+use pb_witness::valid_columns::VALID;
 use std::alloc::Global;
 use std::rt::Files;
 
@@ -19,9 +31,12 @@ use std::rt::Files;
 const NO_VOTES: &str = "{}: VOTES has no rows, so no project has a supporter (NoSupporter).
 A desk can open on this file. If it should have votes, get the whole file again.\n";
 
-/// What is said of a row with rows in a field, of which no lines are known.
-const LIKE_ROWS: &str =
-    ": a field in quotation marks runs over several lines that look like rows.\nIf each line should be a row of its own, delete the quotation marks.\n";
+/// What is said of another rule in META than that of the count.
+const OTHER_RULE: &str = ", key \"rule\": the file names the rule {}, and this count has {} ({}).
+That rule may give a different result.\n";
+
+/// What META writes that names no other rule than that of any count.
+const NO_OTHER_RULE: [&str; 4] = ["unknown", "-", "mes", "method of equal shares"];
 
 /// What is said of a number of rows that is not a number, and what to do.
 const NO_DIGITS: &str =
@@ -29,60 +44,54 @@ const NO_DIGITS: &str =
 
 const NUMBER: &str = "Write the number in digits.";
 
+/// What to do where another warning may be the reason.
+const BY_ANOTHER: &str =
+    "Look at the warning {} first: it may be the reason. Don't correct the number before that.\n";
+
+const LENGTH_BY_ANOTHER: &str =
+    "Look at the warning {} first: it may be the reason. Don't delete the row before that.\n";
+
+/// What to do where no ballot has as many projects as both keys ask for.
+const NO_LENGTH: &str =
+    "`min_length` is more than `max_length`, so no ballot keeps both: check these keys.\n";
+
+/// What to do where all ballots, or nearly all, have too many projects, or too few.
+const ALL_BREAK: &str = "{} break `{}` {}: check the key.\n";
+
 /// What to do where there are more rows than META says.
-const SURPLUS_ROWS: &str = "Delete the rows that do not belong there, or correct the number.";
+const SURPLUS_ROWS: &str =
+    "If some of them are totals or notes, delete these. Otherwise correct the number.";
 
 /// What is said of a row that is odd: what, with the row's value and numbers in place of `{}`; the same where
 /// the row is not known, with the number; and what to do. They are the three lines of each text.
 fn said_of(odd: &Odd) -> (&'static str, &'static str, &'static str) {
     let said = match odd.oddity {
-        Oddity::VotesMissing => "{} is wrong: the number of vote rows in the file is {}
-`num_votes` is wrong: the number of vote rows in the file is {}
-If rows are missing, get the whole file again. Otherwise correct the number.",
-        Oddity::ProjectsMissing => "{} is wrong: the number of project rows in the file is {}
-`num_projects` is wrong: the number of project rows in the file is {}
-If rows are missing, get the whole file again. Otherwise correct the number.",
-        Oddity::SurplusFields =>
-            "only {} is counted. The row has {} fields, but the number of column names \
-    is {}
-the row has too many fields: the number of column names is {}
-If `;` is between the ids of the vote, write `,` instead: only the ids before the first `;` are counted.",
-        Oddity::TooLongBallot | Oddity::TooShortBallot => "the vote {} names {}
-the vote names {}
-This ballot is counted. If your rules do not allow it, delete the row.",
-        Oddity::EmptyBallot => "the ballot is empty
-the ballot is empty
-It is counted, and its voter gets a share of the budget. If your rules do not allow it, delete the row.",
-        Oddity::NoSupporter => "no vote names this project
-no vote names the project
-Check whether votes for it are missing, or name it by another id.",
-        Oddity::OverBudget => "{} is more than the budget, so the project can't win
-the project costs more than the budget, so it can't win
-Check whether the amount has too many digits, or is in another unit (cents, for example).",
-        Oddity::CommaInId => "the id has a comma, so no vote can name the project
-the project's id has a comma, so no vote can name it
-Give the project another id.",
-        Oddity::ThousandsMark => "{}
-the three digits after an amount's point or comma are read as decimals
-If the point or comma separates thousands, delete it. Otherwise write two decimals.",
-        Oddity::RepeatedKey => "this value, {}, counts, and the one on line {} does not
-a key is repeated; only the last row of a key counts
-The last row of a key counts. Delete the wrong row.",
-        Oddity::FooterRow if odd.subject == Subject::Voter =>
-            "this last row is the only one with an empty vote
-the last row is the only one with an empty vote
-It is counted as a voter. If it is a total or a note, delete the row.",
-        Oddity::FooterRow => "its cost, {}, is the sum of all costs above
-the cost in the last row of PROJECTS is the sum of all costs above
-It is counted as a project. If it is a total, delete the row.",
-        Oddity::VotesOf =>
-            "the column `votes` says {}, but the number of vote rows that name the project \
-    is {}
-the column `votes` is wrong: the number of vote rows that name the project is {}
-If rows are missing, get the whole file again. Otherwise correct the number.",
-        Oddity::SelectedOf => "the column `selected` says {}, but by this count it is {}
-the column `selected` is wrong: by this count it is {}
-Check whether the published count had other options, and whether ballots or costs were changed since.",
+        Oddity::VotesMissing => VOTES_MISSING,
+        Oddity::ProjectsMissing => PROJECTS_MISSING,
+        Oddity::SurplusFields => SURPLUS_FIELDS,
+        Oddity::TooShortBallot | Oddity::EmptyBallot if odd.before.is_some() => STRAY_VOTE,
+        Oddity::TooLongBallot | Oddity::TooShortBallot => TOO_LONG_BALLOT,
+        Oddity::EmptyBallot => EMPTY_BALLOT,
+        Oddity::NoSupporter => NO_SUPPORTER,
+        Oddity::OverBudget => OVER_BUDGET,
+        Oddity::CommaInId => COMMA_IN_ID,
+        Oddity::ThousandsMark => THOUSANDS_MARK,
+        Oddity::RepeatedKey => REPEATED_KEY,
+        Oddity::FooterRow if odd.subject == Subject::Voter => FOOTER_ROW_OF_VOTER,
+        Oddity::FooterRow => FOOTER_ROW,
+        Oddity::VotesOf => VOTES_OF,
+        Oddity::SelectedOf => SELECTED_OF,
+        Oddity::BudgetBelowCosts => BUDGET_BELOW_COSTS,
+        Oddity::NoteRows => NOTE_ROWS,
+        Oddity::SwallowedRows => SWALLOWED_ROWS,
+        Oddity::IdBehindVote => ID_BEHIND_VOTE,
+        Oddity::TwiceInVote => TWICE_IN_VOTE,
+        Oddity::RepeatedColumn => REPEATED_COLUMN,
+        Oddity::VotesWithPoints => VOTES_WITH_POINTS,
+        Oddity::ValidColumn if odd.subject == Subject::Voter => VALID_COLUMN_OF_VOTER,
+        Oddity::ValidColumn => VALID_COLUMN,
+        Oddity::DistrictBudgets => DISTRICT_BUDGETS,
+        Oddity::CutName => CUT_NAME,
     };
     let (what, rest) = said.split_once('\n').unwrap_or((said, ""));
     let (alone, remedy) = rest.split_once('\n').unwrap_or((rest, ""));
@@ -103,111 +112,271 @@ pub fn warning_words<R: Files>(
     path: Option<&str>,
     found: Option<&Oddities>,
 ) -> Said {
-    let mut out = Words::new(alloc);
+    let mut out = WordsWriter::new(alloc);
     if let Some(oddities) = found {
         put_oddities(&mut out, &Text::new(rt, alloc, path), oddities);
     }
     out.finish()
 }
 
-/// Words for accepted rows that seem to have further rows in a field in quotes; no path is standard input.
-pub fn swallowing_words<R: Files>(
+/// Words for a rule that META names and that is not the one of this count; no path is standard input.
+pub fn rule_words<R: Files>(
     rt: &R,
     alloc: Global,
     path: Option<&str>,
-    rows: &SwallowingRows,
+    named: (&str, Mark),
+    counted: &Rule,
 ) -> Said {
-    let mut out = Words::new(alloc);
-    let text = Text::new(rt, alloc, path);
-    for mark in &rows.first {
-        put_swallowing_row(&mut out, &text, *mark);
-    }
-    if rows.more() > 0 {
-        out.fill("{} more such rows are not shown.\n", &[Number(rows.more())]);
+    let mut out = WordsWriter::new(alloc);
+    let (rule, mark) = named;
+    let is_other = !is_one_of(&NO_OTHER_RULE, rule);
+    if is_other && !rule.eq_ignore_ascii_case(counted.word()) {
+        put_place(&mut out, &Text::new(rt, alloc, path), mark);
+        match counted.text(alloc) {
+            Ok(own) => out.fill(
+                OTHER_RULE,
+                &[Quoted(rule), Quoted(counted.word()), Own(own.as_str())],
+            ),
+            Err(_) => out.fail(),
+        }
     }
     out.finish()
 }
 
-/// Puts that a row seems to have further rows in a field in quotes.
-fn put_swallowing_row<R: Files>(out: &mut Words, text: &Text<R>, mark: Mark) {
-    if !text.is_file() {
-        put_record_number(out, text, mark.at);
-        return out.put(LIKE_ROWS);
-    }
-    let span = put_mark(out, text, mark);
-    if put_unclosed(out, span) {
-        out.put(CLOSE_IT)
-    } else if !put_over(out, span, false) {
-        out.put(LIKE_ROWS)
-    }
-}
-
 /// Puts what is said of each warning, by their names.
-fn put_oddities<R: Files>(out: &mut Words, text: &Text<R>, oddities: &Oddities) {
+fn put_oddities<R: Files>(out: &mut WordsWriter, text: &Text<R>, oddities: &Oddities) {
     if !oddities.is_whole() {
         return out.fail();
     }
-    for oddity in ALL {
-        if oddity == Oddity::NoSupporter && oddities.has(oddity) && oddities.has_no_votes {
-            out.fill(NO_VOTES, &[Name(text.path)]);
-            continue;
+    for oddity in oddities.kinds.iter().copied() {
+        match oddity {
+            Oddity::NoSupporter if oddities.has(oddity) && oddities.has_no_votes => {
+                out.fill(NO_VOTES, &[Name(text.path)]);
+                continue;
+            }
+            Oddity::VotesOf if oddities.has_no_votes => continue,
+            _ => {}
         }
         for odd in oddities.found() {
             if odd.oddity == oddity {
-                put_odd(out, text, odd);
+                put_odd(out, text, odd, oddities);
             }
         }
         let more = oddities.more(oddity);
         if more > 0 {
-            let form = if more == 1 {
-                "{} more warning {} is not shown.\n"
-            } else {
-                "{} more warnings {} are not shown.\n"
-            };
-            out.fill(form, &[Number(more), Own(oddity.name())]);
+            put_more(out, oddity, more, oddities.is_of_check());
         }
     }
 }
 
+/// Puts how many more there are of a kind, which a check does not list, or a count does not tell.
+fn put_more(out: &mut WordsWriter, oddity: Oddity, more: u64, is_of_check: bool) {
+    let unit = match oddity {
+        Oddity::IdBehindVote | Oddity::ValidColumn => "more column",
+        Oddity::RepeatedColumn | Oddity::VotesWithPoints => "more column",
+        _ => "more row",
+    };
+    out.fill("{} applies to {}", &[Own(oddity.name()), Count(more, unit)]);
+    if is_of_check {
+        out.put(", not listed here.\n");
+    } else if more == 1 {
+        out.put("; `pb_app check` lists it.\n");
+    } else if more < MOST {
+        out.put("; `pb_app check` lists them.\n");
+    } else {
+        out.fill("; `pb_app check` lists the first {}.\n", &[Number(MOST)]);
+    }
+}
+
 /// Puts what is said of an odd record.
-fn put_odd<R: Files>(out: &mut Words, text: &Text<R>, odd: &Odd) {
+fn put_odd<R: Files>(out: &mut WordsWriter, text: &Text<R>, odd: &Odd, oddities: &Oddities) {
+    if odd.oddity == Oddity::SwallowedRows && put_swallowing_row(out, text, odd.mark) {
+        return;
+    }
     let (what, alone, remedy) = said_of(odd);
     if !put_row(out, text, odd, what) {
         put_record_number(out, text, odd.mark.at);
         out.put(": ");
-        out.fill(alone, &[Number(odd.number)]);
+        if odd.oddity == Oddity::IdBehindVote {
+            out.fill(alone, &[Count(odd.number, "row")]);
+        } else {
+            out.fill(alone, &[Number(odd.number)]);
+        }
     }
     put_limit(out, odd);
-    out.fill(" ({}).\n{}\n", &[Own(odd.oddity.name()), Own(remedy)])
+    out.fill(" ({}).\n", &[Own(odd.oddity.name())]);
+    let is_length = matches!(odd.oddity, Oddity::TooLongBallot | Oddity::TooShortBallot);
+    match (cause_of(oddities, odd), odd.oddity) {
+        (Some(cause), _) if is_length => out.fill(LENGTH_BY_ANOTHER, &[Own(cause.name())]),
+        (Some(cause), _) => out.fill(BY_ANOTHER, &[Own(cause.name())]),
+        _ if is_length && put_all_break(out, odd, oddities) => {}
+        (None, Oddity::ThousandsMark) if oddities.has_decimals => out.put(BESIDE_DECIMALS),
+        (None, Oddity::ThousandsMark) => put_by_clean(out, remedy, text.path),
+        _ => out.fill("{}\n", &[Own(remedy)]),
+    }
+}
+
+/// Puts a remedy that names a command for the file with this path.
+fn put_by_clean(out: &mut WordsWriter, remedy: &'static str, path: Option<&str>) {
+    match path {
+        Some(_) => out.fill(remedy, &[Name(path)]),
+        None => out.fill(remedy, &[Own("FILE")]),
+    }
+    out.put("\n");
+}
+
+/// Puts that all ballots, or nearly all, have too many projects or too few, or that no ballot can have as many as
+/// both keys ask for, where it is so; answers whether it is.
+fn put_all_break(out: &mut WordsWriter, odd: &Odd, oddities: &Oddities) -> bool {
+    let (count, voters) = (oddities.count(odd.oddity), oddities.voters);
+    let are_nearly_all = count.saturating_mul(10) >= voters.saturating_mul(9);
+    if odd.before.is_some() || voters < 2 {
+        return false;
+    }
+    if oddities.has_no_length {
+        out.put(NO_LENGTH);
+        return true;
+    }
+    if !are_nearly_all {
+        return false;
+    }
+    let who = if count == voters {
+        "All ballots"
+    } else {
+        "Nearly all ballots"
+    };
+    let key = if odd.oddity == Oddity::TooLongBallot {
+        "max_length"
+    } else {
+        "min_length"
+    };
+    let limit = odd.limit.unwrap_or(0);
+    out.fill(ALL_BREAK, &[Own(who), Own(key), Number(limit)]);
+    true
+}
+
+/// The warning that may be the reason why the file has another number of votes than it says.
+fn cause_of(oddities: &Oddities, odd: &Odd) -> Option<Oddity> {
+    let are_few = odd.limit.unwrap_or(0) > odd.number;
+    let (has_rows, has_ids) = (
+        oddities.has(Oddity::SwallowedRows),
+        oddities.has(Oddity::IdBehindVote),
+    );
+    match odd.oddity {
+        Oddity::TooLongBallot | Oddity::TooShortBallot if odd.before.is_some() => None,
+        Oddity::TooLongBallot | Oddity::TooShortBallot if has_rows => {
+            Some(Oddity::SwallowedRows)
+        }
+        Oddity::TooShortBallot if has_ids => Some(Oddity::IdBehindVote),
+        Oddity::VotesMissing if has_rows && are_few => Some(Oddity::SwallowedRows),
+        Oddity::VotesOf if has_rows => Some(Oddity::SwallowedRows),
+        Oddity::VotesOf if has_ids => Some(Oddity::IdBehindVote),
+        _ => None,
+    }
+}
+
+/// Puts which quotation mark makes several lines one field in an odd row, where one is found; answers whether
+/// one is.
+fn put_swallowing_row<R: Files>(out: &mut WordsWriter, text: &Text<R>, mark: Mark) -> bool {
+    let span = span_of(text, mark);
+    if span.unclosed().is_none() && span.over.is_none() {
+        return false;
+    }
+    let _ = put_mark(out, text, mark);
+    out.fill(" ({})", &[Own(Oddity::SwallowedRows.name())]);
+    if put_unclosed(out, span) {
+        out.put(CLOSE_IT);
+        return true;
+    }
+    put_over(out, span, false)
 }
 
 /// Puts where an odd row stands and what is odd in it, where it can be read again; answers whether it can.
-fn put_row<R: Files>(out: &mut Words, text: &Text<R>, odd: &Odd, what: &'static str) -> bool {
+fn put_row<R: Files>(out: &mut WordsWriter, text: &Text<R>, odd: &Odd, what: &'static str) -> bool {
     let Some(records) = text.record_at(odd.mark) else {
         return false;
     };
+    let row = &records.last;
     let _ = put_mark(out, text, odd.mark);
-    let (id, value) = (
-        text_at(&records.last, odd.id_place),
-        text_at(&records.last, odd.value_place),
-    );
-    put_subject(out, odd.subject.word(), id);
+    put_subject(out, odd.subject.word(), text_at(row, odd.id_place));
     out.put(": ");
-    let number = match (odd.before, odd.oddity) {
-        (Some(before), _) => line_of(text, before),
-        (None, Oddity::SurplusFields) => records.last.len() as u64,
-        _ => odd.number,
+    let value = text_at(row, odd.value_place);
+    let (fields, number) = (row.len() as u64, odd.number);
+    let line = match odd.before {
+        Some(before) => line_of(text, before),
+        None => number,
     };
-    out.fill(what, &[Quoted(value), Number(number), Number(odd.number)]);
+    match odd.oddity {
+        Oddity::TooShortBallot | Oddity::EmptyBallot if odd.before.is_some() => {
+            put_stray(out, text, odd, (what, value))
+        }
+        Oddity::IdBehindVote => out.fill(what, &[Quoted(value), Count(number, "row")]),
+        Oddity::SurplusFields => {
+            out.fill(what, &[Quoted(value), Number(fields), Number(number)])
+        }
+        Oddity::CutName => out.fill(what, &[Number(fields), Number(number)]),
+        Oddity::NoteRows | Oddity::RepeatedColumn => out.fill(what, &[Number(number)]),
+        Oddity::TwiceInVote => put_twice(out, what, text.alloc, value),
+        Oddity::ValidColumn => { put_valid(out, what, (number, line), value) }
+        _ => out.fill(what, &[Quoted(value), Number(line), Number(number)]),
+    }
     if odd.oddity == Oddity::ThousandsMark {
         put_as_read(out, value);
     }
     true
 }
 
+/// Puts which id a vote names twice.
+fn put_twice(out: &mut WordsWriter, what: &'static str, alloc: Global, vote: &str) {
+    out.fill(what, &[Quoted(twice_in(alloc, vote))])
+}
+
+/// Puts what the column with this number says of a row, and the line from which it differs.
+fn put_valid(out: &mut WordsWriter, what: &'static str, numbers: (u64, u64), value: &str) {
+    let (name, line) = (name_of(numbers.0), numbers.1);
+    out.fill(what, &[Quoted(value), Number(line), Own(name)])
+}
+
+/// Puts which column of a row without a vote has this value, which seems to be its vote.
+fn put_stray<R: Files>(
+    out: &mut WordsWriter,
+    text: &Text<R>,
+    odd: &Odd,
+    said: (&'static str, &str),
+) {
+    let (what, value) = said;
+    let Some(records) = header_of(text, odd) else {
+        let number = (odd.value_place as u64).saturating_add(1);
+        return out.fill(what, &[Quoted(value), Number(number)]);
+    };
+    let name = text_at(&records.last, odd.value_place);
+    out.fill(what, &[Quoted(value), Quoted(name)]);
+    drop(records);
+}
+
+/// The row of column names of an odd row, where it can be read again.
+fn header_of<R: Files>(text: &Text<R>, odd: &Odd) -> Option<TextRecords<R::File>> {
+    text.record_at(odd.before?)
+}
+
+/// The name of this one of the columns that say which rows are valid.
+fn name_of(number: u64) -> &'static str {
+    VALID.get(number as usize).copied().unwrap_or("")
+}
+
+/// Puts where a record stands.
+fn put_place<R: Files>(out: &mut WordsWriter, text: &Text<R>, mark: Mark) {
+    if text.is_file() {
+        let _ = put_mark(out, text, mark);
+    } else {
+        put_record_number(out, text, mark.at);
+    }
+}
+
 /// Puts the limit that a ballot does not keep, after the number of its projects.
-fn put_limit(out: &mut Words, odd: &Odd) {
+fn put_limit(out: &mut WordsWriter, odd: &Odd) {
     let form = match odd.oddity {
+        _ if odd.before.is_some() => return,
         Oddity::TooLongBallot => " project{}, and `max_length` allows {}",
         Oddity::TooShortBallot => " project{}, and `min_length` asks for {}",
         _ => return,
@@ -217,7 +386,7 @@ fn put_limit(out: &mut Words, odd: &Odd) {
 }
 
 /// Puts as which amount a value is read.
-fn put_as_read(out: &mut Words, value: &str) {
+fn put_as_read(out: &mut WordsWriter, value: &str) {
     if let Ok(amount) = Money::read(value) {
         let form = " is read as {}, because a point or a comma begins the decimals";
         out.fill(form, &[Amount(amount.0)]);

@@ -1,6 +1,6 @@
 //! Words for a question about changed elections that has no answer.
 
-use crate::words::Value::{Name, Number, Quoted};
+use crate::words::PlaceholderValue::{Name, Number, Quoted};
 use crate::words::{Said, said};
 use std::alloc::Global;
 

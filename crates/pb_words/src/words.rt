@@ -13,7 +13,7 @@ const MOST_OF_NAME: usize = 4096;
 
 /// What stands in words in the place of a `{}`.
 #[derive(Clone, Copy)]
-pub enum Value<'v> {
+pub enum PlaceholderValue<'v> {
     /// A text that is the program's own.
     Own(&'v str),
     Number(u64),
@@ -39,17 +39,17 @@ pub type Said = Result<String, AllocError>;
 
 /// Words that are being written. Where memory is refused they are void, which their end tells.
 #[derive(Drop)]
-pub struct Words {
+pub struct WordsWriter {
     text: String,
     is_whole: bool,
     /// Whether line ends, quotation marks and backslashes stay as they are.
     is_text: bool,
 }
 
-impl Words {
+impl WordsWriter {
     /// No words yet.
-    pub fn new(alloc: Global) -> Words {
-        Words {
+    pub fn new(alloc: Global) -> WordsWriter {
+        WordsWriter {
             text: String::new(alloc),
             is_whole: true,
             is_text: false,
@@ -76,7 +76,7 @@ impl Words {
     }
 
     /// Puts a text that is the program's own, with the next one of these values in place of each `{}`.
-    pub fn fill(&mut self, form: &str, values: &[Value<'_>]) {
+    pub fn fill(&mut self, form: &str, values: &[PlaceholderValue<'_>]) {
         for (place, piece) in form.split("{}").enumerate() {
             if place > 0 && place <= values.len() {
                 self.put_value(&values[place - 1]);
@@ -85,30 +85,30 @@ impl Words {
         }
     }
 
-    fn put_value(&mut self, value: &Value<'_>) {
+    fn put_value(&mut self, value: &PlaceholderValue<'_>) {
         match value {
-            Value::Own(text) => self.put(text),
-            Value::Number(number) => self.put_number(*number),
-            Value::Count(count, unit) => {
+            PlaceholderValue::Own(text) => self.put(text),
+            PlaceholderValue::Number(number) => self.put_number(*number),
+            PlaceholderValue::Count(count, unit) => {
                 self.put_number(*count);
                 self.put(" ");
                 self.put(unit);
                 self.put(if *count == 1 { "" } else { "s" })
             }
-            Value::Numbers(0 | 1) => self.put("0"),
-            Value::Numbers(2) => self.put("0 and 1"),
-            Value::Numbers(count) => {
+            PlaceholderValue::Numbers(0 | 1) => self.put("0"),
+            PlaceholderValue::Numbers(2) => self.put("0 and 1"),
+            PlaceholderValue::Numbers(count) => {
                 self.put("0 to ");
                 self.put_number(count.saturating_sub(1))
             }
-            Value::Amount(amount) => {
+            PlaceholderValue::Amount(amount) => {
                 let (units, rest) = (amount / 100, amount % 100);
                 self.is_whole &= write!(&mut self.text, "{units}.{rest:02}").is_ok();
             }
-            Value::Quoted(text) => self.put_quoted(text.as_bytes()),
-            Value::Bytes(bytes) => self.put_quoted(bytes),
-            Value::Name(path) => self.put_name(path.unwrap_or("standard input")),
-            Value::Beside(path, end) => {
+            PlaceholderValue::Quoted(text) => self.put_quoted(text.as_bytes()),
+            PlaceholderValue::Bytes(bytes) => self.put_quoted(bytes),
+            PlaceholderValue::Name(path) => self.put_name(path.unwrap_or("standard input")),
+            PlaceholderValue::Beside(path, end) => {
                 self.put_name(path);
                 self.put(end)
             }
@@ -198,15 +198,15 @@ pub fn for_terminal(alloc: Global, bytes: &[u8]) -> Result<Option<String>, Alloc
         Ok(text) if is_plain(text) => return Ok(None),
         _ => {}
     }
-    let mut out = Words::new(alloc);
+    let mut out = WordsWriter::new(alloc);
     out.is_text = true;
     let _ = out.put_escaped(bytes, usize::MAX);
     Ok(Some(out.finish()?))
 }
 
 /// A text that is the program's own, with the next one of these values in place of each `{}`.
-pub fn said(alloc: Global, form: &str, values: &[Value<'_>]) -> Said {
-    let mut out = Words::new(alloc);
+pub fn said(alloc: Global, form: &str, values: &[PlaceholderValue<'_>]) -> Said {
+    let mut out = WordsWriter::new(alloc);
     out.fill(form, values);
     out.finish()
 }
@@ -215,12 +215,12 @@ pub fn said(alloc: Global, form: &str, values: &[Value<'_>]) -> Said {
 /// to do.
 pub(crate) fn failed(
     alloc: Global,
-    name: Value<'_>,
+    name: PlaceholderValue<'_>,
     reason: Option<&Error>,
     otherwise: &str,
     remedy: &str,
 ) -> Said {
-    let mut out = Words::new(alloc);
+    let mut out = WordsWriter::new(alloc);
     out.fill("{}", &[name]);
     out.put_reason(reason, otherwise);
     out.put(remedy);

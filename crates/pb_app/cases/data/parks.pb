@@ -1,0 +1,15 @@
+META
+key;value
+budget;100
+vote_type;approval
+PROJECTS
+project_id;cost;name
+1;30;Park
+2;60;Trees
+10;5;Bench
+VOTES
+voter_id;age;vote
+v1;34;1,2
+v2;61;2,10
+v3;25;1
+v4;47;1,2,10

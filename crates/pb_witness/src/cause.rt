@@ -1,0 +1,258 @@
+//! Why a vote names an id that no project has.
+
+use crate::changed::{
+    Difference, has_digit, how_differs, is_date, is_decimal, is_nothing, is_power, is_tick,
+    is_word, without_hidden,
+};
+use crate::ids::Ids;
+use crate::projects::Projects;
+use crate::unknown::Unknown;
+use crate::witness::Witness;
+use pb_read::Column;
+use std::alloc::AllocError;
+use std::str;
+
+/// Why a vote names an id that no project has.
+#[derive(Clone, Copy, PartialEq, Eq)]
+pub enum Cause {
+    /// The project's row is left out.
+    LeftOut,
+    /// PROJECTS has no rows.
+    NoProjects,
+    /// The id is in a row that a quotation mark swallowed, is cut by a comma, or has a line's end.
+    Swallowed,
+    Cut,
+    Lines,
+    /// The row has the column names again.
+    NamesAgain,
+    /// It is several ids with this between them, or with nothing.
+    OnLines,
+    Blanks,
+    Bars,
+    Marks,
+    Together,
+    /// It is an id with this around it.
+    Brackets,
+    Quotes,
+    /// It is an id in brackets, and not the whole vote is.
+    OneInBrackets,
+    /// It is an id, or several, that a program or a spreadsheet changed.
+    PointZero,
+    Decimal,
+    Shortened,
+    Date,
+    /// It says that nothing is there, alone or beside ids, or is perhaps a place from 0, or says whether a
+    /// project is approved.
+    Nothing,
+    Beside,
+    Places,
+    Columns,
+    Tick,
+    /// It is alike the id of a project, in the vote or (where true) in PROJECTS.
+    Alike(Difference, bool),
+    /// It is alike the ids of several projects.
+    Several,
+    /// It is a project's name, or an id and more.
+    Name,
+    More,
+    /// The id of a project was changed.
+    ChangedProject,
+    /// It is a word in place of ids.
+    Word,
+    /// It has a character that no id of a project has.
+    OddLetter,
+    /// No vote names a project.
+    OtherElection,
+    /// None is known.
+    Unknown,
+}
+
+impl Cause {
+    /// Whether words for one id say it of each.
+    pub fn is_shared(self) -> bool {
+        !matches!(
+            self,
+            Cause::LeftOut
+                | Cause::Swallowed
+                | Cause::Cut
+                | Cause::Lines
+                | Cause::Name
+                | Cause::Unknown
+        )
+    }
+}
+
+/// What between ids makes several of them one piece.
+const BETWEEN: [(char, Cause); 9] = [
+    (' ', Cause::Blanks),
+    ('|', Cause::Bars),
+    (';', Cause::Marks),
+    ('\u{ff0c}', Cause::Marks),
+    ('\u{3001}', Cause::Marks),
+    ('\u{60c}', Cause::Marks),
+    ('/', Cause::Marks),
+    ('+', Cause::Marks),
+    ('&', Cause::Marks),
+];
+
+/// Why a vote names this id, which no project has, and the place of the project that it is about. The file has
+/// a column for each project, or not.
+pub(crate) fn cause_of(
+    unknown: &Unknown,
+    witness: &Witness,
+    projects: &Projects,
+    has_columns: bool,
+) -> Result<(Cause, Option<u32>), AllocError> {
+    let id = unknown.id.as_str();
+    match plain_cause(id, &witness.ids, projects, has_columns) {
+        Some(Cause::Nothing) if unknown.is_beside && id == "0" => return Ok((Cause::Places, None)),
+        Some(Cause::Nothing) if unknown.is_beside => return Ok((Cause::Beside, None)),
+        Some(Cause::Brackets) if !unknown.is_in_brackets => {
+            return Ok((Cause::OneInBrackets, None));
+        }
+        Some(cause) => return Ok((cause, None)),
+        None => {}
+    }
+    if let Some(place) = projects.alike(id)? {
+        if projects.row(place).is_none() {
+            return Ok((Cause::Several, None));
+        }
+        let (difference, is_changed) = how_differs(id, projects.id(place));
+        return Ok((Cause::Alike(difference, is_changed), Some(place)));
+    }
+    if let Some(place) = projects.named(id)? {
+        let is_one = projects.row(place).is_some();
+        let cause = if is_one { Cause::Name } else { Cause::Several };
+        return Ok((cause, Some(place)));
+    }
+    Ok(last_cause(id, witness, projects))
+}
+
+/// The cause that an id shows by itself, or beside ids of projects.
+fn plain_cause(id: &str, ids: &Ids, projects: &Projects, has_columns: bool) -> Option<Cause> {
+    let cause = if ids.left_out.has(id) {
+        Cause::LeftOut
+    } else if ids.projects.len() == 0 && ids.left_out.len() == 0 {
+        Cause::NoProjects
+    } else if ids.swallowed.has(id) {
+        Cause::Swallowed
+    } else if ids.pieces.has(id) {
+        Cause::Cut
+    } else if ids.are_apart_by(id, '\n') {
+        Cause::OnLines
+    } else if id.contains('\n') {
+        Cause::Lines
+    } else if id.eq_ignore_ascii_case(Column::Vote.name()) {
+        Cause::NamesAgain
+    } else if let Some(cause) = wrapped(id, ids) {
+        cause
+    } else if let Some(cause) = between(id, ids) {
+        cause
+    } else if has_columns && is_tick(id) {
+        Cause::Columns
+    } else if is_nothing(id) {
+        Cause::Nothing
+    } else {
+        return changed(id, ids, projects);
+    };
+    Some(cause)
+}
+
+/// What is around an id, so that it is none.
+fn wrapped(id: &str, ids: &Ids) -> Option<Cause> {
+    let begin = id.strip_prefix("c(").unwrap_or(id);
+    let is_wrap = |c: char| "[](){}".contains(c);
+    let bare = without_hidden(begin.trim_matches(is_wrap));
+    let open = bare.trim_matches(
+        |c: char| "\"'`\u{201e}\u{201c}\u{201d}\u{2018}\u{2019}\u{ab}\u{bb}".contains(c),
+    );
+    if !ids.projects.has(open) {
+        return None;
+    }
+    if id.contains(is_wrap) && bare.len() < id.len() {
+        return Some(Cause::Brackets);
+    }
+    if open.len() < bare.len() {
+        return Some(Cause::Quotes);
+    }
+    None
+}
+
+/// What is between several ids, so that they are one piece.
+fn between(id: &str, ids: &Ids) -> Option<Cause> {
+    for (mark, cause) in BETWEEN {
+        if ids.are_apart_by(id, mark) {
+            return Some(cause);
+        }
+    }
+    None
+}
+
+/// How an id, or several, was changed by a program or a spreadsheet.
+fn changed(id: &str, ids: &Ids, projects: &Projects) -> Option<Cause> {
+    let whole = id.strip_suffix(".0").unwrap_or("");
+    if ids.projects.has(whole) && !ids.projects.has("0") {
+        return Some(Cause::PointZero);
+    }
+    if is_decimal(id) {
+        let (one, other) = id.split_once('.').unwrap_or((id, ""));
+        if ids.projects.has(one) || ids.projects.has(other) {
+            return Some(Cause::Decimal);
+        }
+    }
+    if is_power(id) {
+        Some(Cause::Shortened)
+    } else if is_date(id, false) {
+        Some(Cause::Date)
+    } else if is_together(id, ids, projects.length) {
+        Some(Cause::Together)
+    } else {
+        None
+    }
+}
+
+/// Whether a text is ids of this length, one behind the other.
+fn is_together(text: &str, ids: &Ids, length: usize) -> bool {
+    if length < 2 || text.len() <= length {
+        return false;
+    }
+    for piece in text.as_bytes().chunks(length) {
+        match str::from_utf8(piece) {
+            Ok(id) if ids.projects.has(id) => {}
+            _ => return false,
+        }
+    }
+    true
+}
+
+/// The cause of an id that is like none of a project.
+fn last_cause(id: &str, witness: &Witness, projects: &Projects) -> (Cause, Option<u32>) {
+    for part in id.split(|c: char| c.is_whitespace() || ":=(#".contains(c)) {
+        if witness.ids.projects.has(part) {
+            return (Cause::More, None);
+        }
+    }
+    if projects.changed().is_some() {
+        (Cause::ChangedProject, projects.changed())
+    } else if witness.is_of_other_projects() {
+        (Cause::OtherElection, None)
+    } else if is_tick(id) && id.len() > 1 {
+        (Cause::Tick, None)
+    } else if is_word(id) || (projects.have_digits && !has_digit(id)) {
+        (Cause::Word, None)
+    } else if odd_letter(id, projects).is_some() {
+        (Cause::OddLetter, None)
+    } else {
+        (Cause::Unknown, None)
+    }
+}
+
+/// The first character of an id that no project's id has, and that is no letter or digit of ASCII.
+pub fn odd_letter(id: &str, projects: &Projects) -> Option<char> {
+    for c in id.chars() {
+        if !c.is_ascii_alphanumeric() && projects.lacks(c) {
+            return Some(c);
+        }
+    }
+    None
+}

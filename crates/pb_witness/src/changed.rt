@@ -1,0 +1,265 @@
+//! What texts look like that a spreadsheet, a database or a program changed.
+
+use crate::faulty_record::is_hidden;
+use std::alloc::{AllocError, Global};
+
+/// What programs write where there is no value.
+const NOTHING: &[&str] = &["nan", "none", "null", "nil", "na", "n/a", "-", "0", "\\n"];
+
+/// What says in place of ids which projects are meant, or that the vote is none.
+const WORDS: &[&str] = &[
+    "all",
+    "everything",
+    "any",
+    "every",
+    "invalid",
+    "void",
+    "spoiled",
+    "spoilt",
+    "cancelled",
+    "canceled",
+    "blank",
+    "empty",
+    "abstain",
+    "abstention",
+];
+
+/// What says in the column of a project whether a voter approves it.
+const TICKS: &[&str] = &["0", "1", "x", "yes", "no", "true", "false"];
+
+/// How the names of months begin in several languages.
+const MONTHS: &[&str] = &[
+    "jan", "feb", "fev", "mar", "apr", "avr", "abr", "mai", "maj", "may", "jun", "jui", "jul",
+    "aug", "ago", "sep", "set", "oct", "okt", "ott", "out", "nov", "dec", "dez", "dic", "sty",
+    "lut", "kwi", "cze", "lip", "sie", "wrz", "lis", "gru",
+];
+
+/// How an id differs from another one that is alike.
+#[derive(Clone, Copy, PartialEq, Eq)]
+pub enum Difference {
+    Hidden,
+    Spaces,
+    PointZero,
+    Case,
+    Zeros,
+}
+
+fn is_one_of(text: &str, words: &[&str]) -> bool {
+    for word in words {
+        if text.eq_ignore_ascii_case(word) {
+            return true;
+        }
+    }
+    false
+}
+
+/// Whether a text says that there is no value, as programs write it.
+pub fn is_nothing(text: &str) -> bool {
+    is_one_of(text, NOTHING)
+}
+
+/// Whether a text says of a project whether a voter approves it.
+pub(crate) fn is_tick(text: &str) -> bool {
+    is_one_of(text, TICKS)
+}
+
+/// Whether a text says in place of ids which projects are meant, or that the vote is none.
+pub(crate) fn is_word(text: &str) -> bool {
+    is_one_of(text, WORDS)
+}
+
+/// Whether a text has a digit.
+pub(crate) fn has_digit(text: &str) -> bool {
+    text.contains(|c: char| c.is_ascii_digit())
+}
+
+/// Whether a text seems to be a calculation, such as `1000-100`.
+pub fn is_calculation(text: &str) -> bool {
+    is_number_on_both_sides(text.split_once(|c: char| "-+*/xX\u{d7}\u{2212}\u{2013}".contains(c)))
+}
+
+/// Whether a text is a number with a power of ten, such as `1e5`.
+pub fn has_power(text: &str) -> bool {
+    is_number_on_both_sides(text.split_once(|c: char| c == 'e' || c == 'E'))
+}
+
+/// Whether the first of two texts ends with a digit, and the second begins with one.
+fn is_number_on_both_sides(sides: Option<(&str, &str)>) -> bool {
+    let Some((one, other)) = sides else {
+        return false;
+    };
+    let one = one.trim().as_bytes();
+    let other = other.trim().trim_start_matches('+').as_bytes();
+    let last = one.get(one.len().saturating_sub(1));
+    let is_digit = |byte: Option<&u8>| byte.map_or(false, |byte| byte.is_ascii_digit());
+    is_digit(last) && is_digit(other.get(0))
+}
+
+/// Whether a vote begins and ends with brackets, as programs write lists.
+pub(crate) fn is_in_brackets(vote: &str) -> bool {
+    let begin = vote.strip_prefix("c").unwrap_or(vote);
+    let is_wrap = |c: char| "[](){}".contains(c);
+    begin.trim_start_matches(is_wrap).len() < begin.len()
+        && begin.trim_end_matches(is_wrap).len() < begin.len()
+}
+
+/// Whether a text is one or more digits.
+pub(crate) fn is_digits(text: &str) -> bool {
+    for byte in text.as_bytes() {
+        if !byte.is_ascii_digit() {
+            return false;
+        }
+    }
+    !text.is_empty()
+}
+
+/// Whether a text is digits on both sides of a point or a comma.
+pub(crate) fn is_decimal(text: &str) -> bool {
+    match text.split_once(|c: char| c == '.' || c == ',') {
+        Some((whole, part)) => is_digits(whole) && is_digits(part),
+        None => false,
+    }
+}
+
+/// Whether an amount has three decimals, or a group of thousands.
+pub fn has_thousandths(text: &str) -> bool {
+    match text.split_once(|c: char| c == '.' || c == ',') {
+        Some((whole, part)) => whole.len() <= 3 && part.len() == 3 && is_digits(part),
+        None => false,
+    }
+}
+
+/// Whether a text is a number as a spreadsheet shortens it, such as `1.23E+11`.
+pub(crate) fn is_power(text: &str) -> bool {
+    let Some((number, power)) = text.split_once(|c: char| c == 'E' || c == 'e') else {
+        return false;
+    };
+    match power.strip_prefix('+') {
+        Some(power) => is_digits(power) && (is_digits(number) || is_decimal(number)),
+        None => false,
+    }
+}
+
+/// Whether a text seems to be a long number that a spreadsheet shortened.
+pub fn is_shortened(text: &str) -> bool {
+    let lost = text.as_bytes().get(15..).unwrap_or(b"");
+    let has_lost = !lost.is_empty() && lost.iter().all(|byte| *byte == b'0');
+    let is_round = text.len() >= 10 && text.ends_with("00000");
+    is_power(text) || (is_digits(text) && (has_lost || is_round))
+}
+
+/// Whether a text is a date: with a month's name or a year of four digits, or if it need not be sure with one
+/// of two.
+pub(crate) fn is_date(text: &str, is_sure: bool) -> bool {
+    let day = text.split_once(" 00:00").unwrap_or((text, "")).0;
+    let day = day.split_once("T00:00").unwrap_or((day, "")).0;
+    let (mut numbers, mut months, mut has_year) = (0u32, 0u32, false);
+    for part in day.split(|c: char| c == '-' || c == '.' || c == '/' || c == ' ') {
+        if part.is_empty() {
+            continue;
+        }
+        if is_digits(part) && part.len() <= 4 {
+            numbers = numbers.saturating_add(1);
+            has_year |= part.len() == 4 || (part.len() == 2 && !is_sure);
+        } else if is_month(part) {
+            months = months.saturating_add(1);
+        } else {
+            return false;
+        }
+    }
+    match (numbers, months) {
+        (1 | 2, 1) => true,
+        (3, 0) => has_year,
+        _ => false,
+    }
+}
+
+/// Whether a word is a month's name, or its beginning.
+fn is_month(word: &str) -> bool {
+    for month in MONTHS {
+        let begin = word.as_bytes().get(..month.len()).unwrap_or(b"");
+        if begin.eq_ignore_ascii_case(month.as_bytes()) {
+            return word.len() <= 10 && !word.contains(|c: char| c.is_ascii_digit());
+        }
+    }
+    false
+}
+
+/// Whether a text is an amount with groups of thousands that no other reading has.
+pub fn is_grouped(text: &str) -> bool {
+    let Some(place) = text.find(|c: char| !c.is_ascii_digit()) else {
+        return false;
+    };
+    let (_, behind) = text.split_at(place);
+    let mark = behind.chars().next().unwrap_or(' ');
+    let is_mark = mark == '.' || mark == ',';
+    if !is_mark && mark != '\'' && mark != '\u{2019}' && !mark.is_whitespace() {
+        return false;
+    }
+    let is_decimal = |c: char| (c == '.' || c == ',') && c != mark;
+    let (whole, part) = text.split_once(is_decimal).unwrap_or((text, ""));
+    let mut groups = 0u32;
+    for group in whole.split(mark) {
+        let is_whole = group.len() == 3 || (groups == 0 && group.len() < 3);
+        if !is_digits(group) || !is_whole {
+            return false;
+        }
+        groups = groups.saturating_add(1);
+    }
+    let is_sure = !is_mark || groups > 2 || !part.is_empty();
+    groups > 1 && is_sure && (part.is_empty() || is_digits(part))
+}
+
+/// Whether a text has a character that can't be seen.
+pub(crate) fn has_hidden(text: &str) -> bool {
+    text.contains(|c: char| is_hidden(u32::from(c)))
+}
+
+/// A text without the characters at its ends that can't be seen.
+pub fn without_hidden(text: &str) -> &str {
+    text.trim_matches(|c: char| c.is_whitespace() || is_hidden(u32::from(c)))
+}
+
+/// An id without what gets changed: case, white space, characters that can't be seen, zeros before a number,
+/// and `.0` at its end.
+pub(crate) fn plain(alloc: Global, id: &str) -> Result<String, AllocError> {
+    let id = without_hidden(id);
+    let id = id.strip_suffix(".0").unwrap_or(id);
+    let mut out = String::new(alloc);
+    let (mut is_front, mut is_zero) = (true, false);
+    for c in id.chars() {
+        if c.is_whitespace() || is_hidden(u32::from(c)) {
+            continue;
+        }
+        if c == '0' && is_front {
+            is_zero = true;
+            continue;
+        }
+        if is_zero && !c.is_ascii_digit() {
+            out.push('0')?;
+        }
+        is_zero = false;
+        is_front = !(c.is_ascii_digit() || c == '.' || c == ',');
+        out.push(c.to_ascii_lowercase())?;
+    }
+    if is_zero {
+        out.push('0')?;
+    }
+    Ok(out)
+}
+
+/// How two ids differ that are alike, and whether it is the second that seems to be changed.
+pub(crate) fn how_differs(one: &str, other: &str) -> (Difference, bool) {
+    let has_space = |text: &str| text.contains(|c: char| c.is_whitespace());
+    if has_hidden(one) || has_hidden(other) {
+        (Difference::Hidden, has_hidden(other))
+    } else if has_space(one) || has_space(other) {
+        (Difference::Spaces, false)
+    } else if one.ends_with(".0") || other.ends_with(".0") {
+        (Difference::PointZero, other.ends_with(".0"))
+    } else if one.eq_ignore_ascii_case(other) {
+        (Difference::Case, false)
+    } else {
+        (Difference::Zeros, other.len() < one.len())
+    }
+}

@@ -1,0 +1,212 @@
+//! What is known of a file in which a record was refused.
+
+use crate::cause::{Cause, cause_of};
+use crate::changed::{is_nothing, is_shortened};
+use crate::faulty_record::FaultyRecord;
+use crate::fields::bytes_at;
+use crate::mark::Mark;
+use crate::projects::Projects;
+use crate::text::Text;
+use crate::unknown::{Unknown, Votes};
+use crate::voters::{FirstRows, first_rows};
+use crate::witness::Witness;
+use pb_read::{ReadKind, Refusal};
+use std::alloc::AllocError;
+use std::rt::Files;
+
+/// What is found in a file when it is read again.
+#[derive(Drop)]
+pub struct ReadAgain {
+    /// Where the first rows of the voters stand whose ids are repeated.
+    voters: FirstRows,
+    pub projects: Projects,
+    /// Why each id is unknown, in the order of the witness.
+    causes: Vec<FoundCause>,
+    /// How many votes META says there are.
+    claimed: Option<u32>,
+}
+
+/// Why an id is unknown.
+#[derive(Clone, Copy)]
+pub struct FoundCause {
+    pub cause: Cause,
+    /// The place of the project that the cause is about.
+    pub project: Option<u32>,
+    /// The votes that are refused for this cause.
+    pub votes: Votes,
+}
+
+/// What is known of a file in which a record was refused.
+#[derive(Clone, Copy)]
+pub struct Known<'i> {
+    pub witness: &'i Witness,
+    pub again: &'i ReadAgain,
+}
+
+/// Why a row has the id of an earlier one.
+#[derive(Clone, Copy, PartialEq, Eq)]
+pub enum Repeat {
+    /// A spreadsheet shortened the ids.
+    Shortened,
+    /// The id says that there is none.
+    Nothing,
+    /// VOTES has a row for each voter and project.
+    ByProject,
+    /// META counts all rows as votes, or many rows have one id.
+    OtherPeople,
+    OneId,
+    /// The rows are the same.
+    Copy,
+    Unknown,
+}
+
+impl Repeat {
+    /// How many reasons there are.
+    pub const COUNT: usize = 7;
+
+    /// Whether the reason is one for all rows of VOTES, and not for each of them.
+    pub fn is_shared(&self) -> bool {
+        !matches!(self, Repeat::Copy | Repeat::Unknown)
+    }
+}
+
+impl ReadAgain {
+    /// Reads a text again, if it is a file, as far as what was refused asks for it.
+    pub fn of<R: Files>(text: &Text<'_, R>, witness: &Witness) -> Result<ReadAgain, AllocError> {
+        let projects = Projects::of(text, witness)?;
+        let claimed = if witness.rows.voters_repeated > 0 {
+            text.number_of("num_votes")
+        } else {
+            None
+        };
+        let causes = causes_of(text, witness, &projects)?;
+        Ok(ReadAgain {
+            voters: first_rows(text, witness)?,
+            projects,
+            causes,
+            claimed,
+        })
+    }
+}
+
+impl Known<'_> {
+    /// Where the earlier row with the same id stands, where the fault is about one.
+    pub fn earlier(&self, refusal: &Refusal) -> Option<Mark> {
+        let place = refusal.earlier?;
+        match refusal.fault.kind {
+            ReadKind::RepeatedVoter => self.again.voters.mark(place),
+            _ => self.witness.ids.projects.mark_at(place),
+        }
+    }
+
+    /// Why votes name this id, which no project has.
+    pub fn cause_of(&self, id: &str) -> Option<FoundCause> {
+        let place = self.witness.unknown.place(id)?;
+        self.again.causes.get(place as usize).copied()
+    }
+
+    /// Why a row has the id of an earlier one.
+    pub fn repeat_of<R: Files>(&self, text: &Text<'_, R>, faulty: &FaultyRecord) -> Repeat {
+        let rows = &self.witness.rows;
+        let is_voter = faulty.kind() == ReadKind::RepeatedVoter;
+        if is_shortened(faulty.id()) {
+            Repeat::Shortened
+        } else if is_nothing(faulty.id()) {
+            Repeat::Nothing
+        } else if is_voter && rows.is_by_project() {
+            Repeat::ByProject
+        } else if is_voter && self.again.claimed.map(u64::from) == Some(rows.count()) {
+            Repeat::OtherPeople
+        } else if is_voter && rows.voters_repeated == 1 && rows.rows_repeated > 2 {
+            Repeat::OneId
+        } else if self.is_copy(text, faulty) {
+            Repeat::Copy
+        } else {
+            Repeat::Unknown
+        }
+    }
+
+    /// Whether a row is the same as the earlier one with its id.
+    fn is_copy<R: Files>(&self, text: &Text<'_, R>, faulty: &FaultyRecord) -> bool {
+        let Some(mark) = self.earlier(&faulty.refusal) else {
+            return false;
+        };
+        let Some(records) = text.record_at(mark) else {
+            return false;
+        };
+        let mut is_same = records.last.len() == faulty.record.len();
+        for place in 0..faulty.record.len() {
+            is_same &= bytes_at(&records.last, place) == bytes_at(&faulty.record, place);
+        }
+        drop(records);
+        is_same
+    }
+}
+
+/// Why each id is unknown, with the votes that are refused for the same cause.
+fn causes_of<R: Files>(
+    text: &Text<'_, R>,
+    witness: &Witness,
+    projects: &Projects,
+) -> Result<Vec<FoundCause>, AllocError> {
+    let mut causes: Vec<FoundCause> = Vec::new(text.alloc);
+    if witness.unknown.found.is_empty() {
+        return Ok(causes);
+    }
+    let has_columns = has_columns(text, witness);
+    for unknown in witness.unknown.found.as_slice() {
+        let (cause, project) = cause_of(unknown, witness, projects, has_columns)?;
+        let votes = unknown.votes;
+        causes.push(FoundCause {
+            cause,
+            project,
+            votes,
+        })?;
+    }
+    leave_open(causes.as_mut_slice());
+    for place in 0..causes.len() {
+        let cause = causes.get(place).map(|found| found.cause);
+        let votes = votes_of(causes.as_slice(), witness.unknown.found.as_slice(), cause);
+        if let Some(found) = causes
+            .get_mut(place)
+            .filter(|found| found.cause.is_shared())
+        {
+            found.votes = votes;
+        }
+    }
+    Ok(causes)
+}
+
+/// Leaves open why ids are unknown that could be of another election, where others have a cause.
+fn leave_open(causes: &mut [FoundCause]) {
+    let mut has_cause = false;
+    for found in causes.iter() {
+        has_cause |= !matches!(found.cause, Cause::OtherElection | Cause::Unknown);
+    }
+    for found in causes.iter_mut() {
+        if has_cause && found.cause == Cause::OtherElection {
+            found.cause = Cause::Unknown;
+        }
+    }
+}
+
+/// The votes that are refused for this cause.
+fn votes_of(causes: &[FoundCause], unknown: &[Unknown], cause: Option<Cause>) -> Votes {
+    let mut votes = Votes::none();
+    for (found, unknown) in causes.iter().zip(unknown.iter()) {
+        if Some(found.cause) == cause {
+            votes.join(&unknown.votes);
+        }
+    }
+    votes
+}
+
+/// Whether the column names that were read last are ids of several projects.
+fn has_columns<R: Files>(text: &Text<'_, R>, witness: &Witness) -> bool {
+    let Some(records) = text.record_at(witness.seen.names) else {
+        return false;
+    };
+    let has_some = witness.ids.are_columns(&records.last);
+    drop(records);
+    has_some
+}

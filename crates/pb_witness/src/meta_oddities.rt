@@ -1,0 +1,279 @@
+//! What in META can change a result, and what META says that other warnings rest on.
+
+use crate::behind_vote::is_one_of;
+use crate::fields::text_at;
+use crate::keys::Keys;
+use crate::mark::Mark;
+use crate::oddities::{Odd, Oddities};
+use csv::ByteRecord;
+use pb_core::election::Election;
+use pb_core::money::Money;
+use pb_core::money_fault::MoneyFault;
+use pb_read::{MetaKey, Oddity};
+use std::alloc::{AllocError, Global};
+use std::mem;
+
+/// How the keys of Pabulib begin that have a budget for each district or category.
+const BUDGET_PER: &str = "budget_per_";
+
+/// Words in a key beside `budget` that make it no budget of a district or category.
+const NO_DISTRICT: [&str; 24] = [
+    "total",
+    "overall",
+    "whole",
+    "city",
+    "max",
+    "maximum",
+    "min",
+    "minimum",
+    "average",
+    "project",
+    "spent",
+    "used",
+    "unused",
+    "left",
+    "leftover",
+    "remaining",
+    "rest",
+    "reserve",
+    "available",
+    "previous",
+    "last",
+    "next",
+    "year",
+    "final",
+];
+
+/// A number of rows that a row of META says.
+#[derive(Clone, Copy)]
+struct ClaimedNumber {
+    /// Where its record begins.
+    mark: Mark,
+    /// None where the value is no whole number; the largest `u64` for one above every amount.
+    number: Option<u64>,
+}
+
+/// What META says; of a repeated key the last value counts.
+#[derive(Drop)]
+pub(crate) struct MetaOddities {
+    alloc: Global,
+    votes: Option<ClaimedNumber>,
+    projects: Option<ClaimedNumber>,
+    pub(crate) min_length: Option<u64>,
+    /// The value of `rule`; empty if there is none.
+    rule: String,
+    rule_mark: Mark,
+    /// The row of the budget, and whether three digits stand behind its mark.
+    budget: Mark,
+    has_thousands: bool,
+    /// The first row of a budget beside it, how many there are, and whether one is of each district.
+    further: Option<Mark>,
+    further_count: u64,
+    has_budget_per: bool,
+}
+
+impl MetaOddities {
+    /// META has said nothing yet.
+    pub(crate) fn new(alloc: Global) -> MetaOddities {
+        MetaOddities {
+            alloc,
+            votes: None,
+            projects: None,
+            min_length: None,
+            rule: String::new(alloc),
+            rule_mark: Mark::start(),
+            budget: Mark::start(),
+            has_thousands: false,
+            further: None,
+            further_count: 0,
+            has_budget_per: false,
+        }
+    }
+
+    /// The rule that META names, and where, if it does.
+    pub(crate) fn rule(&self) -> Option<(&str, Mark)> {
+        let rule = self.rule.as_str();
+        if rule.is_empty() {
+            return None;
+        }
+        Some((rule, self.rule_mark))
+    }
+
+    /// Takes a row of META, which begins here; the rows before it gave these keys.
+    pub(crate) fn take(
+        &mut self,
+        row: &ByteRecord,
+        mark: Mark,
+        keys: &Keys,
+        found: &mut Oddities,
+    ) -> Result<(), AllocError> {
+        let (key, value) = (text_at(row, 0), text_at(row, 1));
+        if let Some(used) = MetaKey::of(key) {
+            if let Some(given) = keys.given(used) {
+                found.take(Odd {
+                    before: Some(given.last),
+                    ..Odd::of_key(Oddity::RepeatedKey, mark)
+                });
+            }
+            if used == MetaKey::Budget {
+                self.budget = mark;
+                self.has_thousands = has_thousands_mark(value);
+                found.has_decimals |= has_decimals(value);
+            }
+        } else if key.eq_ignore_ascii_case("min_length") {
+            self.min_length = whole_number(value);
+        } else if key.eq_ignore_ascii_case("num_votes") {
+            self.votes = claim_of(value, mark);
+        } else if key.eq_ignore_ascii_case("num_projects") {
+            self.projects = claim_of(value, mark);
+        } else if key.eq_ignore_ascii_case("rule") {
+            let rule = String::from_str(self.alloc, value)?;
+            drop(mem::replace(&mut self.rule, rule));
+            self.rule_mark = mark;
+        } else {
+            self.take_further(key, value, mark);
+        }
+        Ok(())
+    }
+
+    /// Takes a key that may be a budget beside the one that is counted.
+    fn take_further(&mut self, key: &str, value: &str, mark: Mark) {
+        let is_per = begins(key, BUDGET_PER) && !value.is_empty();
+        if !is_per && !(is_of_budget(key) && !is_of_no_district(key) && are_amounts(value)) {
+            return;
+        }
+        self.has_budget_per |= is_per;
+        self.further_count = self.further_count.saturating_add(1);
+        if self.further.is_none() {
+            self.further = Some(mark);
+        }
+    }
+
+    /// Takes the end of META: now its budget is known.
+    pub(crate) fn end_meta(&mut self, found: &mut Oddities) {
+        if self.has_thousands {
+            found.take(Odd::of_key(Oddity::ThousandsMark, self.budget));
+        }
+    }
+
+    /// Takes the end of the file, with so many rows of VOTES and of PROJECTS.
+    pub(crate) fn end(
+        &self,
+        election: &Election,
+        rows: (u64, u64),
+        has_districts: bool,
+        found: &mut Oddities,
+    ) {
+        take_broken(Oddity::VotesMissing, self.votes, rows.0, found);
+        take_broken(Oddity::ProjectsMissing, self.projects, rows.1, found);
+        if is_below_costs(election) {
+            found.take(Odd::of_key(Oddity::BudgetBelowCosts, self.budget));
+        }
+        match self.further {
+            Some(mark) if self.has_budget_per || has_districts || self.further_count > 1 => {
+                found.take(Odd::of_key(Oddity::DistrictBudgets, mark))
+            }
+            _ => {}
+        }
+    }
+}
+
+/// Takes a claim that is of other than so many rows.
+fn take_broken(oddity: Oddity, claim: Option<ClaimedNumber>, count: u64, found: &mut Oddities) {
+    match claim {
+        Some(claim) if claim.number != Some(count) => found.take(Odd {
+            limit: claim.number,
+            ..Odd::of_key(oddity, claim.mark).by(count)
+        }),
+        _ => {}
+    }
+}
+
+/// Whether there are projects, and the budget is less than what each of them costs.
+fn is_below_costs(election: &Election) -> bool {
+    for project in election.projects() {
+        if project.cost().0 <= election.budget().0 {
+            return false;
+        }
+    }
+    !election.projects().is_empty()
+}
+
+/// Whether a key has `budget` at its start or its end.
+fn is_of_budget(key: &str) -> bool {
+    let (bytes, word) = (key.as_bytes(), "budget");
+    let rest = bytes.len().saturating_sub(word.len());
+    begins(key, word) || bytes[rest..].eq_ignore_ascii_case(word.as_bytes())
+}
+
+/// Whether a key has a word, or the number of a year, that makes it no budget of a district.
+fn is_of_no_district(key: &str) -> bool {
+    for word in key.split(|c: char| !c.is_alphanumeric()) {
+        let is_year = matches!(whole_number(word), Some(1900..=2100));
+        if is_year || is_one_of(&NO_DISTRICT, word) {
+            return true;
+        }
+    }
+    false
+}
+
+/// Whether a key begins with a word, in any case.
+fn begins(key: &str, word: &str) -> bool {
+    match key.as_bytes().get(..word.len()) {
+        Some(start) => start.eq_ignore_ascii_case(word.as_bytes()),
+        None => false,
+    }
+}
+
+/// Whether a value is amounts, with `,` between them.
+fn are_amounts(value: &str) -> bool {
+    for piece in value.split(',') {
+        if Money::read(piece.trim()).is_err() {
+            return false;
+        }
+    }
+    true
+}
+
+/// What a value claims whose record begins here; the empty one claims nothing.
+fn claim_of(value: &str, mark: Mark) -> Option<ClaimedNumber> {
+    if value.is_empty() {
+        return None;
+    }
+    let number = match Money::read(value) {
+        Err(MoneyFault::MoneyTooLarge) => Some(u64::MAX),
+        _ => whole_number(value),
+    };
+    Some(ClaimedNumber { mark, number })
+}
+
+/// The whole number that a value names, perhaps with zeros as decimals.
+pub(crate) fn whole_number(value: &str) -> Option<u64> {
+    match Money::read(value) {
+        Ok(Money(hundredths)) if hundredths % 100 == 0 => Some(hundredths / 100),
+        _ => None,
+    }
+}
+
+/// Whether exactly three digits stand behind an amount's mark.
+pub(crate) fn has_thousands_mark(amount: &str) -> bool {
+    behind_mark(amount) == 4
+}
+
+/// Whether one or two digits stand behind an amount's mark.
+pub(crate) fn has_decimals(amount: &str) -> bool {
+    matches!(behind_mark(amount), 2 | 3)
+}
+
+/// One more than how many characters stand behind an amount's mark; 0 if it has none.
+fn behind_mark(amount: &str) -> usize {
+    let mut behind = 0usize;
+    for byte in amount.as_bytes() {
+        if *byte == b'.' || *byte == b',' {
+            behind = 1;
+        } else if behind > 0 {
+            behind = behind.saturating_add(1);
+        }
+    }
+    behind
+}

@@ -1,0 +1,226 @@
+//! What is odd in PROJECTS.
+
+use crate::behind_vote::is_one_of;
+use crate::fields::{column_of, text_at};
+use crate::mark::Mark;
+use crate::meta_oddities::{has_decimals, has_thousands_mark, whole_number};
+use crate::oddities::{Odd, Oddities};
+use crate::valid_columns::ValidColumn;
+use csv::ByteRecord;
+use pb_core::election::Election;
+use pb_core::project::Project;
+use pb_read::{Oddity, ProjectColumns};
+use std::alloc::{AllocError, Global};
+
+/// The columns that name a part of the city.
+const DISTRICTS: [&str; 4] = ["district", "subdistrict", "neighborhood", "subunit"];
+
+/// What a row of totals is called.
+const TOTALS: [&str; 12] = [
+    "total",
+    "totals",
+    "sum",
+    "suma",
+    "summe",
+    "razem",
+    "gesamt",
+    "insgesamt",
+    "celkem",
+    "totale",
+    "totaal",
+    "somme",
+];
+
+/// The fewest projects above a last one that is their sum by its cost alone.
+const MANY: usize = 4;
+
+/// A row that is accepted.
+#[derive(Clone, Copy)]
+struct CheckedProject {
+    mark: Mark,
+    columns: ProjectColumns,
+    /// What it says in the columns `votes` and `selected`: nothing, a whole number, or something else.
+    votes: Option<Option<u64>>,
+    selected: Option<Option<u64>>,
+    /// Whether its id or its name says that it is a total.
+    is_total: bool,
+    /// Whether the count elects or adds it with which `selected` is compared.
+    is_winner: bool,
+}
+
+impl CheckedProject {
+    fn odd(&self, oddity: Oddity) -> Odd {
+        Odd::of_project(oddity, self.mark, self.columns)
+    }
+}
+
+/// What is odd in PROJECTS, as its rows are read.
+#[derive(Drop)]
+pub(crate) struct ProjectOddities {
+    alloc: Global,
+    /// How many column names there are.
+    pub(crate) names: usize,
+    /// The places of the columns that claim a result.
+    votes: Option<usize>,
+    selected: Option<usize>,
+    /// Whether a column names a part of the city.
+    pub(crate) has_districts: bool,
+    valid: Vec<ValidColumn>,
+    accepted: Vec<CheckedProject>,
+}
+
+impl ProjectOddities {
+    /// Nothing was read yet but the row of column names.
+    pub(crate) fn of(alloc: Global, names: &ByteRecord) -> Result<ProjectOddities, AllocError> {
+        Ok(ProjectOddities {
+            alloc,
+            names: names.len(),
+            votes: column_of(names, "votes"),
+            selected: column_of(names, "selected"),
+            has_districts: DISTRICTS
+                .iter()
+                .any(|word| column_of(names, word).is_some()),
+            valid: ValidColumn::all_of(alloc, names)?,
+            accepted: Vec::new(alloc),
+        })
+    }
+
+    /// Takes a row that is accepted.
+    pub(crate) fn take(
+        &mut self,
+        row: &ByteRecord,
+        mark: Mark,
+        columns: ProjectColumns,
+        found: &mut Oddities,
+    ) -> Result<(), AllocError> {
+        let odd = Odd::of_project(Oddity::ThousandsMark, mark, columns);
+        found.has_decimals |= has_decimals(text_at(row, columns.cost));
+        if has_thousands_mark(text_at(row, columns.cost)) {
+            found.take(odd);
+        }
+        let is_long = (self.names..row.len()).any(|place| !text_at(row, place).is_empty());
+        if is_long && columns.name.is_some() {
+            found.take(odd.as_a(Oddity::CutName).by(self.names as u64));
+        }
+        for column in self.valid.iter_mut() {
+            column.take(row, odd.as_a(Oddity::ValidColumn), found)?;
+        }
+        self.accepted.push(CheckedProject {
+            mark,
+            columns,
+            votes: claimed(row, self.votes),
+            selected: claimed(row, self.selected),
+            is_total: is_total(row, columns),
+            is_winner: false,
+        })?;
+        Ok(())
+    }
+
+    /// Takes the end of a file that has a fault or not, whose accepted rows give this election.
+    pub(crate) fn end(
+        &self,
+        election: &Election,
+        has_fault: bool,
+        found: &mut Oddities,
+    ) -> Result<(), AllocError> {
+        match self.accepted.last() {
+            Some(last) if last_is_sum(election.projects(), last.is_total) => {
+                found.take(last.odd(Oddity::FooterRow))
+            }
+            _ => {}
+        }
+        let compares = self.votes.is_some() && !has_fault;
+        if !compares && !found.tells(Oddity::NoSupporter) {
+            return Ok(());
+        }
+        let supporters = supporters_of(self.alloc, election)?;
+        let projects = self.accepted.iter().zip(election.projects());
+        for ((row, project), number) in projects.zip(&supporters) {
+            if project.id().contains(',') {
+                found.take(row.odd(Oddity::CommaInId));
+            }
+            if project.cost().0 > election.budget().0 {
+                found.take(row.odd(Oddity::OverBudget));
+            }
+            if *number == 0 {
+                found.take(row.odd(Oddity::NoSupporter));
+            }
+            match (row.votes, self.votes) {
+                (Some(votes), Some(place)) if compares && votes != Some(*number) => {
+                    found.take(row.odd(Oddity::VotesOf).at(place).by(*number))
+                }
+                _ => {}
+            }
+        }
+        drop(supporters);
+        Ok(())
+    }
+
+    /// Compares what the column `selected` says with a count that elects or adds the projects at these
+    /// places. Only 0 and 1 claim something.
+    pub(crate) fn compare(&mut self, winners: &[u32], found: &mut Oddities) {
+        for winner in winners {
+            if let Some(row) = self.accepted.get_mut(*winner as usize) {
+                row.is_winner = true;
+            }
+        }
+        for row in &self.accepted {
+            let number = u64::from(row.is_winner);
+            match (row.selected, self.selected) {
+                (Some(Some(said)), Some(place)) if said.saturating_add(number) == 1 => {
+                    found.take(row.odd(Oddity::SelectedOf).at(place).by(number))
+                }
+                _ => {}
+            }
+        }
+    }
+}
+
+/// What a row says in a column, where there is one; the empty field claims nothing.
+fn claimed(row: &ByteRecord, column: Option<usize>) -> Option<Option<u64>> {
+    let value = text_at(row, column?);
+    if value.is_empty() {
+        return None;
+    }
+    Some(whole_number(value))
+}
+
+/// How many ballots approve each project.
+fn supporters_of(alloc: Global, election: &Election) -> Result<Vec<u64>, AllocError> {
+    let mut counts = Vec::new(alloc);
+    counts.resize(election.projects().len(), 0u64)?;
+    for voter in election.voters() {
+        for place in voter.ballot.places() {
+            if let Some(count) = counts.get_mut(*place as usize) {
+                *count = count.saturating_add(1);
+            }
+        }
+    }
+    Ok(counts)
+}
+
+/// Whether a project's id or its name has a word for a total.
+fn is_total(row: &ByteRecord, columns: ProjectColumns) -> bool {
+    let name = columns.name.unwrap_or(columns.id);
+    for place in [columns.id, name] {
+        for word in text_at(row, place).split(|c: char| !c.is_alphanumeric()) {
+            if is_one_of(&TOTALS, word) {
+                return true;
+            }
+        }
+    }
+    false
+}
+
+/// Whether the last project costs as much as all others together: of three projects or more where it is called a
+/// total, else with more above it.
+fn last_is_sum(projects: &[Project], is_total: bool) -> bool {
+    let mut sum = 0u64;
+    let mut last = 0u64;
+    for project in projects {
+        last = project.cost().0;
+        sum = sum.saturating_add(last);
+    }
+    let fewest = if is_total { 2 } else { MANY };
+    projects.len() > fewest && last == sum.saturating_sub(last)
+}

@@ -1,0 +1,100 @@
+//! The rows of VOTES, as far as their number says why voters stand in several of them.
+
+use pb_core::election::Election;
+use std::alloc::{AllocError, Global};
+
+/// The rows of VOTES that were read.
+#[derive(Drop)]
+pub struct VoteRows {
+    /// How many rows are accepted, and how many are refused.
+    pub accepted: u64,
+    pub refused: u64,
+    /// Whether a vote names a project that the file has.
+    pub names_project: bool,
+    /// The places of the voters to whom each further row belongs.
+    repeated: Vec<u32>,
+    /// How many rows repeat an id, and how many voters stand in several rows, once the file has ended.
+    pub rows_repeated: u64,
+    pub voters_repeated: u64,
+    /// Whether a row names several projects.
+    has_long: bool,
+    /// Of each project up to the last one that a vote names whether a vote names it.
+    named: Vec<bool>,
+}
+
+impl VoteRows {
+    /// No row yet.
+    pub(crate) fn new(alloc: Global) -> VoteRows {
+        VoteRows {
+            accepted: 0,
+            refused: 0,
+            names_project: false,
+            repeated: Vec::new(alloc),
+            rows_repeated: 0,
+            voters_repeated: 0,
+            has_long: false,
+            named: Vec::new(alloc),
+        }
+    }
+
+    /// Takes a further row of the voter at this place, with this vote.
+    pub(crate) fn repeat(&mut self, place: u32, vote: &str) -> Result<(), AllocError> {
+        self.has_long |= vote.contains(',');
+        self.repeated.push(place)?;
+        Ok(())
+    }
+
+    /// Takes a project that a vote names.
+    pub(crate) fn name(&mut self, place: u32) -> Result<(), AllocError> {
+        let place = place as usize;
+        for _ in self.named.len()..place.saturating_add(1) {
+            self.named.push(false)?;
+        }
+        if let Some(is_named) = self.named.get_mut(place) {
+            *is_named = true;
+        }
+        Ok(())
+    }
+
+    /// Whether a vote names the project at this place.
+    pub(crate) fn is_named(&self, place: u32) -> bool {
+        self.named.get(place as usize) == Some(&true)
+    }
+
+    /// Takes the projects that these ballots name.
+    pub(crate) fn name_all(&mut self, election: &Election) -> Result<(), AllocError> {
+        for voter in election.voters() {
+            for place in voter.ballot.places() {
+                self.name(*place)?;
+            }
+        }
+        Ok(())
+    }
+
+    /// Learns that the file has ended, with these ballots.
+    pub(crate) fn end(&mut self, election: &Election) {
+        if self.repeated.is_empty() {
+            return;
+        }
+        self.rows_repeated = self.repeated.len() as u64;
+        self.repeated.sort_unstable();
+        self.repeated.dedup();
+        self.voters_repeated = self.repeated.len() as u64;
+        for voter in election.voters() {
+            self.has_long |= voter.ballot.places().len() > 1;
+        }
+    }
+
+    /// How many rows there are.
+    pub fn count(&self) -> u64 {
+        self.accepted.saturating_add(self.refused)
+    }
+
+    /// Whether the file seems to have a row for each voter and project: most voters stand in several rows, and
+    /// no row names several projects.
+    pub fn is_by_project(&self) -> bool {
+        !self.has_long
+            && self.voters_repeated > 1
+            && self.voters_repeated.saturating_mul(2) >= self.accepted
+    }
+}

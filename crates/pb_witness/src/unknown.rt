@@ -1,0 +1,140 @@
+//! The votes that are refused since they name an id that no project has, by that id.
+
+use crate::changed::is_in_brackets;
+use crate::mark::Mark;
+use pb_ids::IdTable;
+use pb_read::MOST_FAULTS;
+use std::alloc::{AllocError, Global};
+
+/// So many of the refused votes are shown.
+const SHOWN: usize = 3;
+
+/// Votes that are refused for one reason.
+#[derive(Clone, Copy)]
+pub struct Votes {
+    pub count: u64,
+    /// Where the first of them stand, in order.
+    pub first: [Option<Mark>; SHOWN],
+}
+
+impl Votes {
+    /// No vote yet.
+    pub fn none() -> Votes {
+        Votes {
+            count: 0,
+            first: [None; SHOWN],
+        }
+    }
+
+    /// Takes a vote.
+    pub(crate) fn take(&mut self, mark: Mark) {
+        self.count = self.count.saturating_add(1);
+        self.show(mark);
+    }
+
+    /// Takes these votes as well.
+    pub fn join(&mut self, others: &Votes) {
+        self.count = self.count.saturating_add(others.count);
+        for mark in others.first {
+            if let Some(mark) = mark {
+                self.show(mark);
+            }
+        }
+    }
+
+    /// Whether the record with this mark is the first of them.
+    pub fn begin_at(&self, mark: Mark) -> bool {
+        match self.first[0] {
+            Some(first) => first.at == mark.at,
+            None => false,
+        }
+    }
+
+    /// Keeps where a vote stands, if it is one of the first.
+    fn show(&mut self, mark: Mark) {
+        let mut later = mark;
+        for place in 0..SHOWN {
+            match self.first[place] {
+                Some(there) if there.at <= later.at => {}
+                Some(there) => {
+                    self.first[place] = Some(later);
+                    later = there;
+                }
+                None => {
+                    self.first[place] = Some(later);
+                    return;
+                }
+            }
+        }
+    }
+}
+
+/// An id that no project has, and the votes that are refused for it.
+#[derive(Drop)]
+pub struct Unknown {
+    pub id: String,
+    /// Whether a vote has it beside other ids.
+    pub is_beside: bool,
+    /// Whether brackets are around each vote that has it.
+    pub is_in_brackets: bool,
+    pub votes: Votes,
+}
+
+/// The ids that no project has, as far as a check lists votes that name them.
+#[derive(Drop)]
+pub struct UnknownIds {
+    places: IdTable,
+    pub found: Vec<Unknown>,
+    /// How many votes are refused for one of them.
+    pub votes: u64,
+}
+
+impl UnknownIds {
+    /// No id yet.
+    pub(crate) fn new(alloc: Global) -> UnknownIds {
+        UnknownIds {
+            places: IdTable::new(alloc),
+            found: Vec::new(alloc),
+            votes: 0,
+        }
+    }
+
+    /// Takes a vote, with this mark, that is refused for this id.
+    pub(crate) fn take(
+        &mut self,
+        alloc: Global,
+        id: &str,
+        vote: &str,
+        mark: Mark,
+    ) -> Result<(), AllocError> {
+        self.votes = self.votes.saturating_add(1);
+        let is_beside = id.len() < vote.len();
+        if let Some(place) = self.places.get(id) {
+            if let Some(unknown) = self.found.get_mut(place as usize) {
+                unknown.votes.take(mark);
+                unknown.is_beside |= is_beside;
+                unknown.is_in_brackets &= is_in_brackets(vote);
+            }
+            return Ok(());
+        }
+        if self.found.len() < MOST_FAULTS {
+            let place = u32::try_from(self.found.len()).unwrap_or(u32::MAX);
+            self.places.insert(alloc, id, place)?;
+            let mut votes = Votes::none();
+            votes.take(mark);
+            let id = String::from_str(alloc, id)?;
+            self.found.push(Unknown {
+                id,
+                is_beside,
+                is_in_brackets: is_in_brackets(vote),
+                votes,
+            })?;
+        }
+        Ok(())
+    }
+
+    /// The place of this id among those that were found.
+    pub fn place(&self, id: &str) -> Option<u32> {
+        self.places.get(id)
+    }
+}

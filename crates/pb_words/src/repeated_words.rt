@@ -1,0 +1,84 @@
+//! Words for a row with the id of an earlier one.
+
+use crate::faulty_record::put_column;
+use crate::mark_words::line_of;
+use crate::read_rules::words_of;
+use crate::unknown_words::put_clean;
+use crate::words::PlaceholderValue::{Name, Number, Quoted};
+use crate::words::WordsWriter;
+use pb_read::ReadKind;
+use pb_witness::faulty_record::FaultyRecord;
+use pb_witness::known::{Known, Repeat};
+use pb_witness::text::Text;
+use std::rt::Files;
+
+/// What to do where VOTES has a row for each voter and project.
+pub(crate) const JOIN: &str =
+    "Join the rows of each voter to one row, with `,` between the ids of the projects.\n";
+
+/// Puts on which line the id of a row is already, and what to do about it.
+pub(crate) fn put_repeated<R: Files>(
+    out: &mut WordsWriter,
+    text: &Text<R>,
+    known: &Known,
+    faulty: &FaultyRecord,
+) {
+    put_column(out, faulty);
+    out.fill(": the id {}", &[Quoted(faulty.id())]);
+    match known.earlier(&faulty.refusal) {
+        Some(mark) => out.fill(" is already on line {}.", &[Number(line_of(text, mark))]),
+        None => out.put(" is already in an earlier row."),
+    }
+    let repeat = known.repeat_of(text, faulty);
+    let is_voter = faulty.kind() == ReadKind::RepeatedVoter;
+    let rows = known.witness.rows.rows_repeated;
+    if is_voter && rows > 1 && repeat.is_shared() {
+        out.fill(" {} rows repeat an id.", &[Number(rows)]);
+    }
+    out.put("\n");
+    put_remedy(out, text, repeat, faulty.kind())
+}
+
+/// Puts what to do about a row with the id of an earlier one, for this reason.
+fn put_remedy<R>(out: &mut WordsWriter, text: &Text<R>, repeat: Repeat, kind: ReadKind) {
+    let is_voter = kind == ReadKind::RepeatedVoter;
+    match repeat {
+        Repeat::Shortened if is_voter => out.put(
+            "A spreadsheet shortened the ids, so no voter can be told from another. Get the ids of the voters again, as text.\n",
+        ),
+        Repeat::Shortened => out.put(
+            "A spreadsheet shortened the ids, so no project can be told from another. Get the ids again, as text, in the votes too.\n",
+        ),
+        Repeat::Nothing => out.put(
+            "Programs write this where a value is missing: these rows have no ids. Get the ids again, as text.\n",
+        ),
+        Repeat::ByProject => {
+            out.put("VOTES has a row for each voter and project. ");
+            out.put(JOIN);
+            put_clean(out, text, " --repeated-voters merge")
+        }
+        Repeat::OtherPeople => {
+            out.put(
+                "META counts all rows (`num_votes`), so these may be different people whose ids were used twice. If they are, give each of them an id of its own.\n",
+            );
+            put_clean(out, text, " --repeated-voters distinct")
+        }
+        Repeat::OneId => {
+            out.put(
+                "These rows have the same id. If they are different people, give each of them an id of its own.\n",
+            );
+            put_clean(out, text, " --repeated-voters distinct")
+        }
+        Repeat::Copy => out.put("The two rows are the same. Delete one of them.\n"),
+        Repeat::Unknown => {
+            out.put(words_of(kind).1);
+            if is_voter {
+                out.fill(WAYS, &[Name(text.path)])
+            }
+        }
+    }
+}
+
+/// How `pb_clean` does what was found out of a voter with several rows.
+const WAYS: &str =
+    "`pb_clean {} -o NEW.pb --repeated-voters merge` makes one ballot of the rows, `distinct` makes different voters, `first` or `last` keeps one row.\n";
