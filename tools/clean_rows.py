@@ -1,77 +1,125 @@
-"""How tools/pb_clean mends the rows of an election: by itself, by an option, and what it refuses."""
-import collections, decimal, functools, itertools, re, unicodedata
+"""How tools/pb_clean mends the rows of an election, in the order of docs/formats.md, "Files made clean"."""
+import collections, csv, dataclasses, decimal, functools, itertools, re, unicodedata
 
 from replace_ids import SECTIONS, WHITE_SPACE, Refused, trimmed
 
 decimal.getcontext().prec = 100
-
 # What nobody sees: white space, controls, formats, fillers.
 EDGES = WHITE_SPACE + ''.join(map(chr, [
     *range(0x20), *range(0x7F, 0xA0), 0xAD, 0x34F, 0x61C, 0x115F, 0x1160, 0x180E, *range(0x200B, 0x2010),
     *range(0x202A, 0x202F), *range(0x2060, 0x2070), 0x3164, 0xFEFF, 0xFFA0, *range(0xFE00, 0xFE10),
     *range(0xFFF9, 0xFFFC), *range(0xE0000, 0xE0080)]))
-QUOTES = '\'"`´‘’‚‛“”„‟«»‹›'
-BRACKETS = [('[', ']'), ('(', ')'), ('{', '}'), ('c(', ')')]      # `c(..)` is R's
-# Groups of thousands by one mark: the mark, further groups, the mark of decimals. Then by spaces.
-GROUPS = re.compile(r'[1-9][0-9]{0,2}([.,])[0-9]{3}((?:\1[0-9]{3})*)(?:(?!\1)([.,])[0-9]+)?')
-SPACES = ' \u00a0\u2009\u202f\'’'
-SPACED = re.compile(f'[1-9][0-9]{{0,2}}([{SPACES}])[0-9]{{3}}(?:\\1[0-9]{{3}})*(?:[.,][0-9]+)?')
-DECIMALS = re.compile('[0-9]+([.,])[0-9]+')
-MARKS = re.compile(r'[\W_]*')
-# Letters that are read as digits.
-ALIKE = str.maketrans('oil', '011')
-SHORTENED = re.compile(r'[0-9]+(?:[.,][0-9]+)?E\+[0-9]+', re.I)
-# A date as a workbook's cell has it; as a spreadsheet writes it.
-CELL_DATE = re.compile(r'[0-9]{4}-[0-9]{2}-[0-9]{2}T[0-9:.]+|[0-9]{2}:[0-9]{2}:[0-9]{2}(?:\.[0-9]+)?')
-MONTH = '(?:jan|feb|f[eé]v|mar|mär|apr|avr|abr|ma[ijy]|jun|jui|jul|aug|ao[uû]|ago|sep|set|o[ck]t|ott|out|' \
-        'nov|de[cz]|dic|sty|lut|kwi|cze|lip|sie|wrz|paź|lis|gru)[^\\W\\d_]{0,7}'
-MADE_DATE = re.compile(r'[0-9]{4}-[0-9]{2}-[0-9]{2}|[0-9]{1,2}[./][0-9]{1,2}[./][0-9]{4}|'
-                       rf'[0-9]{{1,2}}[-. ]+{MONTH}\.?(?:[-. ]+[0-9]{{2,4}})?|{MONTH}[-. ]+[0-9]{{1,4}}', re.I)
-# Columns whose votes are no approvals, and columns that say which rows count, which no count reads.
-POINTS = {*'points point score scores rank ranks ranking weight weights votes count'.split()}
-STATES = {*'valid invalid is_valid accepted status state withdrawn cancelled deleted'.split()}
-# How many refusals are told; as many ids as a file may have projects.
-MOST_TOLD, MOST_UNKNOWN = 20, 10_000
-# What a count needs of META, and may have.
-NEEDED = 'budget', 'vote_type', 'max_length'
-# What programs write where there is no value.
-NOTHING = {*'nan none null nil na n/a - 0 \\n'.split()}
-# What says, in a row for each voter and project, that the voter does not approve the project.
-NO = {*'0 no n false f non nein nie ne nej não nao'.split()}
-# What changes are called: those of the tables of docs/formats.md. First those that an option decides.
+QUOTES, SPACES = '\'"`´‘’‚‛“”„‟«»‹›', ' \u00a0\u2009\u202f\'’'
+UNSEEN, GROUPED, DUST = "characters that can't be seen", 'groups of thousands', 'float dust'
+# What is mended in a vote, if no id has these marks, and in an amount: what it is called, what has it, and
+# what this becomes. `c(..)` is R's.
+VOTE_REPAIRS = [('[]', 'brackets', re.compile(r'\A\[(.*)\]\Z', re.S), r'\1'),
+                ('()', 'brackets', re.compile(r'\Ac?\((.*)\)\Z', re.S), r'\1'),
+                ('{}', 'brackets', re.compile(r'\A\{(.*)\}\Z', re.S), r'\1'),
+                ('|', 'bars', re.compile(r'\|'), ','),
+                (QUOTES, 'quotation marks', re.compile(rf'(?<![^,])[{QUOTES}]+|[{QUOTES}]+(?![^,])'), '')]
+AMOUNT_REPAIRS = [('-–—', 'dash for cents', re.compile(r'(?<=\d[.,])[-–—]{1,2}\Z'), '00'),
+                  (SPACES, GROUPED, re.compile(rf'\A[1-9]\d?\d?([{SPACES}])\d{{3}}(\1\d{{3}})*([.,]\d+)?\Z'),
+                   lambda found: found[0].replace(found[1], ''))]
+# What changes are called: those that an option decides, and all.
 DECIDED = ['--drop-unknown', '--drop-zero-cost', '--round', '--repeated-voters', '--encoding', '--marks',
            '--single-choice']
-UNSEEN, GROUPED, DUST = "characters that can't be seen", 'groups of thousands', 'float dust'
-KNOWN = {*DECIDED, 'encoding', 'separator', 'spaces before quotation marks', 'workbook', 'row added',
-         'empty row', 'text above META', 'text above the columns', 'column names again', UNSEEN, GROUPED,
-         DUST, 'brackets', 'bars', 'quotation marks', 'point and zero', 'heading of rows to join',
-         'rows joined'}
-# What to do about a fault that is left, by its name.
-REMEDIES = {
-    'NoSection': 'a section is missing, or the file does not begin with META',
+KNOWN = {*DECIDED, *(it[1] for it in VOTE_REPAIRS + AMOUNT_REPAIRS), UNSEEN, DUST, 'encoding', 'separator',
+         'spaces before quotation marks', 'workbook', 'row added', 'empty row', 'text above META',
+         'text above the columns', 'column names again', 'key and value', 'heading of rows to join',
+         'rows joined', 'point and zero'}
+# Groups of thousands by one mark: the mark, further groups, the mark of decimals.
+GROUPS = re.compile(r'[1-9][0-9]{0,2}([.,])[0-9]{3}((?:\1[0-9]{3})*)(?:(?!\1)([.,])[0-9]+)?')
+# Ids that a spreadsheet shortened, or has as dates; and dates as it writes them.
+CHANGED = re.compile(r'[0-9]+([.,][0-9]+)?E\+[0-9]+|[0-9]{4}-[0-9]{2}-[0-9]{2}T[0-9:.]+|'
+                     r'[0-9]{2}:[0-9]{2}:[0-9]{2}(\.[0-9]+)?', re.I)
+MONTH = '(?:jan|feb|f[eé]v|mar|mär|apr|avr|abr|ma[ijy]|jun|jui|jul|aug|ao[uû]|ago|sep|set|o[ck]t|ott|out|' \
+        'nov|de[cz]|dic|sty|lut|kwi|cze|lip|sie|wrz|paź|lis|gru)[^\\W\\d_]{0,7}'
+MADE_DATE = re.compile(r'[0-9]{4}-[0-9]{2}-[0-9]{2}|[0-9]{1,2}[./][0-9]{1,2}[./][0-9]{4}|[0-9]{1,2}[-. ]+'
+                       rf'{MONTH}\.?(?:[-. ]+[0-9]{{2,4}})?|{MONTH}[-. ]+[0-9]{{1,4}}', re.I)
+# Letters that are read as digits.
+DIGITS = str.maketrans('oilzsgb', '0112568')
+# Columns whose votes are no approvals; what stands where there is no value; what says that a row is no vote.
+POINTS = {*'points point score scores rank ranks ranking weight weights votes count'.split()}
+NOTHING = {*'nan none null nil na n/a - 0 \\n'.split()}
+NO = {*'0 no n false f non nein nie ne nej não nao'.split()}
+# What a count reads of META, and such a key together with its value.
+NEEDED = 'budget', 'vote_type', 'max_length'
+KEY = re.compile(rf'({"|".join(NEEDED)})\s*[:=]\s*(.*)', re.I)
+# Rows of one field: why they are refused, and how they look.
+SHORT = [('left out', r'^(\.\.\.|…)|\bmore rows\b|\bomitted\b|\bshowing \d+ to\b'),
+         ('other separator', '[,\t]')]
+
+# Why a file or a row is refused. First the faults that `check` lists, by their names.
+WORDS = {
     'SectionOrder': 'the sections are META, PROJECTS and VOTES, in this order and each once',
     'NoHeader': "the row of column names below the section's heading is missing",
-    'MissingColumn': 'needed are project_id and cost; voter_id, and vote or (a row a vote) project_id',
-    'MissingField': 'the row is too short: complete it, or delete it if it is a total or a note',
+    'MissingColumn': 'needed are project_id and cost; voter_id, and vote or (a row a vote) project_id; what '
+        'is found is {}{}',
+    'MissingField': 'the row is too short: if it is a heading, a total or a note, delete it; if not, get it '
+        'whole',
     'MissingKey': 'META needs budget;AMOUNT and vote_type;approval',
     'VoteType': 'only approval ballots are counted; if each voter picks one project, name `--single-choice`',
-    'BadMoney': 'an amount is digits, with at most one point or comma: no currency, no minus, no letters',
+    'BadMoney': 'an amount is digits, with at most one point or comma: no currency, no minus, no letters, no '
+        'footnotes; write it in full (`12k` may be 12000)',
     'MoneyTooFine': 'more than two decimals: if that is meant, name `--round half-up`, `down` or `up`',
     'MoneyTooLarge': 'the amount has too many digits',
     'ZeroCost': 'the cost is 0: write it, or drop the project and the votes for it by `--drop-zero-cost`',
     'EmptyId': 'the id is empty: fill it in; if the row is a total or a note, delete it',
     'RepeatedProject': 'an earlier row has the same project id: give one of the two projects another id',
-    'RepeatedVoter': 'an earlier row has the same voter id: if they are one ballot, name `--repeated-voters '
-                     'merge`; if different people, `distinct`; if one of them is valid, `first` or `last`',
-    'BadLength': 'max_length is a number without decimals, or empty'}
-
-# Why an id that no project has is never dropped.
-TAIL = 'only the last rows name it, and no project: if the file is cut off, get it again; if they are ' \
-       'totals or notes, delete them; if the project was withdrawn, take its id out of them'
-NO_VOTE = 'no vote names a project: PROJECTS may be of another election, or its ids were changed'
-NO_FORM = 'it is not like the ids of PROJECTS, so it is never dropped: ask what it means; if a program changed ' \
-          'it, get the votes again, as text; if the row has titles or notes, delete it'
-ALIKE_VOTERS = "ids of voters differ from another only by case, white space or characters that can't be seen"
+    'RepeatedVoter': 'an earlier row has the same voter id: if they are different people, name '
+        '`--repeated-voters distinct`; if one row is valid, `first` or `last`; if it is one ballot, `merge`',
+    'BadLength': 'max_length is a number without decimals, or empty',
+    # rows, columns and amounts
+    'another election': 'another election begins here, or the sections are not in the order META, PROJECTS, '
+        'VOTES: make a file of each election',
+    'open mark': 'here a quotation mark is not closed, or is too many',
+    'above': 'the row stands above META or the column names: delete a title; move anything else below',
+    'left out': 'it says that rows were left out: get the whole file',
+    'other separator': 'it is one field: if `,` or tabs separate its fields, write `;`, but keep the `,` '
+        'between the ids of a vote; if it is a heading or a note, delete it',
+    'a column each': 'it has a column for each project: make one column vote of them, with `,` between the '
+        'ids that a voter approves',
+    'cut': 'the row has more fields than there are column names: put quotation marks around the field that '
+        'has the separator in it',
+    'two marks': '`{}` marks thousands in one amount and decimals in another (record {}), whatever '
+        '`--marks` says: write all amounts alike',
+    'which mark': 'the amount {} can be {} or {}: name `--marks thousands` or `--marks decimals`',
+    'no thousands': 'the mark of {} marks no thousands, since more than three digits stand before it',
+    # ids and votes
+    'changed id': 'a spreadsheet changed the id {} (a shortened number, or a date): no row can be told from '
+        'another; get the ids again, as text',
+    'alike but unseen': "the id of record {} differs only by characters that can't be seen",
+    'points': 'the votes have points or ranks, or numbers of votes, which are no approvals, so no count',
+    'says no': 'rows are joined, and a column says {} in one of them: if such rows are no votes, delete '
+        'them; if it says something else, delete the column',
+    'other way': 'the rows have one project each, and become one ballot: leave `--repeated-voters` out',
+    'not choose-1': 'the vote names several projects, so the file is not choose-1',
+    'beside': '{} in the field {} names projects, where it is not counted: write each field below its '
+        'column name, the ids of a vote into one field, with `,` between, and joined rows apart',
+    'unknown': 'the vote names {}, which no project has{}: {}',
+    # why no option drops an id that no project has
+    'lines': 'it goes over several lines: a quotation mark is not closed, or is too many; if its ids are on '
+        'lines of their own, write `,` between them',
+    'places': 'it stands beside ids, so the votes may be places, counted from 0: get the ids',
+    'sign': 'it has a sign: votes against a project, and points, are no approvals',
+    'id and more': 'it has the id of a project and more: ids have only `,` between; points, ranks and what '
+        'is crossed out are no approvals; if a spreadsheet made one number of ids, get them again, as text',
+    'marked': 'a mark stands beside the id of the project {}: ask whether the voter approves it',
+    'alike': 'the project {} differs only by case, zeros, marks, white space, how letters are coded, letters '
+        'before its number, or letters for digits (O for 0, B for 8): if it is meant, correct one of both',
+    'no commas': 'it is made of ids whose commas are lost: get the votes again, as text',
+    'date': 'a spreadsheet made a date of the id {}: get PROJECTS again',
+    'name': 'it is the name of the project {}, or a part of it: if this project is meant, write its id',
+    'no vote': 'no vote names a project: PROJECTS may be of another election, or its ids were changed',
+    'no form': 'it is not like the ids of PROJECTS, so it is never dropped: ask what it means; if a program '
+        'changed it, get the votes again, as text; if the row has titles or notes, delete it',
+    'tail': 'only the last rows name it, and no project: if the file is cut off, get it again; if they are '
+        'totals or notes, delete them; if the project was withdrawn, take its id out of them',
+    # what an option does with it
+    'empties': '`--drop-unknown` would leave {} ballots empty, this one first: ask whoever made the file',
+    'nothing': 'if it says that nothing was voted for, `--drop-unknown` makes an empty ballot of it',
+    'withdrawn': 'if the project was withdrawn, `--drop-unknown` takes its id out of the votes'}
 
 def seen(text):
     """The text without white space, and without what nobody sees, at its ends."""
@@ -86,59 +134,69 @@ def shown(text):
     text = ''.join(it if it.isprintable() else f'\\u{{{ord(it):x}}}' for it in text[:61])
     return '`' + (text if len(text) <= 60 else text[:60] + '..') + '`'
 
+def value_of(digits):
+    return int(digits[-18:])        # Python takes long for long numbers, and then refuses them
+
 def form_of(text):
     """An id but for its digits."""
     return re.sub('[0-9]+', '0', text)
 
-def kinds_of(text):
-    """The kinds of an id's characters: digits, small and capital letters from a to z; each other is one itself."""
-    return {*re.sub('[A-Z]', 'A', re.sub('[a-z]', 'a', form_of(text)))}
+def unmarked(text):
+    """The text without marks at its ends."""
+    for _ in range(2):
+        text = re.sub(r'\A[\W_]+', '', text)[::-1]
+    return text
 
-def voters_alike(rows):
-    """Of rows by the voter's id those whose id differs from another only by case, or what nobody sees."""
-    gone = dict.fromkeys(map(ord, EDGES))
-    forms = {it: it.casefold().translate(gone) for it in rows}
-    counts = collections.Counter(forms.values())
-    return [row for it, row in rows.items() if counts[forms[it]] > 1]
+def plain(project):
+    """The id without what gets changed: case, white space, dashes, marks around it, zeros, `.0`, O for 0."""
+    text = ''.join(unicodedata.normalize('NFKC', project).casefold().split())
+    text = unmarked(re.sub('[\u00ad\u2010-\u2015\u2212]', '-', text)).removesuffix('.0').translate(DIGITS)
+    return re.sub('(?<![0-9])0+(?=[0-9])', '', text)
 
 def row_text(fields):
     """A row as it is written."""
     text = ';'.join(fields)
     if '"' in text or '\n' in text or '\r' in text or text.count(';') != len(fields) - 1:
-        text = ';'.join('"' + it.replace('"', '""') + '"' if re.search('[;"\r\n]', it) else it
+        text = ';'.join(f'"{it.replace(chr(34), chr(34) * 2)}"' if re.search('[;"\r\n]', it) else it
                         for it in fields)
     return text or '""'
+
+def fields_of(text):
+    """The fields of a row that was written."""
+    return next(csv.reader([text], delimiter=';'), [''])
 
 def label_of(names, column):
     """What LOG calls a field: the name of its column if that is there once, else its number."""
     name = names[column] if column < len(names) else ''
     return name if name and names.count(name) == 1 and not name.isdigit() else str(column + 1)
 
-def is_columns(fields, section):
+def is_columns(names, section):
     """Whether these are the column names of PROJECTS or VOTES."""
-    names = {name_of(seen(it).strip(QUOTES)) for it in fields}
     if section == 'projects':
-        return {'project_id', 'cost'} <= names
-    return 'voter_id' in names and not names.isdisjoint({'vote', 'project_id'})
+        return 'project_id' in names and 'cost' in names
+    return 'voter_id' in names and ('vote' in names or 'project_id' in names)
 
 def key_behind(rows):
     """The key of a row that would follow these."""
     return re.sub('[0-9]+$', lambda it: str(int(it[0]) + 1), rows[-1].key)
 
-def plain(project):
-    """The id without what gets changed: case, white space, dashes, marks around it, zeros, `.0`, O for 0."""
-    text = ''.join(unicodedata.normalize('NFKC', project).casefold().split())
-    text = re.sub('[\u00ad\u2010-\u2015\u2212]', '-', text)
-    text = text[MARKS.match(text).end():]
-    text = text[:len(text) - MARKS.match(text[::-1]).end()]
-    return re.sub('(?<![0-9])0+(?=[0-9])', '', text.removesuffix('.0').translate(ALIKE))
+def mended(text, repairs):
+    """The text as these repairs leave it, and what they are called."""
+    kinds, letters = {}, {*text}
+    for marks, what, form, gives in repairs:
+        new = text if letters.isdisjoint(marks) else form.sub(gives, text)
+        if new != text:
+            text, kinds[what] = ','.join(map(seen, new.split(','))), 1
+    return text, kinds
 
+@dataclasses.dataclass(slots=True, eq=False)
 class Row:
-    """A row: its key in LOG, its fields (None where it is left out), its changes, the names of columns."""
-    __slots__ = 'key', 'fields', 'log', 'first', 'names'
-
-    def __init__(self, key, fields, log=()):
-        self.key, self.fields, self.log, self.first, self.names = key, fields, log, None, ()
+    """A row: its key in LOG, its fields (none if it is left out), its changes, its first fields, columns."""
+    key: str
+    fields: list
+    log: list = ()
+    first: list = None
+    names: list = ()
 
     def edit(self, column, what, after):
         self.first = self.first or self.fields[:]
@@ -150,201 +208,173 @@ class Row:
         if column < len(self.fields) and seen(self.fields[column]) != trimmed(self.fields[column]):
             self.edit(column, UNSEEN, seen(self.fields[column]))
 
-    def drop(self, what):
-        """Leaves the row out. LOG shows it as it was, and no former change of it."""
-        self.log, self.fields = [('', what, row_text(self.first or self.fields), '')], None
+    def replace(self, what, fields=()):
+        """Writes other fields, or leaves the row out. LOG shows it as it was, and no former change of it."""
+        after = row_text(fields) if fields else ''
+        self.log, self.fields = [('', what, row_text(self.first or self.fields), after)], fields
 
+@dataclasses.dataclass
 class Section:
-    """A section: its row of column names (without fields if there is none), the names, and the rows below."""
-    def __init__(self, rows):
-        self.head, self.below = rows[0] if rows else Row('', []), rows[1:]
-        self.names = [name_of(it) for it in self.head.fields]
-
-    def rows(self):
-        return [row for row in self.below if row.fields]
+    """A section: its word, the rows above its column names, their row, they themselves, the rows below."""
+    word: str
+    above: list = dataclasses.field(default_factory=list)
+    head: Row = None
+    names: list = ()
+    below: list = dataclasses.field(default_factory=list)
 
     def column(self, name):
         """The place of a column: the first of this name; beyond each row if there is none."""
         return self.names.index(name) if name in self.names else 1 << 30
 
+    def rows(self, *columns):
+        """The rows that are not left out, and have these columns."""
+        return [row for row in self.below if max(columns, default=0) < len(row.fields)]
+
+def added_rows(rows, given):
+    """The rows of two tables as those of one file: META and the headings are added."""
+    limit = [['max_length', given.max_length]] if given.max_length is not None else []
+    added = {'projects': [['META'], ['key', 'value'], ['budget', given.budget], ['vote_type', 'approval'],
+                          *limit, ['PROJECTS']],
+             'votes': [['VOTES']] if given.votes else [['VOTES'], ['voter_id', 'vote']]}
+    for section, lines in added.items():
+        table = [row for row in rows if row.key.startswith(section)]
+        key = table[0].key if table else key_behind(rows)
+        yield from [Row(key, it, [('', 'row added', '', row_text(it))]) for it in lines] + table
+
 class Cleaner:
     """Mends the rows of an election."""
     def __init__(self, rows, reading, given):
-        self.rows, self.given = rows, given
+        self.rows, self.given = [*added_rows(rows, given)] if given.projects else rows, given
         self.is_cut = any(it[2] == 'separator' for it in reading)
-        # By row why it is refused; by what the summary says, and by unknown id, the rows.
-        self.refusals, self.notes, self.unknown = (collections.defaultdict(list) for _ in range(3))
-        self.has_zeros = False
-        # Votes and their pieces repeat: what is found of one is kept.
-        keep = functools.lru_cache(1 << 16)
-        self.pieces_of, self.mended_piece = keep(self.pieces_of), keep(self.mended_piece)
+        self.refusals = collections.defaultdict(list)       # by row why it is refused
+        # Votes repeat: what is found of one is kept.
+        self.pieces_of = functools.lru_cache(1 << 16)(self.pieces_of)
 
-    def refuse(self, row, words):
-        self.refusals[row].append(words)
+    def refuse(self, row, why, *values):
+        self.refusals[row].append(WORDS[why].format(*values))
 
     def clean(self):
-        for row in self.rows:
-            if not seen(row.fields[0]) and not seen(''.join(row.fields)):
-                row.drop('empty row')
-        parts = self.parts_of_tables() if self.given.projects else self.parts_of_file()
-        self.projects, self.votes = map(Section, parts[1:])
-        self.clean_meta(parts[0][1:])
-        for section, name in (self.projects, 'projects'), (self.votes, 'votes'):
-            self.clean_columns(section, name)
+        meta, self.projects, self.votes = self.parts()
+        self.clean_meta(meta.below)
+        for section in self.projects, self.votes:
+            self.clean_columns(section)
         self.clean_amounts()
         self.clean_projects()
-        self.judge_fields()
         self.clean_votes()
-        self.say_unknown()
 
     # Rows that are left out, and characters that can't be seen
-    def parts_of_file(self):
-        """The rows below each heading. What stands above META is left out."""
-        heads = {}
-        for at, row in enumerate(self.rows):
-            word = name_of(row.fields[0]) if row.fields else ''
-            if word in SECTIONS and word not in heads and 'votes' not in heads:
-                heads[word] = at
+    def parts(self):
+        """The sections. Empty rows are left out, and what stands above META, and column names again."""
+        parts, last, section = {}, self.rows[0], None
+        for row in self.rows:
+            # Of two tables the headings are those that were added.
+            word = name_of(row.fields[0]) if row.log or not self.given.projects else ''
+            if not any(map(seen, row.fields)):
+                row.replace('empty row')
+            elif word in SECTIONS and 'votes' in parts and not any(row.fields[1:]):
+                raise Refused(f'record {row.key}: {WORDS["another election"]}')
+            elif word in SECTIONS and word not in parts and 'votes' not in parts:
                 row.edit_unseen(0)
-            elif word in SECTIONS and 'votes' in heads and not any(row.fields[1:]):
-                raise Refused(f'record {row.key}: another election begins here, or the sections are not in '
-                              'the order META, PROJECTS, VOTES: make a file of each election')
-        if tuple(heads) != SECTIONS:
-            lost = ', '.join(it.upper() for it in SECTIONS if it not in heads)
-            words = f'the file has no heading {lost} on a row of its own: ' if lost else ''
-            row, why = self.rows[max(heads.values(), default=0)], REMEDIES['SectionOrder']
-            for it in self.rows:
-                if it.fields and re.search('\n(PROJECTS|VOTES)\\b', '\t'.join(it.fields)):
-                    row, why = it, 'here a quotation mark is not closed, or is too many'
-                    break
-            raise Refused(f'record {row.key}: {words}{why}')
-        for row in filter(lambda row: row.fields, self.rows[:heads['meta']]):
-            if name_of(row.fields[0]) in NEEDED:
-                self.refuse(row, 'a row of META stands above META: move it below')
+                section, last = parts.setdefault(word, Section(word)), row
+            elif not section and word in NEEDED:
+                self.refuse(row, 'above')
+            elif not section:
+                row.replace('text above META')
+            elif section.names or section.word == 'meta':
+                row.names = section.names
+                section.below.append(row)
+            elif is_columns([*map(name_of, row.fields)], section.word):
+                section.head, section.names = row, [*map(name_of, row.fields)]
             else:
-                row.drop('text above META')
-        begins = [*heads.values(), None]
-        return [[row for row in self.rows[begins[at] + 1:begins[at + 1]] if row.fields] for at in range(3)]
-
-    def parts_of_tables(self):
-        """The rows of two tables, from their column names on. Rows that neither has are added."""
-        limit = [['max_length', self.given.max_length]] if self.given.max_length is not None else []
-        added = {'projects': [['META'], ['key', 'value'], ['budget', self.given.budget],
-                              ['vote_type', 'approval'], *limit, ['PROJECTS']],
-                 'votes': [['VOTES']] if self.given.votes else [['VOTES'], ['voter_id', 'vote']]}
-        rows, self.rows, parts = self.rows, [], [[]]
-        for section, lines in added.items():
-            table = [row for row in rows if row.key.startswith(section)]
-            key = table[0].key if table else key_behind(rows)
-            self.rows += [Row(key, it, [('', 'row added', '', row_text(it))]) for it in lines] + table
-            full = [row for row in table if row.fields]
-            at = next((at for at, row in enumerate(full) if is_columns(row.fields, section)), 0)
-            for row in full[:at]:
-                row.drop('text above the columns')
-            parts.append(full[at:])
-        return parts
+                section.above.append(row)
+        if tuple(parts) != SECTIONS:
+            lost = ', '.join(it.upper() for it in SECTIONS if it not in parts)
+            lost = f'the file has no heading {lost} on a row of its own: ' if lost else ''
+            opened = (row for row in self.rows if re.search('\n(PROJECTS|VOTES)\\b', '\t'.join(row.fields)))
+            row, why = next(((row, 'open mark') for row in opened), (last, 'SectionOrder'))
+            raise Refused(f'record {row.key}: {lost}{WORDS[why]}')
+        return parts.values()
 
     def clean_meta(self, rows):
         """Mends META's keys, and the values that a count needs."""
         self.meta = {}
         for row in rows:
             row.edit_unseen(0)
-            key = name_of(row.fields[0])
-            if key in NEEDED:
-                self.meta[key] = row
+            key, rest = KEY.fullmatch(seen(row.fields[0])), row.fields[1:]
+            if key and not (key[2] and any(map(seen, rest))):
+                row.replace('key and value', [key[1], key[2] or ''.join(rest[:1]), *rest[1:]])
+            if name_of(row.fields[0]) in NEEDED:
+                self.meta[name_of(row.fields[0])] = row
                 row.edit_unseen(1)
                 if self.is_cut and any(map(seen, row.fields[2:])):
-                    self.refuse(row, 'the value has the separator in it: put quotation marks around it, or '
-                                'leave the mark out')
+                    self.refuse(row, 'cut')
         row = self.meta.get('vote_type')
         is_one = row and name_of(''.join(row.fields[1:2])) in ('choose-1', 'choose1')
         self.is_single = self.given.single_choice and is_one
         if self.is_single:
             row.edit(1, '--single-choice', 'approval')
 
-    def clean_columns(self, section, name):
-        """Mends the names of columns, and leaves out the rows that have them again."""
-        head, names = section.head, section.names
-        for column in range(len(names)):
-            head.edit_unseen(column)
-        if names and not is_columns(names, name):
-            self.refuse(head, self.no_columns(name, head))
-        for row in section.below if names else ():
-            row.names = names
-            if name_of(row.fields[0]) == names[0] and [*map(name_of, row.fields)] == names:
-                row.drop('column names again')
-        self.is_long = name == 'votes' and 'vote' not in names and names.count('project_id') == 1
-        if self.is_long:
-            if self.given.repeated_voters not in (None, 'merge'):
-                self.refuse(head, 'the rows have one project each, and become one ballot: leave '
-                            '`--repeated-voters` out')
-            head.edit(names.index('project_id'), 'heading of rows to join', 'vote')
-            names[names.index('project_id')] = 'vote'
-        if any(names.count(it) > 1 for it in ('project_id', 'cost', 'voter_id', 'vote')):
-            self.notes['rows of column names have a needed column twice: the first counts'] += [head]
-        for column in [names.index(it) for it in {*names} & STATES]:
-            rows = [row for row in section.rows() if column < len(row.fields)]
-            if len({row.fields[column] for row in rows}) > 1:
-                self.notes['columns such as valid or status differ, and all rows are counted'] += rows[:1]
-
-    def no_columns(self, section, head):
-        """What is said of a row of column names without the needed ones."""
-        names = [seen(it) for it in re.split('[;,\t]', ';'.join(head.fields))]
-        ids = {seen(row.fields[0]) for row in self.projects.rows()}
-        if section == 'votes' and len(ids & {*names}) > 1:
-            return 'it has a column for each project: make one column vote of them, with `,` between the ' \
-                   'ids that a voter approves'
-        return f'{REMEDIES["MissingColumn"]}; what is found is {shown(", ".join(filter(None, names)))}'
+    def clean_columns(self, section):
+        """Mends the names of columns, leaves out what stands above them, and them where they stand again."""
+        for row in section.above if section.names else section.above[:1]:
+            if not section.names:
+                found = [it for it in map(seen, re.split('[;,\t]', ';'.join(row.fields))) if it]
+                is_each = len({seen(it.fields[0]) for it in self.projects.rows()} & {*found}) > 1
+                self.refuse(row, 'a column each' if is_each else 'MissingColumn', shown(', '.join(found)),
+                            ' in one field' * (len(row.fields) == 1))
+            elif sum(map(bool, map(seen, row.fields))) > 1:
+                self.refuse(row, 'above')       # in a table that was sorted such rows are votes
+            else:
+                row.replace('text above the columns')
+        for column in range(len(section.names)):
+            section.head.edit_unseen(column)
+        # A spreadsheet fills the row of names up with empty ones.
+        width = max((at for at, it in enumerate(section.names, 1) if it), default=0)
+        for row in section.below:
+            if name_of(row.fields[0]) == section.names[0] and [*map(name_of, row.fields)] == section.names:
+                row.replace('column names again')
+            elif self.is_cut and any(map(seen, row.fields[width:])):
+                self.refuse(row, 'cut')
+            elif len(row.fields) == 1 < width:
+                for why in [why for why, look in SHORT if re.search(look, row.fields[0], re.I)][:1]:
+                    self.refuse(row, why)
 
     # Amounts
     def clean_amounts(self):
         """Takes groups of thousands out where only one reading is possible, and rounds what is asked for."""
-        places = [(row, 1) for key, row in self.meta.items() if key == 'budget']
-        places += [(row, self.projects.column('cost')) for row in self.projects.rows()]
-        places = [(row, column) for row, column in places if column < len(row.fields)]
-        shows = {}      # the first row that shows a mark to be one of thousands, or of decimals
+        places = [(row, 1) for key, row in self.meta.items() if key == 'budget' and len(row.fields) > 1]
+        cost, marks, shows = self.projects.column('cost'), self.given.marks, {}
+        places += [(row, cost) for row in self.projects.rows(cost)]
         for row, column in places:
             row.edit_unseen(column)
-            text = trimmed(row.fields[column])
-            spaced = SPACED.fullmatch(text)
-            if spaced:
-                text = text.replace(spaced[1], '')
-                row.edit(column, GROUPED, text)
-            groups, decimals = GROUPS.fullmatch(text), DECIMALS.fullmatch(text)
+            text, kinds = mended(trimmed(row.fields[column]), AMOUNT_REPAIRS)
+            if kinds:
+                row.edit(column, ', '.join(kinds), text)
+            # The first row that shows a mark to be one of thousands, or of decimals.
+            groups, decimals = GROUPS.fullmatch(text), re.fullmatch('[0-9]+([.,])[0-9]+', text)
             mark = groups[3] if groups else decimals and decimals[1]
             if mark:
                 shows.setdefault((mark, 'decimals'), row)
-            if groups and (groups[2] or groups[3]):
-                shows.setdefault((groups[1], 'thousands'), row)
+            if groups and (groups[2] or groups[3] or marks):
+                shows.setdefault((groups[1], 'thousands' if groups[2] or groups[3] else marks), row)
+            if marks == 'thousands' and re.fullmatch('[0-9]{4,}[.,][0-9]{3}', text):
+                self.refuse(row, 'no thousands', shown(text))
         for mark in '.,':
-            both = {shows.get((mark, it)) for it in ('thousands', 'decimals')}
+            both = [shows.get((mark, it)) for it in ('thousands', 'decimals')]
             if None not in both:
                 first, last = sorted(both, key=self.rows.index)
-                self.refuse(last, f'`{mark}` marks thousands in one amount and decimals in another (record '
-                            f'{first.key}): write all amounts alike')
+                self.refuse(last, 'two marks', mark, first.key)
         for row, column in places:
-            self.clean_groups(row, column, shows)
-            self.clean_decimals(row, column)
+            self.clean_amount(row, column, shows)
 
-    def clean_groups(self, row, column, shows):
-        text, marks = trimmed(row.fields[column]), self.given.marks
-        groups = GROUPS.fullmatch(text)
-        if not groups:
-            return
-        mark = groups[1]
-        thousands, decimals = (shows.get((mark, it)) for it in ('thousands', 'decimals'))
-        other, against = ('decimals', decimals) if marks == 'thousands' else ('thousands', thousands)
-        if marks and against:
-            self.refuse(row, f'`{mark}` marks {other} in record {against.key}, whatever `--marks {marks}` '
-                        'says')
-        elif thousands or marks == 'thousands':
-            row.edit(column, GROUPED if thousands else '--marks', text.replace(mark, ''))
-        elif not decimals and not marks:
-            self.refuse(row, f'the amount {shown(text)} can be {text.replace(mark, "")} or {text[:-1]}: name '
-                        '`--marks thousands` or `--marks decimals`')
-
-    def clean_decimals(self, row, column):
-        """Rounds more than two decimals: those that a computer's sum left, or if the option asks for it."""
+    def clean_amount(self, row, column, shows):
+        """Takes out what marks thousands. Rounds what a sum left, and more if the option asks for it."""
+        groups = GROUPS.fullmatch(trimmed(row.fields[column]))
+        if groups and (groups[1], 'thousands') in shows:
+            what = '--marks' if self.given.marks and not groups[2] and not groups[3] else GROUPED
+            row.edit(column, what, groups[0].replace(groups[1], ''))
+        elif groups and (groups[1], 'decimals') not in shows:
+            self.refuse(row, 'which mark', shown(groups[0]), groups[0].replace(groups[1], ''), groups[0][:-1])
         parts = re.fullmatch('([0-9]{1,20})([.,])([0-9]{3,40})', trimmed(row.fields[column]))
         if parts and parts[3][2:].strip('0'):
             exact = decimal.Decimal(f'{parts[1]}.{parts[3]}')
@@ -360,235 +390,193 @@ class Cleaner:
         # The rows by id; the ids that are dropped; the ids by name.
         self.ids, self.zero, self.called = {}, set(), {}
         column, cost, name = map(self.projects.column, ('project_id', 'cost', 'name'))
-        for row in self.projects.rows():
-            if max(column, cost) >= len(row.fields):
-                continue
+        for row in self.projects.rows(column):
             project = seen(row.fields[column])
             if project != trimmed(row.fields[column]) and project in self.ids:
-                self.refuse(row, f'the id of record {self.ids[project].key} differs only by {UNSEEN}')
+                self.refuse(row, 'alike but unseen', self.ids[project].key)
             row.edit_unseen(column)
-            self.judge_id(row, project)
+            if CHANGED.fullmatch(project):
+                self.refuse(row, 'changed id', shown(project))
             is_rounded = any(what in (DUST, '--round') for _, what, _, _ in row.log)
-            is_zero = re.fullmatch('0+(?:[.,]0+)?', trimmed(row.fields[cost]))
+            is_zero = re.fullmatch('0+(?:[.,]0+)?', ''.join(map(trimmed, row.fields[cost:cost + 1])))
+            if cost >= len(row.fields) and row not in self.refusals:
+                self.refuse(row, 'MissingField')
             if self.given.drop_zero_cost and not is_rounded and is_zero:
                 self.zero.add(project)
-                row.drop('--drop-zero-cost')
+                row.replace('--drop-zero-cost')
                 continue
             self.ids.setdefault(project, row)
-            called = row.fields[name] if name < len(row.fields) else ''
-            self.called |= {plain(it): project for it in [*called.split(','), called] if seen(it)}
+            called = ''.join(row.fields[name:name + 1])
+            words = re.findall(r'\b[^\W\d]+[0-9]+\b', called)
+            self.called |= {plain(it): project for it in [*words, *called.split(','), called] if seen(it)}
         self.zero -= {*self.ids}
         # A character that an id has separates nothing in votes.
-        self.is_free = {it: not any(it in project for project in self.ids) for it in '|[](){}' + QUOTES}
-        self.alike, self.forms = {plain(it): it for it in self.ids}, {*map(form_of, self.ids)}
-        self.kinds, self.has_words = kinds_of(''.join(self.ids)), any('0' not in it for it in self.forms)
+        self.repairs = [it for it in VOTE_REPAIRS if {*it[0]}.isdisjoint(''.join(self.ids))]
+        self.floats = {f'{it}.0': it for it in self.ids if self.ids.keys().isdisjoint(['0', f'{it}.0'])}
+        # How else the ids may be written; the limits of their numbers, where they are alike but for these.
+        shorter = {plain(re.sub(r'^\D+(?=\d)', '', it)): it for it in self.ids}
+        self.alike, numbers = shorter | {plain(it): it for it in self.ids}, collections.defaultdict(list)
+        for it in self.ids:
+            numbers[form_of(it)].append(re.findall('[0-9]+', it))
+        self.limits = {form: [(min(map(len, it)), max(map(len, it)), min(map(value_of, it)),
+                               max(map(value_of, it)) + 1) for it in zip(*all_of)]
+                       for form, all_of in numbers.items()}
+        self.cases = {(it.islower(), it.isupper(), it.isascii()) for it in self.ids if form_of(it) == it}
         lengths = {*map(len, self.ids)}
         self.length = lengths.pop() if len(lengths) == 1 else 3
-        self.dated = [*filter(MADE_DATE.fullmatch, self.ids)]
-
-    def judge_id(self, row, text):
-        if SHORTENED.fullmatch(text) or CELL_DATE.fullmatch(text):
-            self.refuse(row, f'a spreadsheet changed the id {shown(text)} (a shortened number, or a date): '
-                        'no row can be told from another; get the ids again, as text')
 
     # Votes
     def clean_votes(self):
-        """Mends each vote, and joins or chooses among the rows of a voter."""
+        """Mends each vote, judges what names no project, and joins or chooses among the rows of a voter."""
+        head, names, way = self.votes.head, self.votes.names, self.given.repeated_voters
+        self.is_long = 'vote' not in names and names.count('project_id') == 1
+        if self.is_long:
+            if way not in (None, 'merge'):
+                self.refuse(head, 'other way')
+            head.edit(names.index('project_id'), 'heading of rows to join', 'vote')
+            names[names.index('project_id')] = 'vote'
         voter, vote = map(self.votes.column, ('voter_id', 'vote'))
-        rows = [row for row in self.votes.rows() if max(voter, vote) < len(row.fields)]
-        # The last rows, of which none names a project: they may be totals and notes.
-        tail = [*itertools.takewhile(
-            lambda row: self.ids.keys().isdisjoint(self.pieces_of(row.fields[vote])[0]), reversed(rows))]
-        self.tail, self.has_votes = {*tail}, len(tail) < len(rows)
-        voters = collections.defaultdict(list)
+        rows, width = self.votes.rows(voter, vote), len(names)
+        # Beside the vote, columns without a name, or named as those of votes are, hold no ids.
+        bare = {at for at, it in enumerate(names) if not self.is_cut and (
+            at > vote and not it or at != vote and it in ('vote', 'project_id'))}
+        # The first row of each voter, all rows of those who have several, and the votes that are judged.
+        voters, repeated, odd = {}, {}, {}
         for row in rows:
             name = seen(row.fields[voter])
             if name != row.fields[voter]:
                 row.edit_unseen(voter)
-            voters[name].append(row)
-            self.clean_vote(row, vote)
-            if '+' in name or ':' in name:
-                self.judge_id(row, name)
-        for name, same in voters.items():
-            if name and len(same) > 1:
-                self.clean_repeated(name, same, voters, voter, vote)
-        for row in self.votes.rows() if self.is_single else ():
-            if vote < len(row.fields) and len({*map(trimmed, row.fields[vote].split(','))}) > 1:
-                self.refuse(row, 'the vote names several projects, so the file is not choose-1')
-        self.notes[ALIKE_VOTERS] = voters_alike({name: same[0] for name, same in voters.items()})
+            if voters.setdefault(name, row) is not row:
+                repeated.setdefault(name, [voters[name]]).append(row)
+            pieces, kinds, lost = self.pieces_of(row.fields[vote])
+            if kinds:
+                row.edit(vote, ', '.join(kinds), ','.join(pieces))
+            if lost or not pieces or bare or len(row.fields) > width:
+                odd[row] = pieces, lost
+            if ('+' in name or ':' in name) and CHANGED.fullmatch(name):
+                self.refuse(row, 'changed id', shown(name))
+        self.judge_fields(odd, voter, vote, bare)
+        self.clean_unknown(rows, odd, vote)
+        for name in filter(None, repeated):
+            self.clean_repeated(name, repeated[name], voters, voter, vote)
+        for row in self.votes.rows(vote) if self.is_single else ():
+            if len({*map(trimmed, row.fields[vote].split(','))}) > 1:
+                self.refuse(row, 'not choose-1')
+
+    def pieces_of(self, text):
+        """The ids that a vote names, what had to be mended to read them, and those that no project has."""
+        pieces = [*filter(None, [it.strip(WHITE_SPACE) for it in text.split(',')])]
+        if self.ids.keys() >= {*pieces}:
+            return pieces, (), ()
+        text = ','.join(map(seen, pieces))
+        kinds = {UNSEEN: 1} if text != ','.join(pieces) else {}
+        text, more = mended(text, self.repairs)
+        found = [*filter(None, text.split(','))]
+        pieces = [self.floats.get(it, it) for it in found]
+        kinds |= more | ({'point and zero': 1} if pieces != found else {})
+        return pieces, kinds, [it for it in dict.fromkeys(pieces) if it not in self.ids]
 
     def clean_repeated(self, name, rows, voters, voter, vote):
         """Joins the rows of a voter, keeps one of them, or makes different voters of them."""
-        first, *more = rows
-        what, way = '--repeated-voters', self.given.repeated_voters
+        (first, *more), what, way = rows, '--repeated-voters', self.given.repeated_voters
         if self.is_long:
             what, way = 'rows joined', 'merge'
         elif way and len(name) > 15 and name.isdigit() and not name[15:].strip('0'):
-            for row in more:
-                self.refuse(row, f'a spreadsheet shortened the id {shown(name)}: get the ids again, as text')
+            self.refuse(more[0], 'changed id', shown(name))
             return
         if way == 'merge':
-            others = [[*map(seen, row.fields[:vote] + row.fields[vote + 1:])] for row in rows]
-            self.notes['rows joined differ in other columns, as other people would'] += [
-                row for row, other in zip(rows, others) if other != others[0]]
-            said = {it for other in others for it in {*other} ^ {*others[0]} if it.lower() in NO}
+            others = [{*map(seen, row.fields[:vote] + row.fields[vote + 1:])} for row in rows]
+            said = {it for other in others for it in other ^ others[0] if it.lower() in NO}
             if self.is_long and said:
-                self.refuse(first, f'rows are joined, and a column says {shown(min(said))} in one of them: '
-                            'if such rows are no votes, delete them; if it says something else, delete the '
-                            'column')
+                self.refuse(first, 'says no', shown(min(said)))
             pieces = [trimmed(it) for row in rows for it in row.fields[vote].split(',')]
             after = ','.join(dict.fromkeys(filter(None, pieces)))
             if after != trimmed(first.fields[vote]):
                 first.edit(vote, what, after)
         for row in more if way in ('merge', 'first') else rows[:-1] if way == 'last' else ():
-            row.drop(what)
-        numbers = itertools.count(2)
-        for row in more if way == 'distinct' else ():
-            other = next(it for it in (f'{name}-{number}' for number in numbers) if it not in voters)
+            row.replace(what)
+        others = (it for it in (f'{name}-{number}' for number in itertools.count(2)) if it not in voters)
+        for row, other in zip(more if way == 'distinct' else (), others):
             row.edit(voter, what, other)
 
-    def pieces_of(self, text):
-        """The ids that a vote names, what had to be mended to read them, and those that no project has."""
-        pieces = [*filter(None, [it.strip(WHITE_SPACE) for it in text.split(',')])]
-        if {*pieces} <= self.ids.keys():
-            return pieces, (), ()
-        body = seen(text)
-        kinds = {UNSEEN: 1} if body != trimmed(text) else {}
-        for begin, end in BRACKETS:
-            is_pair = body.startswith(begin) and body.endswith(end)
-            if is_pair and self.is_free[begin[-1]] and self.is_free[end]:
-                body, kinds['brackets'] = body[len(begin):-1], 1
-        if '|' in body and self.is_free['|']:
-            body, kinds['bars'] = body.replace('|', ','), 1
-        bits = [it.strip(WHITE_SPACE) for it in body.split(',')]
-        mended = {it: self.mended_piece(it) for it in dict.fromkeys(bits)}
-        for _, more in mended.values():
-            kinds |= more
-        pieces = [*filter(None, (mended[it][0] for it in bits))]
-        return pieces, kinds, [it for it in dict.fromkeys(pieces) if it not in self.ids]
-
-    def mended_piece(self, piece):
-        """What a piece is meant for, and what was mended: quotation marks at both ends, or at one beside an id."""
-        kinds = {}
-        if piece in self.ids or piece.isascii() and piece.isalnum():
-            return piece, kinds
-        if seen(piece) != piece:
-            piece, kinds[UNSEEN] = seen(piece), 1
-        if piece and piece not in self.ids:
-            bare = seen(piece.strip(QUOTES))
-            ends = [it in QUOTES and self.is_free[it] for it in (piece[0], piece[-1])]
-            if all(ends) or any(ends) and bare in self.ids:
-                piece, kinds['quotation marks'] = bare, 1
-        is_float = re.fullmatch(r'[0-9]+\.0', piece) and piece[:-2] in self.ids and '0' not in self.ids
-        if is_float and piece not in self.ids:
-            piece, kinds['point and zero'] = piece[:-2], 1
-        return piece, kinds
-
-    def clean_vote(self, row, column):
-        pieces, kinds, lost = self.pieces_of(row.fields[column])
-        if kinds:
-            row.edit(column, ', '.join(kinds), ','.join(pieces))
-        if not lost or row in self.refusals:
-            return
-        kept = [it for it in pieces if it not in self.zero]
-        if len(kept) < len(pieces):
-            row.edit(column, '--drop-zero-cost', ','.join(kept))
-        unknown = [it for it in lost if it not in self.zero]
-        if len(unknown) > MOST_UNKNOWN:
-            self.refuse(row, f'the vote names {len(unknown)} ids that no project has: {shown(unknown[0])}, ..')
-            return
-        self.has_zeros |= len(pieces) > 1 and '0' in unknown
-        for piece in unknown:
-            self.unknown[piece].append(row)
-        if unknown and self.given.drop_unknown:
-            row.edit(column, '--drop-unknown', ','.join(it for it in kept if it in self.ids))
-
     # What is refused, whatever option is given
-    def judge_fields(self):
-        """Refuses fields that another separator cut, ids beside the vote, points and ranks."""
-        for section in (self.projects, self.votes) if self.is_cut else ():
-            # A spreadsheet fills the row of names up with empty ones.
-            width = max((at for at, it in enumerate(section.names, 1) if it), default=0)
-            for row in section.rows():
-                if any(map(seen, row.fields[width:])):
-                    self.refuse(row, 'the row has more fields than there are column names: put quotation '
-                                'marks around the field that has the separator in it')
-        names, vote, rows = self.votes.names, self.votes.column('vote'), self.votes.rows()
-        # Beside the vote, columns without a name, or named as those of votes are, hold no ids.
-        bare = set() if self.is_cut else {at for at, it in enumerate(names)
-                                          if at > vote and not it or at != vote and it in ('vote', 'project_id')}
+    def judge_fields(self, odd, voter, vote, bare):
+        """Refuses ids beside the vote, and points and ranks."""
+        names = self.votes.names
         # Unknown ids that stand beside known ones: spreadsheets change whole fields, and words replace them.
-        self.beside, judged, voter = set(), [], self.votes.column('voter_id')
-        for row in [row for row in rows if vote < len(row.fields)]:
-            pieces, _, lost = self.pieces_of(row.fields[vote])
-            if lost or not pieces or bare or len(row.fields) > len(names):
-                self.beside.update(lost if len(lost) < len({*pieces}) else ())
-                judged.append((row, lost, pieces and not lost))
-        for row, lost, is_known in judged:
+        self.beside = {it for pieces, lost in odd.values() if len(lost) < len({*pieces}) for it in lost}
+        for row, (pieces, lost) in odd.items():
             for at, text in enumerate(row.fields):
                 is_behind = at >= len(names) or at in bare
                 is_sure = is_behind or not (self.beside.issuperset(lost) or at == voter and text.isdigit())
-                if at != vote and (is_behind or not is_known) and self.is_vote(text, is_sure):
-                    self.refuse(row, f'{shown(text)} in the field {label_of(names, at)} names projects, where it '
-                                'is not counted: write each field below its column name, and the ids of a vote '
-                                'into one field, with `,` between')
+                if at != vote and (is_behind or lost or not pieces) and self.is_vote(text, is_sure):
+                    self.refuse(row, 'beside', shown(text), label_of(names, at))
                     break
         for column in [at for at, it in enumerate(names) if it in POINTS]:
-            points = (row for row in rows if seen(''.join(row.fields[column:column + 1])) not in ('', '1'))
+            points = (row for row in self.votes.rows(column) if seen(row.fields[column]) not in ('', '1'))
             for row in itertools.islice(points, 1):
-                self.refuse(row, 'the votes have points or ranks, or numbers of votes, which are no '
-                            'approvals: they can not be counted')
+                self.refuse(row, 'points')
 
     def is_vote(self, text, is_sure):
-        """Whether a field beside the vote names projects: it is a list of ids, or one that is no other number."""
+        """Whether a field beside the vote is a list of ids, or (if this is sure) the id of a project."""
         pieces = self.pieces_of(text)[0]
         return ((is_sure or len(pieces) > 1) and not self.ids.keys().isdisjoint(pieces)
-                and self.forms.issuperset(map(form_of, pieces)))
+                and self.limits.keys() >= {*map(form_of, pieces)})
 
-    def say_unknown(self):
-        """Refuses ids that no project has, each once: what it is, or which option drops it."""
-        vote = self.votes.column('vote')
-        named = {trimmed(it) for row in self.votes.rows() if self.dated and self.unknown
-                 for it in ''.join(row.fields[vote:vote + 1]).split(',')}
-        self.dated = next((it for it in self.dated if it not in named), '')
-        for piece, rows in self.unknown.items():
+    def clean_unknown(self, rows, odd, vote):
+        """Drops ids that no project has where the option asks for it, or refuses them, each once."""
+        # The last rows, of which none names a project: they may be totals and notes.
+        tail = [*itertools.takewhile(
+            lambda row: row in odd and self.ids.keys().isdisjoint(odd[row][0]), reversed(rows))]
+        unknown, empties = collections.defaultdict(list), []
+        for row, (pieces, lost) in odd.items():
+            if lost and row not in self.refusals:
+                for piece in [it for it in lost if it not in self.zero]:
+                    unknown[piece].append(row)
+                kept = [it for it in pieces if it not in self.zero]
+                if len(kept) < len(pieces):
+                    row.edit(vote, '--drop-zero-cost', ','.join(kept))
+                if self.given.drop_unknown and not self.ids.keys() >= {*kept}:
+                    row.edit(vote, '--drop-unknown', ','.join(it for it in kept if it in self.ids))
+                    is_empty = self.ids.keys().isdisjoint(kept) and not {it.lower() for it in kept} <= NOTHING
+                    empties += [row] if is_empty else []
+        # A date that a vote names is an id on purpose.
+        dates = {*filter(MADE_DATE.fullmatch, self.ids)} if unknown else set()
+        if dates:
+            dates -= {trimmed(it) for row in rows for it in row.fields[vote].split(',')}
+        has_zeros = any(len(odd[row][0]) > 1 for row in unknown.get('0', ()))
+        for piece, (first, *more) in unknown.items():
+            why, value = self.cause_of(piece, has_zeros, min(dates, default=''))
             is_nothing = piece.lower() in NOTHING
-            cause = self.cause_of(piece)
-            if not cause and not is_nothing:
-                cause = NO_VOTE if not self.has_votes else NO_FORM if not self.is_like(piece) else \
-                    TAIL if rows[0] in self.tail else ''
-            if cause or not self.given.drop_unknown:
-                more = len(rows) > 1 and f' (and in {len(rows) - 1} more votes, such as record {rows[1].key})'
-                drops = 'if the project was withdrawn, `--drop-unknown` takes its id out of the votes'
-                empties = 'if it says that nothing was voted for, `--drop-unknown` makes an empty ballot of it'
-                self.refuse(rows[0], f'the vote names {shown(piece)}, which no project has{more or ""}: '
-                            + (cause or (empties if is_nothing else drops)))
+            if not why and not is_nothing:
+                why = ('no vote' if len(tail) == len(rows) else 'no form' if not self.is_like(piece) else
+                       'tail' if first in tail else '')
+            if why or not self.given.drop_unknown:
+                also = f' (and in {len(more)} more votes, such as record {more[0].key})' if more else ''
+                words = WORDS[why or ('nothing' if is_nothing else 'withdrawn')].format(shown(str(value)))
+                self.refuse(first, 'unknown', shown(piece), also, words)
+        # A few voters may have chosen nothing but a project that was withdrawn.
+        if len(empties) > 1 and 10 * len(empties) > len(rows) and not self.refusals:
+            self.refuse(empties[0], 'empties', len(empties))
 
     def is_like(self, piece):
-        """Whether it differs from a project's id only by digits, or stands beside one and has no other kinds."""
-        form = form_of(piece)
-        return form in self.forms or (piece in self.beside and ('0' in form or self.has_words)
-                                      and kinds_of(piece) <= self.kinds)
+        """Whether it has the next number of projects, or one between theirs; or is a word beside one."""
+        numbers, form = re.findall('[0-9]+', piece), form_of(piece)
+        if not numbers:
+            return piece in self.beside and (piece.islower(), piece.isupper(), piece.isascii()) in self.cases
+        return form in self.limits and all(
+            shortest <= len(it) <= longest and low <= value_of(it) <= high
+            for it, (shortest, longest, low, high) in zip(numbers, self.limits[form]))
 
-    def cause_of(self, piece):
-        """What an unknown id is, if it is hardly that of a project that is gone. Then it is never dropped."""
+    def cause_of(self, piece, has_zeros, date):
+        """Why an id is hardly that of a project that is gone, so that it is never dropped; and a project."""
         parts = [it for it in re.split(r'[\W_]+', piece) if it]
         cut = [piece[it:it + self.length] for it in range(0, len(piece), self.length)]
         like, called = self.alike.get(plain(piece), ''), self.called.get(plain(piece), '')
-        causes = [
-            (len(piece.splitlines()) > 1, 'it goes over several lines: a quotation mark is not closed, or is too '
-             'many; if its ids are on lines of their own, write `,` between them'),
-            (piece == '0' and self.has_zeros,
-             'it stands beside ids, so the votes may be places, counted from 0: get the ids'),
-            (re.fullmatch('[-+\u2212].+', piece),
-             'it has a sign: votes against a project, and points, are no approvals'),
-            (len(parts) > 1 and any(it in self.ids for it in parts), 'it has the id of a project and more: ids '
-             'have only `,` between; points, ranks and what is crossed out are no approvals; if a spreadsheet '
-             'made one number of ids, get the votes again, as text'),
-            (like, f'the project {shown(like)} differs only by case, zeros, marks, white space, how its '
-             'letters are coded, or 0 for O and 1 for l: if it is meant, correct one of both'),
-            (self.length > 1 and len(cut) > 1 and piece.isdigit() and self.ids.keys() >= {*cut},
-             'it is made of ids whose commas are lost: get the votes again, as text'),
-            (self.dated, f'a spreadsheet made a date of the id {shown(self.dated)}: get PROJECTS again'),
-            (called, f'it is the name of the project {shown(called)}, or a part of it: write its id')]
-        return next((words for holds, words in causes if holds), '')
+        is_run = self.length > 1 and len(cut) > 1 and self.ids.keys() >= {*cut}
+        marked = unmarked(piece) if unmarked(piece) in self.ids else ''
+        causes = [('lines', len(piece.splitlines()) > 1), ('places', piece == '0' and has_zeros),
+                  ('sign', re.fullmatch('[-+\u2212].+', piece)), ('marked', marked),
+                  ('id and more', len(parts) > 1 and any(it in self.ids for it in parts)),
+                  ('alike', like), ('no commas', is_run), ('date', date), ('name', called)]
+        return next((it for it in causes if it[1]), ('', ''))

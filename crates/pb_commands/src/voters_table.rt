@@ -8,10 +8,10 @@ ghost use Rattle.pb_commands.specs.Inner.Tables.{payments_text};
 ghost use Rattle.pb_commands.specs.declared.table.Table.TheVariants.{Voters};
 
 use itoa::Buffer;
-use pb_core::money::Money;
+use pb_core::money::{Money, put_amount};
 use pb_core::no_memory::NoMemory;
 use pb_reasons::{CountedElection, Payment, VoterReason, VoterTeller};
-use pb_rows::{Field, RowsWriter, put_amount};
+use pb_rows::{Field, RowsWriter};
 use std::alloc::Global;
 
 /// Writes the columns, and a row for each voter in file order.

@@ -24,7 +24,7 @@ pub use ballot::Ballot;
 pub use election::{Election, MOST_PROJECTS, MOST_VOTERS};
 pub use entry::Entry;
 pub use gate::{Gate, NoGate};
-pub use money::Money;
+pub use money::{Money, put_amount};
 pub use money_fault::MoneyFault;
 pub use no_memory::NoMemory;
 pub use project::Project;

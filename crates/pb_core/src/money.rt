@@ -1,7 +1,7 @@
 //! Amounts of money, in hundredths, and the texts that name them.
 
 ghost use Rattle.std.specs.Prelude.{◌≡◌, ◌==◌, ◌&&◌, ◌||◌, ◌*◌, ◌<◌, ◌++◌, ℕ, true, codes, drop, min, take};
-ghost use Rattle.std.specs.Prelude.{string_bytes, IfOk};
+ghost use Rattle.std.specs.Prelude.{string_bytes, IfOk, OnOk};
 ghost use Rattle.std.specs.Char.{is_ascii_digit};
 ghost use Rattle.std.specs.List.{list_all, position_or_len};
 ghost use Rattle.std.specs.Str.Parse.{digits_value};
@@ -11,7 +11,7 @@ ghost use Rattle.pb_core.specs.Money.{largest_money, money_of};
 use crate::money_fault::MoneyFault;
 use crate::no_memory::NoMemory;
 use itoa::Buffer;
-use std::alloc::Allocator;
+use std::alloc::{AllocError, Allocator};
 use std::marker::Model;
 
 /// An amount of money, in hundredths.
@@ -57,13 +57,21 @@ impl Money {
     pub fn text<A: Allocator>(self, alloc: A) -> Result<String<A>, NoMemory>
         ensures { IfOk result (λ text. string_bytes text ≡ money_text self) }
     {
-        let mut buffer = Buffer::new();
-        let mut text = String::from_str(alloc, buffer.format(self.0 / 100))?;
-        text.push('.')?;
-        text.push(char::from((self.0 / 10 % 10) as u8 + b'0'))?;
-        text.push(char::from((self.0 % 10) as u8 + b'0'))?;
+        let mut text = String::new(alloc);
+        put_amount(&mut text, u128::from(self.0))?;
         Ok(text)
     }
+}
+
+/// Puts an amount in hundredths after a text: whole units, a point and two decimals, as `12.30`.
+pub fn put_amount<A: Allocator>(text: &mut String<A>, amount: u128) -> Result<(), AllocError>
+    ensures { OnOk result (string_bytes text.new ≡ string_bytes text.old ++ money_text amount) }
+{
+    let mut digits = Buffer::new();
+    text.push_str(digits.format(amount / 100))?;
+    text.push('.')?;
+    text.push(char::from((amount / 10 % 10) as u8 + b'0'))?;
+    text.push(char::from((amount % 10) as u8 + b'0'))
 }
 
 fn is_mark(c: u8) -> bool

@@ -1,13 +1,12 @@
 //! A field of a row, and its text.
 
-ghost use Rattle.std.specs.Prelude.{◌≡◌, ◌++◌, OnOk, string_bytes};
-ghost use Rattle.pb_core.specs.MoneyText.{money_text};
+ghost use Rattle.std.specs.Prelude.{◌≡◌, OnOk, string_bytes};
 ghost use Rattle.pb_rows.specs.Tables.{field_text};
 ghost use Rattle.pb_rows.specs.declared.field.Field.TheVariants.{Amount, Number};
 
 use itoa::Buffer;
-use pb_core::money::Money;
-use std::alloc::{AllocError, Allocator};
+use pb_core::money::{Money, put_amount};
+use std::alloc::AllocError;
 
 /// A field of a row.
 #[derive(Clone, Copy)]
@@ -52,15 +51,4 @@ pub(crate) fn set_text(text: &mut String, field: Field) -> Result<(), AllocError
         }
         Field::Amount(amount) => put_amount(text, amount),
     }
-}
-
-/// Puts an amount in hundredths after a text: whole units, a point and two decimals, as `12.30`.
-pub fn put_amount<A: Allocator>(text: &mut String<A>, amount: u128) -> Result<(), AllocError>
-    ensures { OnOk result (string_bytes text.new ≡ string_bytes text.old ++ money_text amount) }
-{
-    let mut digits = Buffer::new();
-    text.push_str(digits.format(amount / 100))?;
-    text.push('.')?;
-    text.push(char::from((amount / 10 % 10) as u8 + b'0'))?;
-    text.push(char::from((amount % 10) as u8 + b'0'))
 }

@@ -11,7 +11,7 @@ mod records;
 mod rows_writer;
 
 pub use fault::RecordsFault;
-pub use field::{Field, put_amount};
+pub use field::Field;
 pub use laws::rows_come_back;
 pub use number::read_number;
 pub use places::{read_place_list, write_places};

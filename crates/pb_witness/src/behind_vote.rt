@@ -1,52 +1,35 @@
 //! Ids of projects that stand behind the vote, where no count reads them.
 
+use crate::changed::{has_digit, has_word, is_digits, is_one_of};
 use crate::fields::{column_of, text_at};
 use crate::firsts::Firsts;
+use crate::mark::Mark;
 use crate::oddities::{Odd, Oddities};
 use crate::valid_columns::VALID;
+use crate::vote_oddities::{NUMBERS, VoteRow};
+use crate::warnings::places_of;
 use csv::ByteRecord;
-use pb_read::Column;
+use pb_read::{Column, Oddity};
 use std::alloc::{AllocError, Global};
 
-/// Columns of VOTES that hold no votes, though their values may be as ids of projects are.
-const OTHERS: [&str; 19] = [
-    "voter_id",
-    "age",
-    "age_group",
-    "sex",
-    "gender",
-    "voting_method",
-    "channel",
-    "station",
-    "polling_station",
-    "ward",
-    "district",
-    "subdistrict",
-    "neighborhood",
-    "unit",
-    "subunit",
-    "education",
-    "votes",
-    "points",
-    "score",
-];
+/// Columns of VOTES that hold no votes of the voter, whatever stands in them.
+const OTHERS: &str = "voter_id|comment|remark|remarks|note|notes|against|rejected|veto|contra";
+
+/// Columns that hold none unless they have lists of projects, though their values may be as ids are.
+const OF_VOTERS: &str =
+    "age|age_group|sex|gender|voting_method|channel|station|polling_station|ward|district|\
+    subdistrict|neighborhood|unit|subunit|education|votes";
 
 /// Words in the name of a column that holds votes.
-const OF_VOTES: [&str; 8] = [
-    "vote",
-    "choice",
-    "second",
-    "third",
-    "preference",
-    "project",
-    "option",
-    "selection",
-];
+const OF_VOTES: &str = "vote|choice|second|third|preference|project|option|selection";
+
+/// Words of a name that hold no votes, though another word of it is one of those.
+const OF_NO_VOTES: &str =
+    "channel|type|method|mode|place|station|date|time|at|status|code|count|number|num|total|form|\
+    against";
 
 /// What a voter writes who makes no further choice.
-const NOTHING: [&str; 10] = [
-    "-", "none", "nan", "null", "nil", "n/a", "na", "no", "nie", "brak",
-];
+const NOTHING: &str = "-|none|nan|null|nil|n/a|na|no|nie|brak";
 
 /// A column that may hold votes.
 #[derive(Clone, Copy)]
@@ -54,6 +37,8 @@ struct FurtherColumn {
     place: usize,
     /// Whether it has a name; then one other text shows that it holds no votes.
     is_named: bool,
+    /// Whether only a list of projects shows that it holds votes.
+    is_of_voters: bool,
     /// Whether it may hold votes, by all that was read.
     is_open: bool,
     /// Whether something shows that it holds votes: its name, or an id that is no number, or several ids.
@@ -68,6 +53,8 @@ pub(crate) struct BehindVote {
     columns: Vec<FurtherColumn>,
     /// All that stands beyond the column names.
     beyond: FurtherColumn,
+    /// The first row without a vote in which another field seems to be its vote, measured by how many there are.
+    stray: Option<Odd>,
 }
 
 impl BehindVote {
@@ -75,14 +62,22 @@ impl BehindVote {
     pub(crate) fn of(alloc: Global, names: &ByteRecord) -> Result<BehindVote, AllocError> {
         let mut columns = Vec::new(alloc);
         let vote = column_of(names, Column::Vote.name()).unwrap_or(0);
+        let (_, voters) = places_of(names, Column::VoterId);
+        let has_voters = voters > 1;
         for place in vote.saturating_add(1)..names.len() {
             let name = text_at(names, place);
-            if !is_one_of(&OTHERS, name) && !is_one_of(&VALID, name) {
+            let is_again = has_voters && name.eq_ignore_ascii_case(Column::Vote.name());
+            let is_other = is_one_of(OTHERS, name) || is_one_of(NUMBERS, name);
+            if !is_again && !is_other && !is_one_of(VALID, name) {
                 columns.push(FurtherColumn::of(place, name))?;
             }
         }
         let beyond = FurtherColumn::of(names.len(), "");
-        Ok(BehindVote { columns, beyond })
+        Ok(BehindVote {
+            columns,
+            beyond,
+            stray: None,
+        })
     }
 
     /// Whether no column among those with a place in the row of column names may hold votes.
@@ -103,6 +98,25 @@ impl BehindVote {
         }
     }
 
+    /// This row without a vote, odd for the field that seems to be its vote, with the row of column names that
+    /// begins here, if there is such a field.
+    pub(crate) fn with_stray(&mut self, row: VoteRow<'_>, odd: Odd, header: Mark) -> Odd {
+        let but = (row.columns.voter, row.columns.vote);
+        let Some(place) = stray_vote(row.record, but, row.projects) else {
+            return odd;
+        };
+        let odd = Odd {
+            before: Some(header),
+            ..odd.at(place).in_form(1)
+        };
+        let value = text_at(row.record, place);
+        if is_list(value) && row.min_length.unwrap_or(0) == 0 {
+            let first = self.stray.unwrap_or(odd.as_a(Oddity::IdBehindVote));
+            self.stray = Some(first.by(first.number.saturating_add(1)));
+        }
+        odd
+    }
+
     /// Takes the end of the file.
     pub(crate) fn end(&self, alloc: Global, found: &mut Oddities) -> Result<(), AllocError> {
         let mut all = Vec::new(alloc);
@@ -113,6 +127,10 @@ impl BehindVote {
         }
         if let Some(odd) = self.beyond.odd {
             all.push(odd)?;
+        }
+        match self.stray {
+            Some(stray) if !has_place(&all, stray.value_place) => all.push(stray)?,
+            _ => {}
         }
         all.sort_by_key(|odd: &Odd| odd.mark.at)?;
         for odd in &all {
@@ -128,6 +146,7 @@ impl FurtherColumn {
         FurtherColumn {
             place,
             is_named: !name.is_empty(),
+            is_of_voters: is_one_of(OF_VOTERS, name),
             is_open: true,
             is_shown: name.is_empty() || is_of_votes(name),
             odd: None,
@@ -141,32 +160,35 @@ impl FurtherColumn {
             return false;
         }
         let value = text_at(row, odd.value_place);
-        match first_named(value, projects) {
-            _ if value.is_empty() => {}
-            Some(place) if !self.is_named || ballot.binary_search(&place).is_err() => {
-                let first = self.odd.unwrap_or(odd);
-                self.odd = Some(first.by(first.number.saturating_add(1)));
-                self.is_shown |= is_no_number(value);
-                return true;
-            }
-            _ if self.is_named => self.is_open = is_one_of(&NOTHING, value),
-            _ => {}
+        if value.is_empty() {
+            return false;
         }
-        false
+        let Some(has_other) = names_other(value, ballot, projects) else {
+            self.is_open = !self.is_named || is_one_of(NOTHING, value);
+            return false;
+        };
+        if self.is_named && !has_other {
+            return false;
+        }
+        let first = self.odd.unwrap_or(odd);
+        self.odd = Some(first.by(first.number.saturating_add(1)));
+        self.is_shown |= value.contains(',') || (is_list(value) && !self.is_of_voters);
+        true
     }
+}
+
+/// Whether one of these is odd for the value at this place.
+fn has_place(all: &[Odd], place: usize) -> bool {
+    all.iter().any(|odd| odd.value_place == place)
 }
 
 /// The first field of a row that seems to be its vote: it names projects alone, and is no number. The fields at
 /// these two places are not meant.
-pub(crate) fn stray_vote(
-    row: &ByteRecord,
-    but: (usize, usize),
-    projects: &Firsts,
-) -> Option<usize> {
+fn stray_vote(row: &ByteRecord, but: (usize, usize), projects: &Firsts) -> Option<usize> {
     for place in 0..row.len() {
         let value = text_at(row, place);
-        let is_meant = place != but.0 && place != but.1 && is_no_number(value);
-        if is_meant && first_named(value, projects).is_some() {
+        let is_meant = place != but.0 && place != but.1 && !is_digits(value);
+        if is_meant && names_other(value, &[], projects).is_some() {
             return Some(place);
         }
     }
@@ -175,44 +197,23 @@ pub(crate) fn stray_vote(
 
 /// Whether a column's name says that it holds votes.
 fn is_of_votes(name: &str) -> bool {
-    for word in OF_VOTES {
-        let size = word.len();
-        for start in 0..name.len() {
-            match name.as_bytes().get(start..start.saturating_add(size)) {
-                Some(part) if part.eq_ignore_ascii_case(word.as_bytes()) => return true,
-                _ => {}
-            }
-        }
-    }
-    false
+    let has_other = name
+        .split(|c: char| !c.is_alphanumeric())
+        .any(|word| is_one_of(OF_NO_VOTES, word));
+    !has_other && OF_VOTES.split('|').any(|word| has_word(name, word))
 }
 
-/// Whether a text has another character than digits.
-fn is_no_number(text: &str) -> bool {
-    for byte in text.as_bytes() {
-        if !byte.is_ascii_digit() {
-            return true;
-        }
-    }
-    false
+/// Whether a text that names projects is several ids, or one with a digit and another character.
+fn is_list(text: &str) -> bool {
+    text.contains(',') || (has_digit(text) && !is_digits(text))
 }
 
-/// Whether a text is one of these words, in any case.
-pub fn is_one_of(words: &[&str], text: &str) -> bool {
-    for word in words {
-        if text.eq_ignore_ascii_case(word) {
-            return true;
-        }
-    }
-    false
-}
-
-/// The place of the first project that a text names, if it names projects alone.
-fn first_named(text: &str, projects: &Firsts) -> Option<u32> {
-    let mut first = None;
+/// Whether a text names a project that is none of these, if it names projects alone.
+pub(crate) fn names_other(text: &str, ballot: &[u32], projects: &Firsts) -> Option<bool> {
+    let mut has_other = false;
     for piece in text.split(',') {
         let place = projects.place(piece.trim())?;
-        first = first.or(Some(place));
+        has_other |= ballot.binary_search(&place).is_err();
     }
-    first
+    Some(has_other)
 }

@@ -52,18 +52,23 @@ pub enum Cause {
     Alike(Difference, bool),
     /// It is alike the ids of several projects.
     Several,
-    /// It is a project's name, or an id and more.
+    /// It is a project's name, or stands in one, or is an id and more.
     Name,
+    Mentioned,
     More,
     /// The id of a project was changed.
     ChangedProject,
     /// It is a word in place of ids.
     Word,
+    /// It ends with `=`, as e-mail programs break lines.
+    Mail,
     /// It has a character that no id of a project has.
     OddLetter,
     /// No vote names a project.
     OtherElection,
-    /// None is known.
+    /// None is known: no id has its form, or one has it nearly, or exactly.
+    OtherForm,
+    Near,
     Unknown,
 }
 
@@ -77,6 +82,8 @@ impl Cause {
                 | Cause::Cut
                 | Cause::Lines
                 | Cause::Name
+                | Cause::Mentioned
+                | Cause::Near
                 | Cause::Unknown
         )
     }
@@ -114,18 +121,37 @@ pub(crate) fn cause_of(
         None => {}
     }
     if let Some(place) = projects.alike(id)? {
-        if projects.row(place).is_none() {
-            return Ok((Cause::Several, None));
-        }
         let (difference, is_changed) = how_differs(id, projects.id(place));
-        return Ok((Cause::Alike(difference, is_changed), Some(place)));
+        return Ok(of_project(projects, place, Cause::Alike(difference, is_changed)));
+    }
+    if let Some(place) = projects.similar(id)? {
+        let cause = Cause::Alike(Difference::Letters, false);
+        return Ok(of_project(projects, place, cause));
+    }
+    if let Some(place) = projects.numbered(id)? {
+        let cause = Cause::Alike(Difference::Front, false);
+        return Ok(of_project(projects, place, cause));
     }
     if let Some(place) = projects.named(id)? {
-        let is_one = projects.row(place).is_some();
-        let cause = if is_one { Cause::Name } else { Cause::Several };
-        return Ok((cause, Some(place)));
+        return Ok(of_project(projects, place, Cause::Name));
     }
-    Ok(last_cause(id, witness, projects))
+    if let Some(place) = projects.mentioned(id) {
+        return Ok(of_project(projects, place, Cause::Mentioned));
+    }
+    match last_cause(id, witness, projects) {
+        (Cause::Unknown, _) if projects.has_form(id, true)? => Ok((Cause::Unknown, None)),
+        (Cause::Unknown, _) if projects.has_form(id, false)? => Ok((Cause::Near, None)),
+        (Cause::Unknown, _) => Ok((Cause::OtherForm, None)),
+        other => Ok(other),
+    }
+}
+
+/// The cause with the project at this place; several share one that is none's.
+fn of_project(projects: &Projects, place: u32, cause: Cause) -> (Cause, Option<u32>) {
+    if projects.row(place).is_some() {
+        return (cause, Some(place));
+    }
+    (Cause::Several, None)
 }
 
 /// The cause that an id shows by itself, or beside ids of projects.
@@ -142,6 +168,8 @@ fn plain_cause(id: &str, ids: &Ids, projects: &Projects, has_columns: bool) -> O
         Cause::OnLines
     } else if id.contains('\n') {
         Cause::Lines
+    } else if id.ends_with('=') {
+        Cause::Mail
     } else if id.eq_ignore_ascii_case(Column::Vote.name()) {
         Cause::NamesAgain
     } else if let Some(cause) = wrapped(id, ids) {
@@ -227,7 +255,8 @@ fn is_together(text: &str, ids: &Ids, length: usize) -> bool {
 
 /// The cause of an id that is like none of a project.
 fn last_cause(id: &str, witness: &Witness, projects: &Projects) -> (Cause, Option<u32>) {
-    for part in id.split(|c: char| c.is_whitespace() || ":=(#".contains(c)) {
+    let is_beside = |c: char| !c.is_alphanumeric() && (":=(#".contains(c) || projects.lacks(c));
+    for part in id.split(is_beside) {
         if witness.ids.projects.has(part) {
             return (Cause::More, None);
         }

@@ -4,35 +4,20 @@ use crate::faulty_record::is_hidden;
 use std::alloc::{AllocError, Global};
 
 /// What programs write where there is no value.
-const NOTHING: &[&str] = &["nan", "none", "null", "nil", "na", "n/a", "-", "0", "\\n"];
+const NOTHING: &str = "nan|none|null|nil|na|n/a|-|0|\\n";
 
 /// What says in place of ids which projects are meant, or that the vote is none.
-const WORDS: &[&str] = &[
-    "all",
-    "everything",
-    "any",
-    "every",
-    "invalid",
-    "void",
-    "spoiled",
-    "spoilt",
-    "cancelled",
-    "canceled",
-    "blank",
-    "empty",
-    "abstain",
-    "abstention",
-];
+const WORDS: &str =
+    "all|everything|any|every|invalid|void|spoiled|spoilt|cancelled|canceled|blank|empty|abstain|\
+    abstention";
 
 /// What says in the column of a project whether a voter approves it.
-const TICKS: &[&str] = &["0", "1", "x", "yes", "no", "true", "false"];
+const TICKS: &str = "0|1|x|yes|no|true|false";
 
 /// How the names of months begin in several languages.
-const MONTHS: &[&str] = &[
-    "jan", "feb", "fev", "mar", "apr", "avr", "abr", "mai", "maj", "may", "jun", "jui", "jul",
-    "aug", "ago", "sep", "set", "oct", "okt", "ott", "out", "nov", "dec", "dez", "dic", "sty",
-    "lut", "kwi", "cze", "lip", "sie", "wrz", "lis", "gru",
-];
+const MONTHS: &str =
+    "jan|feb|fev|mar|apr|avr|abr|mai|maj|may|jun|jui|jul|aug|ago|sep|set|oct|okt|ott|out|nov|dec|dez|\
+    dic|sty|lut|kwi|cze|lip|sie|wrz|lis|gru";
 
 /// How an id differs from another one that is alike.
 #[derive(Clone, Copy, PartialEq, Eq)]
@@ -42,30 +27,52 @@ pub enum Difference {
     PointZero,
     Case,
     Zeros,
+    /// A letter that looks like a digit, such as O and 0.
+    Letters,
+    /// Letters before a number.
+    Front,
 }
 
-fn is_one_of(text: &str, words: &[&str]) -> bool {
-    for word in words {
-        if text.eq_ignore_ascii_case(word) {
-            return true;
+/// Whether a text is one of these words, with `|` between them, in any case.
+pub fn is_one_of(words: &str, text: &str) -> bool {
+    words.split('|').any(|word| text.eq_ignore_ascii_case(word))
+}
+
+/// Whether a text says that there is no value, as programs write it.
+pub fn is_nothing(text: &str) -> bool {
+    is_one_of(NOTHING, text)
+}
+
+/// Whether a text says of a project whether a voter approves it.
+pub(crate) fn is_tick(text: &str) -> bool {
+    is_one_of(TICKS, text)
+}
+
+/// Whether a text says in place of ids which projects are meant, or that the vote is none.
+pub(crate) fn is_word(text: &str) -> bool {
+    is_one_of(WORDS, text)
+}
+
+/// Whether a text has a word in it, in any case.
+pub(crate) fn has_word(text: &str, word: &str) -> bool {
+    for start in 0..text.len() {
+        match text.as_bytes().get(start..start.saturating_add(word.len())) {
+            Some(part) if part.eq_ignore_ascii_case(word.as_bytes()) => return true,
+            _ => {}
         }
     }
     false
 }
 
-/// Whether a text says that there is no value, as programs write it.
-pub fn is_nothing(text: &str) -> bool {
-    is_one_of(text, NOTHING)
-}
-
-/// Whether a text says of a project whether a voter approves it.
-pub(crate) fn is_tick(text: &str) -> bool {
-    is_one_of(text, TICKS)
-}
-
-/// Whether a text says in place of ids which projects are meant, or that the vote is none.
-pub(crate) fn is_word(text: &str) -> bool {
-    is_one_of(text, WORDS)
+/// A text without what is neither a letter nor a digit.
+pub(crate) fn letters_of(alloc: Global, text: &str) -> Result<String, AllocError> {
+    let mut out = String::new(alloc);
+    for c in text.chars() {
+        if c.is_alphanumeric() {
+            out.push(c)?;
+        }
+    }
+    Ok(out)
 }
 
 /// Whether a text has a digit.
@@ -176,7 +183,7 @@ pub(crate) fn is_date(text: &str, is_sure: bool) -> bool {
 
 /// Whether a word is a month's name, or its beginning.
 fn is_month(word: &str) -> bool {
-    for month in MONTHS {
+    for month in MONTHS.split('|') {
         let begin = word.as_bytes().get(..month.len()).unwrap_or(b"");
         if begin.eq_ignore_ascii_case(month.as_bytes()) {
             return word.len() <= 10 && !word.contains(|c: char| c.is_ascii_digit());
@@ -244,6 +251,44 @@ pub(crate) fn plain(alloc: Global, id: &str) -> Result<String, AllocError> {
     }
     if is_zero {
         out.push('0')?;
+    }
+    Ok(out)
+}
+
+/// An id with the digits that its letters look like.
+pub(crate) fn with_digits(alloc: Global, id: &str) -> Result<String, AllocError> {
+    let mut out = String::new(alloc);
+    for c in id.chars() {
+        out.push(match c {
+            'O' | 'o' => '0',
+            'I' | 'l' => '1',
+            'S' => '5',
+            'B' => '8',
+            'Z' => '2',
+            'G' => '6',
+            _ => c,
+        })?;
+    }
+    Ok(out)
+}
+
+/// The form of an id: a mark for each digit, or for each number if it need not be exact; without digits a mark for
+/// each letter, or for all of them.
+pub(crate) fn form_of(alloc: Global, id: &str, is_exact: bool) -> Result<String, AllocError> {
+    let mut out = String::new(alloc);
+    let has_digits = has_digit(id);
+    let mut before = ' ';
+    for c in id.chars() {
+        let mark = match c {
+            '0'..='9' => '9',
+            _ if has_digits => c.to_ascii_lowercase(),
+            _ => 'a',
+        };
+        let is_marked = c.is_ascii_digit() || !has_digits;
+        if is_exact || !is_marked || mark != before {
+            out.push(mark)?;
+        }
+        before = if is_marked { mark } else { ' ' };
     }
     Ok(out)
 }

@@ -1,6 +1,8 @@
 //! A record of a .pb file that was refused, and what can be known of it.
 
-use crate::changed::{has_digit, is_digits, is_nothing, is_power, without_hidden};
+use crate::changed::{
+    has_digit, has_word, is_digits, is_nothing, is_power, letters_of, without_hidden,
+};
 use crate::fields::{JoinedBy, column_of, has_more, joined, raw_text, text_at};
 use crate::heads::{OddHead, head_of, is_column, odd_head_of, section_of};
 use crate::ids::Ids;
@@ -12,6 +14,7 @@ use crate::text::Text;
 use csv::ByteRecord;
 use pb_core::money::Money;
 use pb_read::{Column, ReadKind, Refusal, Section, Stage};
+use std::alloc::{AllocError, Global};
 use std::rt::Files;
 
 /// A record that the reader refused.
@@ -106,6 +109,37 @@ impl FaultyRecord {
         false
     }
 
+    /// The place of the first column name that has this one in it, but for spaces and punctuation.
+    pub fn nearly(&self, alloc: Global, column: &str) -> Result<Option<usize>, AllocError> {
+        let column = letters_of(alloc, column)?;
+        for place in 0..self.record.len() {
+            let name = text_at(&self.record, place);
+            let is_other = is_column(name);
+            let name = letters_of(alloc, name)?;
+            if !is_other && has_word(name.as_str(), column.as_str()) {
+                return Ok(Some(place));
+            }
+        }
+        Ok(None)
+    }
+
+    /// Whether a row that is short, or has no amount, ends with `=`, or the row before it, as e-mail programs break
+    /// lines.
+    pub fn is_of_mail<R: Files>(&self, text: &Text<'_, R>) -> bool {
+        match self.kind() {
+            ReadKind::BadMoney | ReadKind::MissingField if is_broken(&self.record) => true,
+            ReadKind::BadMoney | ReadKind::MissingField => match text.record_at(self.seen.last) {
+                Some(records) => {
+                    let is_it = is_broken(&records.last);
+                    drop(records);
+                    is_it
+                }
+                None => false,
+            },
+            _ => false,
+        }
+    }
+
     /// Whether it is the column names of a row for each voter and project.
     pub fn is_by_project(&self) -> bool {
         self.kind() == ReadKind::MissingColumn
@@ -171,10 +205,38 @@ impl FaultyRecord {
         is_like
     }
 
-    /// Whether it is one field with tabs, and without a `;`.
-    pub fn has_tabs(&self) -> bool {
-        self.kind() == ReadKind::MissingField
-            && matches!(joined(&self.record), Some(JoinedBy::Tabs))
+    /// What separates the fields of a row in place of `;`, if it is one field with tabs, or with as many commas as
+    /// it should have `;`.
+    pub fn marks(&self) -> Option<JoinedBy> {
+        let text = text_at(&self.record, 0);
+        let is_word = |piece: &str| piece.trim().contains(|c: char| c.is_whitespace());
+        let are_words = matches!(self.stage, Stage::InVotes(_)) && text.split(',').any(is_word);
+        let are_few = text.split(',').count() < self.seen.columns;
+        match joined(&self.record) {
+            _ if self.kind() != ReadKind::MissingField => None,
+            Some(JoinedBy::Commas) if are_few || are_words => None,
+            Some(JoinedBy::Quotes) => None,
+            joined => joined,
+        }
+    }
+
+    /// Whether it is a row of VOTES with one field in which words stand.
+    pub fn is_line_of_words(&self) -> bool {
+        let has_words = text_at(&self.record, 0).contains(|c: char| c.is_whitespace());
+        let is_one = self.record.len() == 1 && self.kind() == ReadKind::MissingField;
+        is_one && has_words && matches!(self.stage, Stage::InVotes(_))
+    }
+
+    /// Whether a quotation mark stands alone at the end of its line, so that its field begins with the next.
+    pub fn is_ditto(&self) -> bool {
+        (0..self.record.len()).any(|place| raw_text(&self.record, place).starts_with('\n'))
+    }
+
+    /// Whether two rows may stand on one line: only the last field of the first, and the first of the second, are
+    /// one.
+    pub fn is_two_rows(&self) -> bool {
+        let columns = self.seen.columns;
+        columns > 2 && self.record.len() == columns.saturating_mul(2).saturating_sub(1)
     }
 
     /// Whether it is a project's row with an id alone.
@@ -291,6 +353,11 @@ impl FaultyRecord {
             _ => None,
         }
     }
+}
+
+/// Whether the last field of a row ends with `=`.
+fn is_broken(row: &ByteRecord) -> bool {
+    text_at(row, row.len().saturating_sub(1)).ends_with('=')
 }
 
 /// Whether two ids have the same text before their numbers, and are as long as each other.

@@ -126,6 +126,18 @@ impl Known<'_> {
         }
     }
 
+    /// The rows among the first that are refused which repeat a voter's id for this reason.
+    pub fn repeated_for<R: Files>(&self, text: &Text<'_, R>, repeat: Repeat) -> Votes {
+        let mut votes = Votes::none();
+        for faulty in self.witness.refused.as_slice() {
+            let is_voter = faulty.kind() == ReadKind::RepeatedVoter;
+            if is_voter && self.repeat_of(text, faulty) == repeat {
+                votes.take(faulty.mark);
+            }
+        }
+        votes
+    }
+
     /// Whether a row is the same as the earlier one with its id.
     fn is_copy<R: Files>(&self, text: &Text<'_, R>, faulty: &FaultyRecord) -> bool {
         let Some(mark) = self.earlier(&faulty.refusal) else {

@@ -1,6 +1,6 @@
 //! What in META can change a result, and what META says that other warnings rest on.
 
-use crate::behind_vote::is_one_of;
+use crate::changed::is_one_of;
 use crate::fields::text_at;
 use crate::keys::Keys;
 use crate::mark::Mark;
@@ -17,32 +17,10 @@ use std::mem;
 const BUDGET_PER: &str = "budget_per_";
 
 /// Words in a key beside `budget` that make it no budget of a district or category.
-const NO_DISTRICT: [&str; 24] = [
-    "total",
-    "overall",
-    "whole",
-    "city",
-    "max",
-    "maximum",
-    "min",
-    "minimum",
-    "average",
-    "project",
-    "spent",
-    "used",
-    "unused",
-    "left",
-    "leftover",
-    "remaining",
-    "rest",
-    "reserve",
-    "available",
-    "previous",
-    "last",
-    "next",
-    "year",
-    "final",
-];
+const NO_DISTRICT: &str =
+    "total|overall|whole|city|max|maximum|min|minimum|average|project|spent|used|unused|left|\
+    leftover|remaining|rest|reserve|available|previous|last|next|year|final|id|phase|code|number|no|\
+    version|share|edition";
 
 /// A number of rows that a row of META says.
 #[derive(Clone, Copy)]
@@ -116,6 +94,9 @@ impl MetaOddities {
                 });
             }
             if used == MetaKey::Budget {
+                if row.len() > 2 && Money::read(text_at(row, 2)).is_ok() {
+                    found.take(Odd::of_key(Oddity::SurplusFields, mark).in_form(1).at(2));
+                }
                 self.budget = mark;
                 self.has_thousands = has_thousands_mark(value);
                 found.has_decimals |= has_decimals(value);
@@ -166,8 +147,11 @@ impl MetaOddities {
     ) {
         take_broken(Oddity::VotesMissing, self.votes, rows.0, found);
         take_broken(Oddity::ProjectsMissing, self.projects, rows.1, found);
+        let below = Odd::of_key(Oddity::BudgetBelowCosts, self.budget);
         if is_below_costs(election) {
-            found.take(Odd::of_key(Oddity::BudgetBelowCosts, self.budget));
+            found.take(below);
+        } else if let Some(sum) = sum_below_budget(election) {
+            found.take(below.in_form(1).by(sum));
         }
         match self.further {
             Some(mark) if self.has_budget_per || has_districts || self.further_count > 1 => {
@@ -181,10 +165,17 @@ impl MetaOddities {
 /// Takes a claim that is of other than so many rows.
 fn take_broken(oddity: Oddity, claim: Option<ClaimedNumber>, count: u64, found: &mut Oddities) {
     match claim {
-        Some(claim) if claim.number != Some(count) => found.take(Odd {
-            limit: claim.number,
-            ..Odd::of_key(oddity, claim.mark).by(count)
-        }),
+        Some(claim) if claim.number != Some(count) => {
+            let form = match claim.number {
+                Some(said) if said >= count => 0,
+                Some(_) => 1,
+                None => 2,
+            };
+            found.take(Odd {
+                limit: claim.number,
+                ..Odd::of_key(oddity, claim.mark).by(count).in_form(form)
+            })
+        }
         _ => {}
     }
 }
@@ -199,6 +190,16 @@ fn is_below_costs(election: &Election) -> bool {
     !election.projects().is_empty()
 }
 
+/// What all projects cost together, if there are any and it is less than a hundredth of the budget.
+fn sum_below_budget(election: &Election) -> Option<u64> {
+    let mut sum = 0u64;
+    for project in election.projects() {
+        sum = sum.saturating_add(project.cost().0);
+    }
+    let is_below = 0 < sum && sum.saturating_mul(100) < election.budget().0;
+    if is_below { Some(sum) } else { None }
+}
+
 /// Whether a key has `budget` at its start or its end.
 fn is_of_budget(key: &str) -> bool {
     let (bytes, word) = (key.as_bytes(), "budget");
@@ -210,7 +211,7 @@ fn is_of_budget(key: &str) -> bool {
 fn is_of_no_district(key: &str) -> bool {
     for word in key.split(|c: char| !c.is_alphanumeric()) {
         let is_year = matches!(whole_number(word), Some(1900..=2100));
-        if is_year || is_one_of(&NO_DISTRICT, word) {
+        if is_year || is_one_of(NO_DISTRICT, word) {
             return true;
         }
     }
@@ -255,9 +256,9 @@ pub(crate) fn whole_number(value: &str) -> Option<u64> {
     }
 }
 
-/// Whether exactly three digits stand behind an amount's mark.
+/// Whether exactly three digits stand behind an amount's mark, and at most three before it.
 pub(crate) fn has_thousands_mark(amount: &str) -> bool {
-    behind_mark(amount) == 4
+    behind_mark(amount) == 4 && amount.len() <= 7
 }
 
 /// Whether one or two digits stand behind an amount's mark.

@@ -89,6 +89,8 @@ impl Subject {
 #[derive(Clone, Copy)]
 pub struct Odd {
     pub oddity: Oddity,
+    /// Which of the ways it is in which a record can be odd so, from 0.
+    pub form: usize,
     /// Where the record begins.
     pub mark: Mark,
     /// What its row is of.
@@ -100,8 +102,7 @@ pub struct Odd {
     pub number: u64,
     /// What the number should not pass, or should be, where META says so.
     pub limit: Option<u64>,
-    /// The earlier row that it repeats, or differs from; of a row without a vote the row of column names, if
-    /// another field seems to be its vote.
+    /// The earlier row that it repeats, or differs from; of a row without a vote the row of column names.
     pub before: Option<Mark>,
 }
 
@@ -110,6 +111,7 @@ impl Odd {
     fn of(oddity: Oddity, mark: Mark, subject: Subject, places: (usize, usize)) -> Odd {
         Odd {
             oddity,
+            form: 0,
             mark,
             subject,
             id_place: places.0,
@@ -152,6 +154,11 @@ impl Odd {
     /// The same row as odd in another way.
     pub fn as_a(self, oddity: Oddity) -> Odd {
         Odd { oddity, ..self }
+    }
+
+    /// The same, odd so in this form.
+    pub fn in_form(self, form: usize) -> Odd {
+        Odd { form, ..self }
     }
 
     /// The same, odd for the value at this place.

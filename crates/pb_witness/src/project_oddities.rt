@@ -1,35 +1,24 @@
 //! What is odd in PROJECTS.
 
-use crate::behind_vote::is_one_of;
+use crate::behind_vote::names_other;
+use crate::changed::{is_decimal, is_one_of};
 use crate::fields::{column_of, text_at};
+use crate::firsts::Firsts;
 use crate::mark::Mark;
 use crate::meta_oddities::{has_decimals, has_thousands_mark, whole_number};
 use crate::oddities::{Odd, Oddities};
 use crate::valid_columns::ValidColumn;
 use csv::ByteRecord;
 use pb_core::election::Election;
-use pb_core::project::Project;
 use pb_read::{Oddity, ProjectColumns};
 use std::alloc::{AllocError, Global};
 
 /// The columns that name a part of the city.
-const DISTRICTS: [&str; 4] = ["district", "subdistrict", "neighborhood", "subunit"];
+const DISTRICTS: &str = "district|subdistrict|neighborhood|subunit";
 
 /// What a row of totals is called.
-const TOTALS: [&str; 12] = [
-    "total",
-    "totals",
-    "sum",
-    "suma",
-    "summe",
-    "razem",
-    "gesamt",
-    "insgesamt",
-    "celkem",
-    "totale",
-    "totaal",
-    "somme",
-];
+const TOTALS: &str =
+    "total|totals|sum|suma|summe|razem|gesamt|insgesamt|celkem|totale|totaal|somme|subtotal";
 
 /// The fewest projects above a last one that is their sum by its cost alone.
 const MANY: usize = 4;
@@ -78,7 +67,7 @@ impl ProjectOddities {
             votes: column_of(names, "votes"),
             selected: column_of(names, "selected"),
             has_districts: DISTRICTS
-                .iter()
+                .split('|')
                 .any(|word| column_of(names, word).is_some()),
             valid: ValidColumn::all_of(alloc, names)?,
             accepted: Vec::new(alloc),
@@ -91,6 +80,7 @@ impl ProjectOddities {
         row: &ByteRecord,
         mark: Mark,
         columns: ProjectColumns,
+        projects: &Firsts,
         found: &mut Oddities,
     ) -> Result<(), AllocError> {
         let odd = Odd::of_project(Oddity::ThousandsMark, mark, columns);
@@ -102,6 +92,13 @@ impl ProjectOddities {
         if is_long && columns.name.is_some() {
             found.take(odd.as_a(Oddity::CutName).by(self.names as u64));
         }
+        for place in 0..row.len() {
+            let value = text_at(row, place);
+            let is_list = place != columns.id && value.contains(',');
+            if is_list && names_other(value, &[], projects).is_some() {
+                found.take(odd.as_a(Oddity::CutName).in_form(1).at(place));
+            }
+        }
         for column in self.valid.iter_mut() {
             column.take(row, odd.as_a(Oddity::ValidColumn), found)?;
         }
@@ -110,7 +107,8 @@ impl ProjectOddities {
             columns,
             votes: claimed(row, self.votes),
             selected: claimed(row, self.selected),
-            is_total: is_total(row, columns),
+            is_total: has_total(text_at(row, columns.id))
+                || has_total(text_at(row, columns.name.unwrap_or(columns.id))),
             is_winner: false,
         })?;
         Ok(())
@@ -123,11 +121,14 @@ impl ProjectOddities {
         has_fault: bool,
         found: &mut Oddities,
     ) -> Result<(), AllocError> {
-        match self.accepted.last() {
-            Some(last) if last_is_sum(election.projects(), last.is_total) => {
-                found.take(last.odd(Oddity::FooterRow))
+        if let (Some(first), Some(last)) = (self.accepted.first(), self.accepted.last()) {
+            let place = self.accepted.len().saturating_sub(1);
+            let fewest = if last.is_total { 2 } else { MANY };
+            if place >= fewest && is_sum(election, place) {
+                found.take(last.odd(Oddity::FooterRow));
+            } else if place >= 2 && first.is_total && is_sum(election, 0) {
+                found.take(first.odd(Oddity::FooterRow).in_form(2));
             }
-            _ => {}
         }
         let compares = self.votes.is_some() && !has_fault;
         if !compares && !found.tells(Oddity::NoSupporter) {
@@ -143,7 +144,9 @@ impl ProjectOddities {
                 found.take(row.odd(Oddity::OverBudget));
             }
             if *number == 0 {
-                found.take(row.odd(Oddity::NoSupporter));
+                let odd = row.odd(Oddity::NoSupporter).at(row.columns.id);
+                let form = usize::from(is_shortened(project.id(), election));
+                found.take(odd.in_form(form));
             }
             match (row.votes, self.votes) {
                 (Some(votes), Some(place)) if compares && votes != Some(*number) => {
@@ -185,6 +188,12 @@ fn claimed(row: &ByteRecord, column: Option<usize>) -> Option<Option<u64>> {
     Some(whole_number(value))
 }
 
+/// Whether an id is a number with zeros at its end, and without them that of another project.
+fn is_shortened(id: &str, election: &Election) -> bool {
+    let short = id.trim_end_matches('0');
+    is_decimal(id) && short.len() < id.len() && election.has_project(short)
+}
+
 /// How many ballots approve each project.
 fn supporters_of(alloc: Global, election: &Election) -> Result<Vec<u64>, AllocError> {
     let mut counts = Vec::new(alloc);
@@ -199,28 +208,35 @@ fn supporters_of(alloc: Global, election: &Election) -> Result<Vec<u64>, AllocEr
     Ok(counts)
 }
 
-/// Whether a project's id or its name has a word for a total.
-fn is_total(row: &ByteRecord, columns: ProjectColumns) -> bool {
-    let name = columns.name.unwrap_or(columns.id);
-    for place in [columns.id, name] {
-        for word in text_at(row, place).split(|c: char| !c.is_alphanumeric()) {
-            if is_one_of(&TOTALS, word) {
-                return true;
-            }
+/// Whether a text has a word for a total.
+pub(crate) fn has_total(text: &str) -> bool {
+    for word in text.split(|c: char| !c.is_alphanumeric()) {
+        if is_one_of(TOTALS, word) {
+            return true;
         }
     }
     false
 }
 
-/// Whether the last project costs as much as all others together: of three projects or more where it is called a
-/// total, else with more above it.
-fn last_is_sum(projects: &[Project], is_total: bool) -> bool {
+/// Whether the project at this place costs as much as all others together, and no ballot approves it.
+fn is_sum(election: &Election, place: usize) -> bool {
     let mut sum = 0u64;
-    let mut last = 0u64;
-    for project in projects {
-        last = project.cost().0;
-        sum = sum.saturating_add(last);
+    for project in election.projects() {
+        sum = sum.saturating_add(project.cost().0);
     }
-    let fewest = if is_total { 2 } else { MANY };
-    projects.len() > fewest && last == sum.saturating_sub(last)
+    let cost = match election.projects().get(place) {
+        Some(project) => project.cost().0,
+        None => 0,
+    };
+    cost == sum.saturating_sub(cost) && !is_named(election, place)
+}
+
+/// Whether a ballot approves the project at this place.
+fn is_named(election: &Election, place: usize) -> bool {
+    for voter in election.voters() {
+        if voter.ballot.places().iter().any(|it| *it as usize == place) {
+            return true;
+        }
+    }
+    false
 }

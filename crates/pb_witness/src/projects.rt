@@ -1,6 +1,6 @@
 //! The rows of PROJECTS, read again for what an unknown id may mean.
 
-use crate::changed::{has_digit, is_date, is_power, plain};
+use crate::changed::{form_of, has_digit, is_date, is_digits, is_power, plain, with_digits};
 use crate::fields::{column_of, text_at};
 use crate::mark::Mark;
 use crate::records::TextRecords;
@@ -28,9 +28,19 @@ pub struct ProjectIdRow {
 pub struct Projects {
     alloc: Global,
     rows: Vec<ProjectIdRow>,
-    /// The places of the ids in plain form, and of the names in plain form.
+    /// The places of the ids in plain form, of these with digits in place of letters that look like them, and of
+    /// the names in plain form.
     alike: IdTable,
+    similar: IdTable,
+    /// The same of the ids without the letters before their number.
+    numbers: IdTable,
     names: IdTable,
+    /// The unknown ids that a name has in it, each with the place of the project.
+    mentions: IdTable,
+    /// The forms of the ids, exact and not, and the number of bytes of the longest.
+    exact: IdTable,
+    forms: IdTable,
+    longest: usize,
     /// The number of bytes of each id; 0 where they differ.
     pub(crate) length: usize,
     /// The first id that seems to be changed by a spreadsheet.
@@ -47,6 +57,12 @@ impl Projects {
             alloc,
             rows: Vec::new(alloc),
             alike: IdTable::new(alloc),
+            similar: IdTable::new(alloc),
+            numbers: IdTable::new(alloc),
+            mentions: IdTable::new(alloc),
+            exact: IdTable::new(alloc),
+            forms: IdTable::new(alloc),
+            longest: 0,
             names: IdTable::new(alloc),
             length: 0,
             changed: None,
@@ -106,9 +122,25 @@ impl Projects {
         }
         self.have_digits &= has_digit(id);
         note(self.alloc, &mut self.alike, id, place)?;
+        let similar = with_digits(self.alloc, id)?;
+        note(self.alloc, &mut self.similar, similar.as_str(), place)?;
+        let number = id.trim_start_matches(|c: char| !c.is_ascii_digit());
+        if number.len() < id.len() && is_digits(number) {
+            note(self.alloc, &mut self.numbers, number, place)?;
+        }
+        self.longest = self.longest.max(id.len());
+        let form = form_of(self.alloc, id, true)?;
+        let _ = self.exact.insert(self.alloc, form.as_str(), place)?;
+        let form = form_of(self.alloc, id, false)?;
+        let _ = self.forms.insert(self.alloc, form.as_str(), place)?;
         let name = text_at(record, name_place);
         if !name.is_empty() {
             note(self.alloc, &mut self.names, name, place)?;
+            for word in name.split(|c: char| c.is_whitespace() || "()[],;:/+".contains(c)) {
+                if witness.unknown.place(word).is_some() {
+                    let _ = self.mentions.insert(self.alloc, word, place)?;
+                }
+            }
         }
         let id = String::from_str(self.alloc, id)?;
         self.rows.push(ProjectIdRow { id, mark })?;
@@ -142,6 +174,36 @@ impl Projects {
     /// is none's.
     pub(crate) fn alike(&self, id: &str) -> Result<Option<u32>, AllocError> {
         find(self.alloc, &self.alike, id)
+    }
+
+    /// The same, but for letters that look like digits.
+    pub(crate) fn similar(&self, id: &str) -> Result<Option<u32>, AllocError> {
+        let id = with_digits(self.alloc, id)?;
+        find(self.alloc, &self.similar, id.as_str())
+    }
+
+    /// The same, but for the letters before a number; none if the id has other characters than digits.
+    pub(crate) fn numbered(&self, id: &str) -> Result<Option<u32>, AllocError> {
+        if is_digits(id) {
+            find(self.alloc, &self.numbers, id)
+        } else {
+            Ok(None)
+        }
+    }
+
+    /// The place of a project whose name has this unknown id in it.
+    pub(crate) fn mentioned(&self, id: &str) -> Option<u32> {
+        self.mentions.get(id)
+    }
+
+    /// Whether an id of a project has the form of this one, exactly or nearly.
+    pub(crate) fn has_form(&self, id: &str, is_exact: bool) -> Result<bool, AllocError> {
+        let form = form_of(self.alloc, id, is_exact)?;
+        if is_exact {
+            return Ok(self.exact.get(form.as_str()).is_some());
+        }
+        let is_short = id.len() <= self.longest.saturating_add(1);
+        Ok(is_short && self.forms.get(form.as_str()).is_some())
     }
 
     /// The place of the project that has this name; of several projects one that is none's.

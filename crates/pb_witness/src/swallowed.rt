@@ -69,7 +69,11 @@ pub(crate) fn swallows_row(
 /// votes for these projects.
 fn is_row(line: &str, part: Part, projects: &Firsts) -> bool {
     match part {
-        Part::Key => line.contains(';') && MetaKey::of(field_of(line, 0)).is_some(),
+        Part::Key if line.contains(';') => match MetaKey::of(field_of(line, 0)) {
+            None => false,
+            Some(MetaKey::VoteType) => true,
+            Some(_) => Money::read(field_of(line, 1)).is_ok(),
+        },
         Part::Project(columns) => {
             !field_of(line, columns.id).is_empty()
                 && Money::read(field_of(line, columns.cost)).is_ok()
@@ -78,7 +82,7 @@ fn is_row(line: &str, part: Part, projects: &Firsts) -> bool {
             !field_of(line, columns.voter).is_empty()
                 && is_vote(field_of(line, columns.vote), projects)
         }
-        Part::Other | Part::Head(_) | Part::Names(_) => false,
+        _ => false,
     }
 }
 

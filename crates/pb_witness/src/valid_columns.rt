@@ -1,58 +1,30 @@
 //! Columns that say which rows are valid, and that no count reads.
 
-use crate::behind_vote::is_one_of;
+use crate::changed::{has_word, is_one_of};
 use crate::fields::{column_of, text_at};
 use crate::mark::Mark;
-use crate::oddities::{Odd, Oddities};
+use crate::oddities::{Odd, Oddities, Subject};
 use csv::ByteRecord;
 use std::alloc::{AllocError, Global};
 
 /// What such columns are called.
-pub const VALID: [&str; 8] = [
-    "valid",
-    "is_valid",
-    "invalid",
-    "accepted",
-    "status",
-    "withdrawn",
-    "cancelled",
-    "deleted",
-];
+pub const VALID: &str =
+    "valid|is_valid|invalid|accepted|status|withdrawn|cancelled|deleted|duplicate|counted|finished|\
+    completed|wazny|ważny|gueltig|gültig|platny|platný|geldig|valide|remark|remarks|comment|\
+    comments|note|notes";
 
-/// The column that may say something else, too.
-const STATUS: &str = "status";
+/// How many of them say nothing else: the others have remarks.
+const STATED: usize = 20;
+
+/// What a remark says of a vote that should not count.
+const REMARKS: &str =
+    "invalid|not valid|not count|not a resident|duplicate|voted twice|annulled|cancelled|ineligible";
 
 /// What it says of rows that count, or do not.
-const STATES: [&str; 28] = [
-    "valid",
-    "invalid",
-    "yes",
-    "no",
-    "1",
-    "0",
-    "true",
-    "false",
-    "accepted",
-    "rejected",
-    "refused",
-    "approved",
-    "withdrawn",
-    "cancelled",
-    "canceled",
-    "deleted",
-    "removed",
-    "counted",
-    "not counted",
-    "void",
-    "ok",
-    "eligible",
-    "ineligible",
-    "disqualified",
-    "duplicate",
-    "blank",
-    "spoiled",
-    "spoilt",
-];
+const STATES: &str =
+    "valid|invalid|yes|no|1|0|true|false|accepted|rejected|refused|approved|withdrawn|cancelled|\
+    canceled|deleted|removed|counted|not counted|void|ok|eligible|ineligible|disqualified|duplicate|\
+    blank|spoiled|spoilt|tak|nie|ja|nein|oui|non|si|ano|ne|nee|y|n|t|f|x";
 
 /// A column that says which rows are valid.
 #[derive(Drop)]
@@ -74,7 +46,7 @@ impl ValidColumn {
         names: &ByteRecord,
     ) -> Result<Vec<ValidColumn>, AllocError> {
         let mut columns = Vec::new(alloc);
-        for (name, word) in VALID.iter().enumerate() {
+        for (name, word) in VALID.split('|').enumerate() {
             if let Some(place) = column_of(names, word) {
                 columns.push(ValidColumn {
                     name,
@@ -96,14 +68,21 @@ impl ValidColumn {
         found: &mut Oddities,
     ) -> Result<(), AllocError> {
         let value = text_at(row, self.place);
-        if self.first.is_none() {
+        let odd = odd.at(self.place).by(self.name as u64);
+        if self.name >= STATED {
+            let says = REMARKS.split('|').any(|word| has_word(value, word));
+            if says && !self.differs && odd.subject == Subject::Voter {
+                self.differs = true;
+                found.take(odd.in_form(2));
+            }
+        } else if self.first.is_none() {
             self.first = Some(odd.mark);
             self.value.push_str(value)?;
         } else if !self.differs && self.is_other(value) {
             self.differs = true;
             found.take(Odd {
                 before: self.first,
-                ..odd.at(self.place).by(self.name as u64)
+                ..odd
             });
         }
         Ok(())
@@ -112,8 +91,10 @@ impl ValidColumn {
     /// Whether a value says something else of a row than the section's first row has.
     fn is_other(&self, value: &str) -> bool {
         let first = self.value.as_str();
-        let name = VALID.get(self.name).copied().unwrap_or("");
-        let is_state = name != STATUS || is_one_of(&STATES, value) || is_one_of(&STATES, first);
-        is_state && !value.eq_ignore_ascii_case(first)
+        let is_state = is_one_of(STATES, value) || is_one_of(STATES, first);
+        let name = VALID.split('|').nth(self.name).unwrap_or("");
+        let says_more = matches!(name, "status" | "accepted" | "finished" | "completed");
+        let is_mark = !says_more && value.is_empty() != first.is_empty();
+        (is_state || is_mark) && !value.eq_ignore_ascii_case(first)
     }
 }

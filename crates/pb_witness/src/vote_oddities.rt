@@ -1,18 +1,28 @@
 //! What is odd in VOTES.
 
-use crate::behind_vote::{BehindVote, stray_vote};
+use crate::behind_vote::BehindVote;
+use crate::changed::without_hidden;
 use crate::fields::{bytes_at, column_of, text_at};
 use crate::firsts::Firsts;
 use crate::mark::Mark;
 use crate::oddities::{Odd, Oddities};
+use crate::project_oddities::has_total;
 use crate::valid_columns::ValidColumn;
 use csv::ByteRecord;
 use pb_core::election::Election;
+use pb_core::money::Money;
+use pb_ids::IdTable;
 use pb_read::{Oddity, VoteColumns};
 use std::alloc::{AllocError, Global};
 
-/// The columns of VOTES that give points.
-const POINTS: [&str; 2] = ["points", "score"];
+/// The columns of VOTES whose numbers no count reads: those of points, and then those that say how many ballots
+/// a row is.
+pub(crate) const NUMBERS: &str =
+    "points|score|weight|weights|count|ballots|ballot_count|num_ballots|number_of_ballots|\
+    number_of_votes|voters|quantity|times";
+
+/// How many of them give points.
+const POINTS: usize = 2;
 
 /// A row of VOTES that is accepted.
 #[derive(Clone, Copy)]
@@ -35,6 +45,23 @@ impl VoteRow<'_> {
     }
 }
 
+/// A column whose numbers no count reads.
+#[derive(Clone, Copy)]
+struct NumberColumn {
+    place: usize,
+    /// 0 for points, 1 for a number of ballots.
+    form: usize,
+    /// Whether no row had such a number yet.
+    is_open: bool,
+}
+
+/// A voter whose id has a character at an end that can't be seen: the place among the voters, and the row.
+#[derive(Clone, Copy)]
+struct MarkedVoter {
+    place: usize,
+    odd: Odd,
+}
+
 /// What is odd in VOTES, as its rows are read.
 #[derive(Drop)]
 pub(crate) struct VoteOddities {
@@ -42,17 +69,18 @@ pub(crate) struct VoteOddities {
     /// Where the row of column names begins, and how many there are.
     header: Mark,
     pub(crate) names: usize,
-    /// The places of the columns that give points, until a row has some.
-    points: [Option<usize>; 2],
+    numbers: Vec<NumberColumn>,
     valid: Vec<ValidColumn>,
     behind: BehindVote,
     /// Whether there are columns of these three kinds.
     has_further: bool,
+    marked: Vec<MarkedVoter>,
     /// How many ballots approve nothing, and how many of them come behind the last that approves something.
     empty: u64,
     last_empty: u64,
-    /// The first of these last ones.
+    /// The first of these last ones, and the first whose id looks like a note, with how many there are.
     first_empty: Option<Odd>,
+    first_note: Option<Odd>,
 }
 
 impl VoteOddities {
@@ -62,22 +90,32 @@ impl VoteOddities {
         names: &ByteRecord,
         header: Mark,
     ) -> Result<VoteOddities, AllocError> {
-        let points = [column_of(names, POINTS[0]), column_of(names, POINTS[1])];
+        let mut numbers = Vec::new(alloc);
+        for (kind, name) in NUMBERS.split('|').enumerate() {
+            if let Some(place) = column_of(names, name) {
+                numbers.push(NumberColumn {
+                    place,
+                    form: if kind < POINTS { 0 } else { 1 },
+                    is_open: true,
+                })?;
+            }
+        }
         let valid = ValidColumn::all_of(alloc, names)?;
         let behind = BehindVote::of(alloc, names)?;
-        let has_points = points[0].is_some() || points[1].is_some();
-        let has_further = has_points || !valid.is_empty() || !behind.is_empty();
+        let has_further = !numbers.is_empty() || !valid.is_empty() || !behind.is_empty();
         Ok(VoteOddities {
             alloc,
             header,
             names: names.len(),
-            points,
+            numbers,
             valid,
             behind,
             has_further,
+            marked: Vec::new(alloc),
             empty: 0,
             last_empty: 0,
             first_empty: None,
+            first_note: None,
         })
     }
 
@@ -92,6 +130,12 @@ impl VoteOddities {
         if names_twice(row.record, row.columns.vote, ballot.len()) {
             found.take(row.odd(Oddity::TwiceInVote));
         }
+        if is_marked(text_at(row.record, row.columns.voter)) {
+            self.marked.push(MarkedVoter {
+                place: row.election.voters().len().saturating_sub(1),
+                odd: row.odd(Oddity::TwiceInVote).in_form(1),
+            })?;
+        }
         if self.has_further || row.record.len() > self.names {
             self.take_further(row, ballot, found)?;
         }
@@ -105,14 +149,24 @@ impl VoteOddities {
         ballot: &[u32],
         found: &mut Oddities,
     ) -> Result<(), AllocError> {
-        let odd = row.odd(Oddity::IdBehindVote);
+        let odd = Odd {
+            before: Some(self.header),
+            ..row.odd(Oddity::IdBehindVote)
+        };
         self.behind.take(row.record, odd, ballot, row.projects);
         if row.record.len() > self.names {
             found.take(odd.as_a(Oddity::SurplusFields).by(self.names as u64));
         }
-        self.take_points(row.record, found);
+        for column in self.numbers.iter_mut() {
+            let value = text_at(row.record, column.place);
+            if column.is_open && column.has_number(value, ballot.len() as u64) {
+                column.is_open = false;
+                let odd = Odd::of_column(Oddity::VotesWithPoints, self.header, column.place);
+                found.take(odd.in_form(column.form));
+            }
+        }
         for column in self.valid.iter_mut() {
-            column.take(row.record, odd.as_a(Oddity::ValidColumn), found)?;
+            column.take(row.record, odd.as_a(Oddity::ValidColumn).in_form(1), found)?;
         }
         Ok(())
     }
@@ -128,7 +182,7 @@ impl VoteOddities {
         let limit = row.min_length;
         let mut odd = row.odd(Oddity::EmptyBallot).by(length);
         if length == 0 {
-            self.find_stray(row, &mut odd);
+            odd = self.behind.with_stray(row, odd, self.header);
         }
         if length < limit.unwrap_or(0) {
             found.take(Odd {
@@ -136,13 +190,20 @@ impl VoteOddities {
                 ..odd.as_a(Oddity::TooShortBallot)
             });
         }
-        if length > 0 {
+        if length == 0 {
+            found.take(odd);
+            self.take_empty(row, odd);
+        } else {
             self.last_empty = 0;
-            return;
         }
-        found.take(odd);
+    }
+
+    /// Takes a row without a vote, which may be a note if it has an id alone, or one like a note.
+    fn take_empty(&mut self, row: VoteRow<'_>, odd: Odd) {
+        let id = text_at(row.record, row.columns.voter);
         self.empty = self.empty.saturating_add(1);
-        if odd.before.is_some() {
+        let is_note = has_space(id) || has_total(id);
+        if odd.form > 0 || (!is_note && has_beside(row.record, row.columns.voter)) {
             self.last_empty = 0;
             return;
         }
@@ -150,43 +211,72 @@ impl VoteOddities {
         if self.last_empty == 1 {
             self.first_empty = Some(odd);
         }
-    }
-
-    /// Finds the field of a row without a vote that seems to be its vote, which then is spoken of, with the row
-    /// of column names.
-    fn find_stray(&self, row: VoteRow<'_>, odd: &mut Odd) {
-        let but = (row.columns.voter, row.columns.vote);
-        if let Some(place) = stray_vote(row.record, but, row.projects) {
-            odd.before = Some(self.header);
-            odd.value_place = place;
+        if is_note {
+            let first = self.first_note.unwrap_or(odd);
+            self.first_note = Some(first.by(first.number.saturating_add(1)));
         }
     }
 
-    /// Takes the columns that give points, where this is the first row that has some.
-    fn take_points(&mut self, row: &ByteRecord, found: &mut Oddities) {
-        for column in self.points.iter_mut() {
-            if let Some(place) = *column {
-                if has_points(text_at(row, place)) {
-                    *column = None;
-                    found.take(Odd::of_column(Oddity::VotesWithPoints, self.header, place));
-                }
+    /// Takes the end of the file, whose accepted rows give this election.
+    pub(crate) fn end(&self, election: &Election, found: &mut Oddities) -> Result<(), AllocError> {
+        let voters = election.voters().len() as u64;
+        let are_last = self.last_empty == self.empty;
+        if let (Some(odd), true) = (self.first_empty, are_last) {
+            if self.empty == 1 {
+                found.take(odd.as_a(Oddity::FooterRow).in_form(1));
+            } else if self.empty < voters {
+                found.take(odd.as_a(Oddity::NoteRows).by(self.empty));
             }
         }
+        if let (Some(odd), false) = (self.first_note, are_last) {
+            if !have_spaces(election) {
+                found.take(odd.as_a(Oddity::NoteRows).in_form(1));
+            }
+        }
+        self.behind.end(self.alloc, found)?;
+        self.take_marked(election, found)
     }
 
-    /// Takes the end of a file with so many accepted rows of VOTES.
-    pub(crate) fn end(&self, voters: u64, found: &mut Oddities) -> Result<(), AllocError> {
-        match self.first_empty {
-            Some(odd) if self.last_empty == self.empty => {
-                if self.empty == 1 {
-                    found.take(odd.as_a(Oddity::FooterRow));
-                } else if self.empty < voters {
-                    found.take(odd.as_a(Oddity::NoteRows).by(self.empty));
-                }
-            }
-            _ => {}
+    /// Takes the rows of voters who are there twice but for a character that can't be seen.
+    fn take_marked(&self, election: &Election, found: &mut Oddities) -> Result<(), AllocError> {
+        if self.marked.is_empty() {
+            return Ok(());
         }
-        self.behind.end(self.alloc, found)
+        let mut ids = IdTable::new(self.alloc);
+        for voter in election.voters() {
+            if !is_marked(voter.id.text()) {
+                let _ = ids.insert(self.alloc, voter.id.text(), 0)?;
+            }
+        }
+        for marked in &self.marked {
+            let id = match election.voters().get(marked.place) {
+                Some(voter) => without_hidden(voter.id.text()),
+                None => "",
+            };
+            if ids.insert(self.alloc, id, 0)?.is_some() {
+                found.take(marked.odd);
+            }
+        }
+        drop(ids);
+        Ok(())
+    }
+}
+
+impl NumberColumn {
+    /// Whether a value of a row whose vote approves so many projects says what no count reads: that not each
+    /// project has one point, or that the row is not one ballot.
+    fn has_number(&self, value: &str, length: u64) -> bool {
+        if self.form == 0 {
+            return value
+                .split(',')
+                .any(|piece| !matches!(piece.trim(), "" | "1"));
+        }
+        match Money::read(value) {
+            Ok(Money(hundredths)) => {
+                hundredths != 100 && hundredths != length.saturating_mul(100)
+            }
+            Err(_) => false,
+        }
     }
 }
 
@@ -213,11 +303,28 @@ fn names_twice(row: &ByteRecord, vote: usize, length: usize) -> bool {
     pieces.filter(|piece| !piece.trim().is_empty()).count() > length
 }
 
-/// Whether a text says that not each project has one point.
-fn has_points(text: &str) -> bool {
-    for piece in text.split(',') {
-        let piece = piece.trim();
-        if !piece.is_empty() && piece != "1" {
+/// Whether an id has a character at an end that can't be seen, and is not of ASCII.
+fn is_marked(id: &str) -> bool {
+    let bytes = id.as_bytes();
+    let is_foreign = |byte: Option<&u8>| byte.map_or(false, |byte| !byte.is_ascii());
+    let has_some = is_foreign(bytes.first()) || is_foreign(bytes.last());
+    has_some && without_hidden(id).len() < id.len()
+}
+
+/// Whether a row has a text beside that at this place.
+fn has_beside(row: &ByteRecord, place: usize) -> bool {
+    (0..row.len()).any(|other| other != place && !text_at(row, other).is_empty())
+}
+
+/// Whether a text has white space in it.
+fn has_space(text: &str) -> bool {
+    text.contains(|c: char| c.is_whitespace())
+}
+
+/// Whether the id of a voter with a vote has white space in it.
+fn have_spaces(election: &Election) -> bool {
+    for voter in election.voters() {
+        if !voter.ballot.places().is_empty() && has_space(voter.id.text()) {
             return true;
         }
     }

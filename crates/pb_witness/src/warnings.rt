@@ -14,7 +14,8 @@ use csv::ByteRecord;
 use pb_core::election::Election;
 use pb_core::no_memory::NoMemory;
 use pb_read::{
-    Column, Compare, Heed, Oddity, Part, Refusal, Section, Stage, Warn, Warning, WarningRow, Watch,
+    Column, Compare, Heed, MetaKey, Oddity, Part, Refusal, Section, Stage, Warn, Warning,
+    WarningRow, Watch,
 };
 use std::alloc::{AllocError, Global};
 
@@ -106,7 +107,9 @@ impl Warnings {
             Part::Project(columns) => {
                 self.rows.1 = self.rows.1.saturating_add(1);
                 match &mut self.projects {
-                    Some(projects) => projects.take(row, mark, columns, found),
+                    Some(projects) => {
+                        projects.take(row, mark, columns, &self.witness.ids.projects, found)
+                    }
                     None => Ok(()),
                 }
             }
@@ -146,7 +149,11 @@ impl Warnings {
     ) -> Result<(), AllocError> {
         let found = &mut self.found;
         match section {
-            Section::Meta => {}
+            Section::Meta => {
+                if MetaKey::of(text_at(names, 0)).is_some() {
+                    found.take(Odd::of_key(Oddity::SwallowedRows, mark).in_form(1));
+                }
+            }
             Section::Projects => {
                 self.meta.end_meta(found);
                 take_repeated(names, mark, [Column::ProjectId, Column::Cost], found);
@@ -171,7 +178,7 @@ impl Warnings {
             projects.end(election, self.has_fault, found)?;
         }
         match &self.votes {
-            Some(votes) => votes.end(election.voters().len() as u64, found),
+            Some(votes) => votes.end(election, found),
             None => Ok(()),
         }
     }
@@ -179,19 +186,28 @@ impl Warnings {
 
 /// Takes a row of column names, which is odd for each of these that stands in it twice.
 fn take_repeated(row: &ByteRecord, mark: Mark, needed: [Column; 2], found: &mut Oddities) {
+    let (_, ids) = places_of(row, needed[0]);
+    let (_, others) = places_of(row, needed[1]);
+    let are_beside = needed[0] == Column::VoterId && ids > 1 && others > 1;
     for column in needed {
-        let mut last = 0usize;
-        let mut count = 0u64;
-        for place in 0..row.len() {
-            if text_at(row, place).eq_ignore_ascii_case(column.name()) {
-                last = place;
-                count = count.saturating_add(1);
-            }
-        }
+        let (last, count) = places_of(row, column);
         if count > 1 {
-            found.take(Odd::of_column(Oddity::RepeatedColumn, mark, last).by(count));
+            let odd = Odd::of_column(Oddity::RepeatedColumn, mark, last).by(count);
+            found.take(odd.in_form(usize::from(are_beside)));
         }
     }
+}
+
+/// The last place of a column's name, and how often it stands in a row.
+pub(crate) fn places_of(row: &ByteRecord, column: Column) -> (usize, u64) {
+    let (mut last, mut count) = (0usize, 0u64);
+    for place in 0..row.len() {
+        if text_at(row, place).eq_ignore_ascii_case(column.name()) {
+            last = place;
+            count = count.saturating_add(1);
+        }
+    }
+    (last, count)
 }
 
 impl Watch for Warnings {

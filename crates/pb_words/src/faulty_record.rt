@@ -11,6 +11,7 @@ use pb_witness::faulty_record::FaultyRecord;
 use pb_witness::fields::{bytes_at, column_of, place_of_no_text, text_at};
 use pb_witness::heads::{head_of, section_of};
 use pb_witness::ids::Ids;
+use std::alloc::Global;
 
 /// What to do about the column names of VOTES among the projects.
 const NO_VOTES: &str = "Write the heading VOTES on a line above them.\n";
@@ -54,6 +55,9 @@ const ALONE: &str =
 
 const TOO_SHORT: &str = "Complete the row, or delete it if it does not belong here.\n";
 
+/// So many column names are shown.
+const MOST_NAMES: usize = 12;
+
 /// What things are called where a record stands.
 fn names(faulty: &FaultyRecord) -> &'static Names {
     names_of(section_of(&faulty.stage))
@@ -96,7 +100,7 @@ pub(crate) fn remedy_of(faulty: &FaultyRecord, ids: &Ids) -> Option<&'static str
 }
 
 /// Puts what is wrong with a record by itself.
-pub(crate) fn put_what(out: &mut WordsWriter, faulty: &FaultyRecord) {
+pub(crate) fn put_what(out: &mut WordsWriter, alloc: Global, faulty: &FaultyRecord) {
     let first = text_at(&faulty.record, 0);
     match faulty.kind() {
         ReadKind::NotText => put_no_text(out, faulty),
@@ -115,7 +119,7 @@ pub(crate) fn put_what(out: &mut WordsWriter, faulty: &FaultyRecord) {
             out.fill(": {} begins another section, but ", &[Quoted(first)]);
             out.fill(NO_NAMES, &[Own(head_of(section_of(&faulty.stage)))])
         }
-        ReadKind::MissingColumn => put_no_column(out, faulty),
+        ReadKind::MissingColumn => put_no_column(out, alloc, faulty),
         ReadKind::MissingField => put_short(out, faulty),
         _ if faulty.refusal.column.is_some() => put_value(out, faulty),
         kind => out.fill(": {}.\n", &[Own(words_of(kind).0)]),
@@ -131,7 +135,8 @@ fn put_no_text(out: &mut WordsWriter, faulty: &FaultyRecord) {
     )
 }
 
-fn put_no_column(out: &mut WordsWriter, faulty: &FaultyRecord) {
+/// Puts which column is missing, which names are there, and which of them seems to be it.
+fn put_no_column(out: &mut WordsWriter, alloc: Global, faulty: &FaultyRecord) {
     let section = section_of(&faulty.stage);
     if let Some(separators) = faulty.separators() {
         return out.fill(
@@ -140,13 +145,23 @@ fn put_no_column(out: &mut WordsWriter, faulty: &FaultyRecord) {
         );
     }
     let has_id = column_of(&faulty.record, missing(section, false)).is_some();
-    out.fill(
-        ": the row of column names has no column `{}`; it begins with {}.\n",
-        &[
-            Own(missing(section, has_id)),
-            Quoted(text_at(&faulty.record, 0)),
-        ],
-    )
+    let column = missing(section, has_id);
+    out.fill(": there is no column `{}`. The names are", &[Own(column)]);
+    for place in 0..faulty.record.len().min(MOST_NAMES) {
+        let before = if place == 0 { " " } else { ", " };
+        let name = text_at(&faulty.record, place);
+        out.fill("{}{}", &[Own(before), Quoted(name)]);
+    }
+    let is_cut = faulty.record.len() > MOST_NAMES;
+    out.put(if is_cut { ", and others.\n" } else { ".\n" });
+    match faulty.nearly(alloc, column) {
+        Ok(Some(place)) => out.fill(
+            "If {} is this column, write `{}` in its place.\n",
+            &[Quoted(text_at(&faulty.record, place)), Own(column)],
+        ),
+        Ok(None) => {}
+        Err(_) => out.fail(),
+    }
 }
 
 fn put_short(out: &mut WordsWriter, faulty: &FaultyRecord) {

@@ -1,18 +1,15 @@
 //! What is said of each fault of a .pb file: what is wrong, and what to do.
 
 use crate::meta_words::ONE_CHOICE;
-use crate::read_texts::{
-    BAD_LENGTH, BAD_MONEY, EMPTY_ID, MISSING_COLUMN, MISSING_FIELD, MISSING_KEY, MONEY_TOO_FINE,
-    MONEY_TOO_LARGE, NO_HEADER, NO_MEMORY, NO_SECTION, NOT_TEXT, READ_FAILED, REPEATED_PROJECT,
-    REPEATED_VOTER, SECTION_ORDER, TOO_MANY_PROJECTS, TOO_MANY_RECORDS, TOO_MANY_VOTERS,
-    UNKNOWN_PROJECT, VOTE_TYPE, ZERO_COST,
-};
+use crate::read_texts::RULES;
 use crate::unknown_words::DROP_ZERO_COST;
 use crate::words::PlaceholderValue::Quoted;
 use crate::words::WordsWriter;
 use pb_core::money::Money;
 use pb_read::ReadKind;
-use pb_witness::changed::{has_power, is_calculation, is_grouped, is_nothing, without_hidden};
+use pb_witness::changed::{
+    has_power, is_calculation, is_grouped, is_nothing, is_one_of, without_hidden,
+};
 
 /// What to do about an amount that seems to be worked out.
 const CALCULATION: &str =
@@ -22,12 +19,33 @@ const CALCULATION: &str =
 const POWER: &str =
     "Spreadsheets shorten numbers like this, and digits may be lost. Get the amount again, and write it with digits only, like `1200` or `1200.50`.\n";
 
+/// What to do about an amount with a word for thousands or millions, and about one with a mark of a footnote.
+const SHORT_WORDS: &str = "k|t|m|tys|tys.|tsd|tsd.|mln|mio|mio.|thousand|million";
+
+const SHORT_WORD: &str =
+    "If this stands for thousands or millions, write the amount in full, with digits only, like `1200` or `1200.50`.\n";
+
+const NO_VALUE: &str =
+    "A spreadsheet writes this where a column is too narrow, or a formula is wrong. Get the amount again.\n";
+
+const FOOTNOTE: &str =
+    "If a mark of a footnote is behind the amount, leave it out. Write the amount with digits only, like `1200` or `1200.50`.\n";
+
 /// What to do about an amount, where more is known than that it is refused.
 pub(crate) fn amount_remedy(value: &str) -> Option<&'static str> {
-    if is_calculation(value) {
+    let unit = value.trim_start_matches(|c: char| c.is_ascii_digit() || " .,".contains(c));
+    let is_noted = value.starts_with(|c: char| c.is_ascii_digit())
+        && unit.ends_with(|c: char| ")*\u{b9}\u{b2}\u{b3}".contains(c));
+    if value.starts_with('#') {
+        Some(NO_VALUE)
+    } else if is_calculation(value) {
         Some(CALCULATION)
     } else if has_power(value) {
         Some(POWER)
+    } else if is_one_of(SHORT_WORDS, unit) {
+        Some(SHORT_WORD)
+    } else if is_noted {
+        Some(FOOTNOTE)
     } else {
         None
     }
@@ -75,29 +93,6 @@ fn is_hidden_amount(value: &str) -> bool {
 /// What is wrong by this fault, where no more is known, and what to do, which is the second line of each
 /// text.
 pub(crate) fn words_of(kind: ReadKind) -> (&'static str, &'static str) {
-    let rule = match kind {
-        ReadKind::ReadFailed => READ_FAILED,
-        ReadKind::NotText => NOT_TEXT,
-        ReadKind::TooManyRecords => TOO_MANY_RECORDS,
-        ReadKind::NoSection => NO_SECTION,
-        ReadKind::SectionOrder => SECTION_ORDER,
-        ReadKind::NoHeader => NO_HEADER,
-        ReadKind::MissingColumn => MISSING_COLUMN,
-        ReadKind::MissingField => MISSING_FIELD,
-        ReadKind::MissingKey => MISSING_KEY,
-        ReadKind::VoteType => VOTE_TYPE,
-        ReadKind::BadMoney => BAD_MONEY,
-        ReadKind::MoneyTooFine => MONEY_TOO_FINE,
-        ReadKind::MoneyTooLarge => MONEY_TOO_LARGE,
-        ReadKind::ZeroCost => ZERO_COST,
-        ReadKind::EmptyId => EMPTY_ID,
-        ReadKind::RepeatedProject => REPEATED_PROJECT,
-        ReadKind::RepeatedVoter => REPEATED_VOTER,
-        ReadKind::UnknownProject => UNKNOWN_PROJECT,
-        ReadKind::TooManyProjects => TOO_MANY_PROJECTS,
-        ReadKind::TooManyVoters => TOO_MANY_VOTERS,
-        ReadKind::NoMemory => NO_MEMORY,
-        ReadKind::BadLength => BAD_LENGTH,
-    };
+    let rule = RULES.get(kind as usize).copied().unwrap_or("");
     rule.split_once(".\n").unwrap_or((rule, ""))
 }

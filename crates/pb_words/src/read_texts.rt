@@ -1,76 +1,57 @@
 //! What is said of each fault of a .pb file, where no more is known: what is wrong, and on further lines what to do.
+//! They are in the order in which `ReadKind` declares the faults.
 
-pub(crate) const READ_FAILED: &str = "the file could not be read to its end.
-Check the disk or the connection, then run again.\n";
-
-pub(crate) const NOT_TEXT: &str = "a field is not UTF-8 text.
-Save the file again with the encoding UTF-8.\n";
-
-pub(crate) const TOO_MANY_RECORDS: &str = "this is row 2,000,001.
+pub(crate) const RULES: [&str; 22] = [
+    "the file could not be read to its end.
+Check the disk or the connection, then run again.\n",
+    "a field is not UTF-8 text.
+Save the file again with the encoding UTF-8.\n",
+    "this is row 2,000,001.
 Delete rows that are not needed, such as empty ones: a file with more than 2,000,000 rows can't be \
-    counted.\n";
-
-pub(crate) const NO_SECTION: &str = "a section is missing.
-A .pb file has the sections META, PROJECTS and VOTES. Get the whole file again, or add what is missing.\n";
-
-pub(crate) const SECTION_ORDER: &str = "a section comes too early, or a second time.
+    counted.\n",
+    "a section is missing.
+A .pb file has the sections META, PROJECTS and VOTES. Get the whole file again, or add what is missing.\n",
+    "a section comes too early, or a second time.
 The sections are META, PROJECTS and VOTES, in this order and each once. Correct the order. If a heading is \
-    missing or misspelled, write it.\n";
-
-pub(crate) const NO_HEADER: &str = "a section has no row of column names.
-Add the row of column names below the section's heading.\n";
-
-pub(crate) const MISSING_COLUMN: &str = "a needed column is missing in the row of column names.
-PROJECTS needs the columns `project_id` and `cost`; VOTES needs `voter_id` and `vote`.\n";
-
-pub(crate) const MISSING_FIELD: &str = "the row has no field for a needed column.
+    missing or misspelled, write it.\n",
+    "a section has no row of column names.
+Add the row of column names below the section's heading.\n",
+    "a needed column is missing in the row of column names.
+PROJECTS needs the columns `project_id` and `cost`; VOTES needs `voter_id` and `vote`.\n",
+    "the row has no field for a needed column.
 Complete the row, or delete it if it does not belong here. If a voter approves no project, leave the field \
-    empty, but keep its `;`.\n";
-
-pub(crate) const MISSING_KEY: &str = "META has no row for `budget`, or none for `vote_type`.
+    empty, but keep its `;`.\n",
+    "META has no row for `budget`, or none for `vote_type`.
 Add the row that is missing: `budget;AMOUNT`, or `vote_type;approval` (only if the votes are approval \
-    votes).\n";
-
-pub(crate) const VOTE_TYPE: &str = "the vote type is not `approval`.
+    votes).\n",
+    "the vote type is not `approval`.
 If voters only tick projects, without ranks or points, write `vote_type;approval`. If not, this program \
-    can't count the file.\n";
-
-pub(crate) const BAD_MONEY: &str = "an amount is missing, or is not one that the program can read.
+    can't count the file.\n",
+    "an amount is missing, or is not one that the program can read.
 Write the amount with digits only, like `1200` or `1200.50`: no currency, no minus sign, nothing between \
-    thousands.\n";
-
-pub(crate) const MONEY_TOO_FINE: &str = "an amount has more than two decimals.
-If the point or comma separates thousands, delete it. If not, round the amount to two decimals.\n";
-
-pub(crate) const MONEY_TOO_LARGE: &str =
+    thousands.\n",
+    "an amount has more than two decimals.
+If the point or comma separates thousands, delete it. If not, round the amount to two decimals.\n",
     "an amount is more than 10,000,000,000,000.00, the largest that the \
     program takes.
-Check whether the amount has too many digits.\n";
-
-pub(crate) const ZERO_COST: &str = "a project's cost is 0, but every project must cost something.
-Write the project's cost. If the project was withdrawn, delete its row, and take its id out of the votes.\n";
-
-pub(crate) const EMPTY_ID: &str = "an id is empty.
-Fill in the id, or delete the row if it is a total or a note.\n";
-
-pub(crate) const REPEATED_PROJECT: &str = "an earlier row has the same project id.
-Find out whether the rows are one project or two. Two projects need two ids, also in the votes.\n";
-
-pub(crate) const REPEATED_VOTER: &str = "an earlier row has the same voter id.
-Find out whether the rows are one ballot, those of different people, or which of them is valid.\n";
-
-pub(crate) const UNKNOWN_PROJECT: &str = "the vote names an id that no project has.
+Check whether the amount has too many digits.\n",
+    "a project's cost is 0, but every project must cost something.
+Write the project's cost. If the project was withdrawn, delete its row, and take its id out of the votes.\n",
+    "an id is empty.
+Fill in the id, or delete the row if it is a total or a note.\n",
+    "an earlier row has the same project id.
+Find out whether the rows are one project or two. Two projects need two ids, also in the votes.\n",
+    "an earlier row has the same voter id.
+Find out whether the rows are one ballot, those of different people, or which of them is valid.\n",
+    "the vote names an id that no project has.
 If the project was withdrawn, take its id out of the votes. If not, ask whoever made the file which \
-    project is meant.\n";
-
-pub(crate) const TOO_MANY_PROJECTS: &str = "this is project row 10,001.
-A file with more than 10,000 projects can't be counted.\n";
-
-pub(crate) const TOO_MANY_VOTERS: &str = "this is vote row 1,000,001.
-A file with more than 1,000,000 voters can't be counted.\n";
-
-pub(crate) const NO_MEMORY: &str = "memory ran out.
-Run again on a machine with more memory.\n";
-
-pub(crate) const BAD_LENGTH: &str = "`max_length` is not a whole number in digits.
-Write `max_length` in digits, or leave its value empty.\n";
+    project is meant.\n",
+    "this is project row 10,001.
+A file with more than 10,000 projects can't be counted.\n",
+    "this is vote row 1,000,001.
+A file with more than 1,000,000 voters can't be counted.\n",
+    "memory ran out.
+Run again on a machine with more memory.\n",
+    "`max_length` is not a whole number in digits.
+Write `max_length` in digits, or leave its value empty.\n",
+];

@@ -92,7 +92,10 @@ fn put_each_fault<R: Files>(
 ) {
     let can_be_read = text.is_file();
     let mut names_row = false;
-    let mut told = [false; Repeat::COUNT];
+    let mut told = Told {
+        repeats: [false; Repeat::COUNT],
+        mail: false,
+    };
     for (place, fault) in faults.iter().enumerate() {
         match known.witness.refused.get(place) {
             Some(refused) if refused.refusal.fault == *fault => {
@@ -113,19 +116,32 @@ fn put_each_fault<R: Files>(
     }
 }
 
+/// For which causes words have been put.
+#[derive(Clone, Copy)]
+struct Told {
+    repeats: [bool; Repeat::COUNT],
+    /// Whether it was said that an e-mail program broke lines.
+    mail: bool,
+}
+
 /// Whether words for the cause of a record's fault have been put. If not, they will be put now.
 fn is_told<R: Files>(
     text: &Text<R>,
     known: &Known,
     faulty: &FaultyRecord,
-    told: &mut [bool; Repeat::COUNT],
+    told: &mut Told,
 ) -> bool {
     match faulty.kind() {
         ReadKind::UnknownProject => is_vote_told(known, faulty),
         ReadKind::RepeatedVoter => {
             let repeat = known.repeat_of(text, faulty);
-            let was_told = told[repeat as usize];
-            told[repeat as usize] = repeat.is_shared();
+            let was_told = told.repeats[repeat as usize];
+            told.repeats[repeat as usize] = repeat.is_shared() || text.is_file();
+            was_told
+        }
+        _ if faulty.is_of_mail(text) => {
+            let was_told = told.mail;
+            told.mail = true;
             was_told
         }
         _ => false,

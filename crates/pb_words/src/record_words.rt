@@ -12,13 +12,13 @@ use crate::meta_words::{
 use crate::read_rules::words_of;
 use crate::repeated_words::put_repeated;
 use crate::section::{due_at_end, end_remedy};
-use crate::unknown_words::{LATE_PROJECT, put_clean, put_unknown};
+use crate::unknown_words::{LATE_PROJECT, is_cut_code, put_clean, put_unknown};
 use crate::words::PlaceholderValue::{Name, Number, Own, Quoted};
 use crate::words::WordsWriter;
 use pb_read::{ReadKind, Stage};
 use pb_witness::cause::Cause;
 use pb_witness::faulty_record::FaultyRecord;
-use pb_witness::fields::text_at;
+use pb_witness::fields::{JoinedBy, text_at};
 use pb_witness::heads::{head_of, section_of};
 use pb_witness::known::Known;
 use pb_witness::quote::{Span, span_of};
@@ -53,8 +53,30 @@ const SPACED_QUOTE: &str =
 Delete the space between `;` and the quotation mark.
 ";
 
-/// What to do about a row with tabs and no `;`.
+/// What is said of a line that an e-mail program broke.
+const MAIL: &str =
+    ": this line, or the one above it, ends with `=`, as e-mail programs break long lines.
+Get the file again, as an attachment.
+";
+
+/// What to do about a row with tabs or commas and no `;`.
 const TABS: &str = "Tabs separate the fields of this row. Write `;` in place of each.\n";
+
+const COMMAS: &str =
+    "Commas separate the fields of this row. Write `;` between them, but keep the commas between the ids of a vote.\n";
+
+/// What to do about a line of words among the votes.
+const LINE_OF_WORDS: &str =
+    "If it is a heading or a note, delete it. If it says that rows are left out, get the whole file. If it is a vote, write all of its fields.\n";
+
+/// What is said of a quotation mark that stands alone.
+const DITTO: &str = ": a quotation mark stands alone at the end of this line.
+If it means `as above`, write what the row above has there. If not, delete it.
+";
+
+/// What is said of two rows on one line.
+const TWO_ROWS: &str =
+    "The row has {} fields, but there are {} column names. Two rows may stand on this line: begin a new line where the second begins.\n";
 
 /// What is said of a row with more fields than there are column names.
 const SPLIT: &str =
@@ -92,7 +114,12 @@ fn put_record<R: Files>(
         let _ = put_mark(out, text, records.mark());
         return out.fill(LIKE_A_HEAD, &[Quoted(text_at(&records.last, 0))]);
     }
-    if faulty.kind() == ReadKind::UnknownProject && !faulty.is_spaced_quote() {
+    if faulty.is_of_mail(text) {
+        let _ = put_mark(out, text, faulty.mark);
+        return out.put(MAIL);
+    }
+    let is_vote = faulty.kind() == ReadKind::UnknownProject;
+    if is_vote && !faulty.is_spaced_quote() && !faulty.is_ditto() {
         return put_vote(out, text, known, faulty);
     }
     let span = put_mark(out, text, faulty.mark);
@@ -118,7 +145,7 @@ fn put_record<R: Files>(
             let _ = put_over(out, span, true);
             return;
         }
-        _ => put_what(out, faulty),
+        _ => put_what(out, text.alloc, faulty),
     }
     // Where a field is missing, the quotation mark may have taken it.
     if faulty.kind() != ReadKind::MissingField || span.over.is_none() {
@@ -146,6 +173,8 @@ fn put_marks<R: Files>(
         put_clean(out, text, "");
     } else if faulty.is_quoted_meta() {
         out.put(": a quotation mark is before META. Delete it.\n");
+    } else if faulty.is_ditto() {
+        out.put(DITTO);
     } else if put_unclosed(out, span) {
         out.put(CLOSE_IT);
     } else {
@@ -163,7 +192,8 @@ fn put_vote<R: Files>(out: &mut WordsWriter, text: &Text<R>, known: &Known, faul
         let _ = put_over(out, span, false);
         return;
     }
-    if !shifted.is_empty() && known.witness.ids.are_all(shifted) {
+    let is_split = !shifted.is_empty() && known.witness.ids.are_all(shifted);
+    if (is_split || faulty.is_two_rows()) && !is_cut_code(faulty.piece()) {
         let _ = put_mark(out, text, faulty.mark);
         put_column(out, faulty);
         put_subject(out, "voter", faulty.id());
@@ -192,8 +222,12 @@ fn put_remedy<R: Files>(
     if let Some(odd) = faulty.odd_head() {
         return put_odd_head(out, text, odd);
     }
-    if faulty.has_tabs() {
-        return out.put(TABS);
+    if let Some(marks) = faulty.marks() {
+        let is_tabs = matches!(marks, JoinedBy::Tabs);
+        return out.put(if is_tabs { TABS } else { COMMAS });
+    }
+    if faulty.is_line_of_words() {
+        return out.put(LINE_OF_WORDS);
     }
     if faulty.kind() == ReadKind::MissingField && faulty.is_like_project(text) {
         return out.put(LATE_PROJECT);
@@ -230,7 +264,12 @@ fn put_remedy<R: Files>(
 /// Puts that a row has more fields than there are column names, and what to do.
 fn put_split(out: &mut WordsWriter, faulty: &FaultyRecord) {
     let (fields, names) = (faulty.record.len() as u64, faulty.seen.columns as u64);
-    out.fill(SPLIT, &[Number(fields), Number(names)])
+    let form = if faulty.is_two_rows() {
+        TWO_ROWS
+    } else {
+        SPLIT
+    };
+    out.fill(form, &[Number(fields), Number(names)])
 }
 
 /// Puts what is missing at the end of the file, where it was read so far and its records say this; answers

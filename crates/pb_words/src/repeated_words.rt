@@ -3,7 +3,7 @@
 use crate::faulty_record::put_column;
 use crate::mark_words::line_of;
 use crate::read_rules::words_of;
-use crate::unknown_words::put_clean;
+use crate::unknown_words::{put_clean, put_lines};
 use crate::words::PlaceholderValue::{Name, Number, Quoted};
 use crate::words::WordsWriter;
 use pb_read::ReadKind;
@@ -15,6 +15,9 @@ use std::rt::Files;
 /// What to do where VOTES has a row for each voter and project.
 pub(crate) const JOIN: &str =
     "Join the rows of each voter to one row, with `,` between the ids of the projects.\n";
+
+/// What to do about copies of rows.
+const COPIES: &str = "Each of these rows is a copy of an earlier one. Delete the copies.\n";
 
 /// Puts on which line the id of a row is already, and what to do about it.
 pub(crate) fn put_repeated<R: Files>(
@@ -31,11 +34,19 @@ pub(crate) fn put_repeated<R: Files>(
     }
     let repeat = known.repeat_of(text, faulty);
     let is_voter = faulty.kind() == ReadKind::RepeatedVoter;
-    let rows = known.witness.rows.rows_repeated;
-    if is_voter && rows > 1 && repeat.is_shared() {
-        out.fill(" {} rows repeat an id.", &[Number(rows)]);
+    let all = known.witness.rows.rows_repeated;
+    let rows = known.repeated_for(text, repeat);
+    let is_one = !is_voter || rows.count < 2;
+    if is_voter && all > 1 && repeat.is_shared() {
+        out.fill(" {} rows repeat an id.", &[Number(all)]);
+    } else if !is_one {
+        out.fill(" {} rows repeat an id", &[Number(rows.count)]);
+        put_lines(out, text, &rows);
     }
     out.put("\n");
+    if repeat == Repeat::Copy && !is_one {
+        return out.put(COPIES);
+    }
     put_remedy(out, text, repeat, faulty.kind())
 }
 

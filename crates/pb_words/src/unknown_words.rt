@@ -7,13 +7,14 @@ use crate::words::PlaceholderValue::{Name, Number, Own, Quoted};
 use crate::words::WordsWriter;
 use pb_read::{Column, ReadKind};
 use pb_witness::cause::{Cause, odd_letter};
-use pb_witness::changed::Difference::{Case, Hidden, PointZero, Spaces, Zeros};
+use pb_witness::changed::Difference::{Case, Front, Hidden, Letters, PointZero, Spaces, Zeros};
 use pb_witness::changed::{Difference, without_hidden};
 use pb_witness::faulty_record::FaultyRecord;
 use pb_witness::fields::text_at;
 use pb_witness::known::{FoundCause, Known};
 use pb_witness::mark::Mark;
 use pb_witness::text::Text;
+use pb_witness::unknown::Votes;
 use std::rt::Files;
 
 /// What is said of the last row of a file.
@@ -42,8 +43,11 @@ const MOVED: &str =
 const ODD_LETTER: &str =
     "This contains {}, which no id in PROJECTS contains. It may be another kind of dash or letter. Compare the id with those.\n";
 
+const ODD_MARK: &str =
+    "This contains {}, which no id in PROJECTS contains. Ask whoever made the file what it means.\n";
+
 /// Whether a text ends in a code of a web page without its `;`.
-fn is_cut_code(text: &str) -> bool {
+pub(crate) fn is_cut_code(text: &str) -> bool {
     match text.rsplit_once('&') {
         Some((_, code)) => matches!(code, "amp" | "lt" | "gt" | "quot" | "nbsp")
             || code.starts_with('#'),
@@ -99,6 +103,10 @@ fn remedy_of(cause: Cause) -> &'static str {
         Cause::Alike(difference, is_project) => alike_remedy(difference, is_project),
         Cause::Name =>
             "This is the name of project {} on line {}. If it is meant, write its id in the vote.\n",
+        Cause::Mentioned =>
+            "The name of project {} on line {} has this id in it, so the vote may be meant for that project. Ask whoever made the file.\n",
+        Cause::OtherForm =>
+            "No id in PROJECTS has this form. Ask whoever made the file what it means.\n",
         Cause::More =>
             "This is an id with something beside it. If that says that the project is not approved, or that the vote does not count, ask whoever made the file. If not, write only ids in a vote, with `,` between them. Points and ranks are no approvals: this program can't count them.\n",
         Cause::ChangedProject => "Get the projects again, with their ids as text.\n",
@@ -106,9 +114,11 @@ fn remedy_of(cause: Cause) -> &'static str {
             "Several projects have almost this id, or this name. Ask whoever made the file which of them is meant.\n",
         Cause::Word =>
             "This seems to be a word in place of ids. Ask whoever made the file what it means.\n",
+        Cause::Mail =>
+            "This ends with `=`, as e-mail programs break long lines. Get the file again, as an attachment.\n",
         Cause::OtherElection =>
             "No vote of the file names a project. PROJECTS and VOTES may be of two elections, or the ids of one of them were changed. Get the whole file again.\n",
-        Cause::Unknown => words_of(ReadKind::UnknownProject).1,
+        Cause::Unknown | Cause::Near => words_of(ReadKind::UnknownProject).1,
         cause => list_remedy(cause),
     }
 }
@@ -146,6 +156,10 @@ fn alike_remedy(difference: Difference, is_project: bool) -> &'static str {
             "The project {} on line {} differs only by spaces. If it is meant, write its id in the vote.\n",
         (Case, false) =>
             "The project {} on line {} differs only by capital and small letters. If it is meant, write its id in the vote.\n",
+        (Letters, false) =>
+            "The project {} on line {} differs only by letters that look like digits, such as O and 0. If it is meant, write its id in the vote.\n",
+        (Front, _) =>
+            "The project {} on line {} has letters before this number. If it is meant, write its id in the vote.\n",
         (Zeros, false) =>
             "The project {} on line {} differs only by zeros before a number, which a spreadsheet takes away. If it is meant, write its id in the vote.\n",
     }
@@ -197,10 +211,17 @@ pub(crate) fn put_unknown<R: Files>(
     };
     put_cause(out, text, known, faulty, &found);
     put_votes(out, text, &found);
-    let is_open = matches!(
-        found.cause,
-        Cause::Unknown | Cause::OddLetter | Cause::Word | Cause::OtherElection | Cause::Nothing
-    );
+    let is_open = is_cut_code(faulty.piece())
+        || matches!(
+            found.cause,
+            Cause::Unknown
+                | Cause::Near
+                | Cause::OtherForm
+                | Cause::OddLetter
+                | Cause::Word
+                | Cause::OtherElection
+                | Cause::Nothing
+        );
     if is_open && put_row_cause(out, text, known, faulty) {
         return;
     }
@@ -247,7 +268,8 @@ fn put_remedy<R: Files>(
     };
     let remedy = remedy_of(found.cause);
     match found.cause {
-        Cause::Unknown | Cause::Word if found.votes.count == 1 && text.is_last(faulty.mark) => {
+        Cause::Unknown | Cause::Near | Cause::OtherForm | Cause::Word
+            if found.votes.count == 1 && text.is_last(faulty.mark) => {
             out.put(LAST_ROW);
             return out.put(remedy);
         }
@@ -312,7 +334,13 @@ fn put_odd_letter(out: &mut WordsWriter, known: &Known, id: &str) {
         let from = id.trim_start_matches(|c: char| c != letter);
         let behind = from.split_once(letter).unwrap_or(("", "")).1;
         let odd = from.strip_suffix(behind).unwrap_or(from);
-        out.fill(ODD_LETTER, &[Quoted(odd)])
+        let is_dash = letter == '-' || (0x2010..=0x2015).contains(&u32::from(letter));
+        let form = if is_dash || letter.is_alphanumeric() {
+            ODD_LETTER
+        } else {
+            ODD_MARK
+        };
+        out.fill(form, &[Quoted(odd)])
     }
 }
 
@@ -382,28 +410,33 @@ fn put_votes<R: Files>(out: &mut WordsWriter, text: &Text<R>, found: &FoundCause
             _ => "this",
         };
         out.fill(
-            " {} votes are refused for {}: ",
+            " {} votes are refused for {}",
             &[Number(votes.count), Own(reason)],
         );
-        out.put(if votes.count > 3 {
-            "the first are on lines"
-        } else {
-            "they are on lines"
-        });
-        for (place, mark) in votes.first.iter().enumerate() {
-            if let Some(mark) = mark {
-                let is_last = (place as u64).saturating_add(1) == votes.count.min(3);
-                let before = match (place, is_last) {
-                    (0, _) => " ",
-                    (_, true) => " and ",
-                    (_, false) => ", ",
-                };
-                out.fill("{}{}", &[Own(before), Number(line_of(text, *mark))]);
-            }
-        }
-        out.put(".");
+        put_lines(out, text, votes);
     }
     out.put("\n");
+}
+
+/// Puts the lines of several rows, or of the first.
+pub(crate) fn put_lines<R: Files>(out: &mut WordsWriter, text: &Text<R>, rows: &Votes) {
+    out.put(if rows.count > 3 {
+        ": the first are on lines"
+    } else {
+        ": they are on lines"
+    });
+    for (place, mark) in rows.first.iter().enumerate() {
+        if let Some(mark) = mark {
+            let is_last = (place as u64).saturating_add(1) == rows.count.min(3);
+            let before = match (place, is_last) {
+                (0, _) => " ",
+                (_, true) => " and ",
+                (_, false) => ", ",
+            };
+            out.fill("{}{}", &[Own(before), Number(line_of(text, *mark))]);
+        }
+    }
+    out.put(".");
 }
 
 /// Puts which command mends the file, with these options.

@@ -1,127 +1,196 @@
-//! What is said of each kind of warning. A text has three lines: what is odd, with the row's value and numbers in
-//! place of `{}`; the same where the row is not known, with the number; and what to do.
-
-pub(crate) const VOTES_MISSING: &str = "{} is wrong: the number of vote rows in the file is {}
-`num_votes` is wrong: the number of vote rows in the file is {}
-If rows are missing, get the whole file again. Otherwise correct the number.";
-
-pub(crate) const PROJECTS_MISSING: &str = "{} is wrong: the number of project rows in the file is {}
-`num_projects` is wrong: the number of project rows in the file is {}
-If rows are missing, get the whole file again. Otherwise correct the number.";
-
-pub(crate) const SURPLUS_FIELDS: &str =
-    "only {} is counted. The row has {} fields, but the number of column names \
-    is {}
-the row has too many fields: the number of column names is {}
-If `;` is between the ids of the vote, write `,` instead: only the ids before the first `;` are counted.";
-
-pub(crate) const TOO_LONG_BALLOT: &str = "the vote {} names {}
-the vote names {}
-This ballot is counted. If your rules do not allow it, delete the row.";
-
-/// What is said of a row without a vote in which another field seems to be it.
-pub(crate) const STRAY_VOTE: &str = "the vote is empty, but {} stands in column {}
-the vote is empty, but another field of the row names projects
-If the voter chose these projects, write their ids into the column `vote`.";
-
-pub(crate) const EMPTY_BALLOT: &str = "the ballot is empty
-the ballot is empty
-It is counted, and its voter gets a share of the budget. If your rules do not allow it, delete the row.";
-
-pub(crate) const NO_SUPPORTER: &str = "no vote names this project
-no vote names the project
-Check whether votes for it are missing, or whether votes name it by another id.";
-
-pub(crate) const OVER_BUDGET: &str = "{} is more than the budget, so the project can't win
-the project costs more than the budget, so it can't win
-Check whether the amount has too many digits, or is in another unit (cents, for example).";
-
-pub(crate) const COMMA_IN_ID: &str = "the id has a comma, so no vote can name the project
-the project's id has a comma, so no vote can name it
-Give the project another id.";
-
-pub(crate) const THOUSANDS_MARK: &str = "{}
-the three digits after an amount's point or comma are read as decimals
-If the point or comma separates thousands, delete it in all amounts, or run `pb_clean {} -o NEW.pb --marks \
-    thousands`. Otherwise write two decimals.";
+//! What is said of each kind of warning, in the order in which `Oddity` declares them: a text for each form of it.
+//! A text has three lines: what is odd, with what is known of the row in place of names in braces; the same where
+//! the row can't be read again; and what to do.
 
 /// What to do about three digits behind a mark where other amounts have decimals.
 pub(crate) const BESIDE_DECIMALS: &str =
     "Other amounts have decimals. If the point or comma separates thousands here, \
     delete it where three digits follow it, and nowhere else. Otherwise write two decimals.\n";
 
-pub(crate) const REPEATED_KEY: &str = "this value, {}, is used, and the one on line {} is ignored
+/// What is said of a row without a vote in which another field seems to be it.
+const STRAY_VOTE: &str = "the vote is empty, but {value} stands in column {column}
+the vote is empty, but another field of the row names projects
+If the voter chose these projects, write their ids into the column `vote`.";
+
+const TOO_LONG: &str = "the vote {value} names {projects}, and `max_length` allows {limit}
+the vote names {projects}, and `max_length` allows {limit}
+This ballot is counted. If your rules do not allow it, delete the row.";
+
+const TOO_SHORT: &str = "the vote {value} names {projects}, and `min_length` asks for {limit}
+the vote names {projects}, and `min_length` asks for {limit}
+This ballot is counted. If your rules do not allow it, delete the row.";
+
+pub(crate) const TEXTS: [&[&str]; 24] = [
+    &[
+        "{value} is wrong: the number of vote rows in the file is {number}
+`num_votes` is wrong: the number of vote rows in the file is {number}
+If rows are missing, get the whole file again. Correct the number only if you know that every row is here.",
+        "{value} is wrong: the number of vote rows in the file is {number}
+`num_votes` is wrong: the number of vote rows in the file is {number}
+If some of them are totals or notes, delete these. Otherwise correct the number.",
+        "{value} is not a whole number in digits; the number of these rows in the file is {number}
+`num_votes` is wrong: the number of vote rows in the file is {number}
+Write the number in digits.",
+    ],
+    &[
+        "{value} is wrong: the number of project rows in the file is {number}
+`num_projects` is wrong: the number of project rows in the file is {number}
+If rows are missing, get the whole file again. Correct the number only if you know that every row is here.",
+        "{value} is wrong: the number of project rows in the file is {number}
+`num_projects` is wrong: the number of project rows in the file is {number}
+If some of them are totals or notes, delete these. Otherwise correct the number.",
+        "{value} is not a whole number in digits; the number of these rows in the file is {number}
+`num_projects` is wrong: the number of project rows in the file is {number}
+Write the number in digits.",
+    ],
+    &[
+        "only {value} is counted. The row has {fields} fields, but the number of column names is {number}
+the row has too many fields: the number of column names is {number}
+If `;` is between the ids of the vote, write `,` instead: only the ids before the first `;` are counted.",
+        "the row has a third field, {value}, which is ignored
+a row of META has a third field, which is ignored
+If the amount there is the right one, write it into the second field, and delete the third.",
+    ],
+    &[TOO_LONG],
+    &[TOO_SHORT, STRAY_VOTE],
+    &[
+        "the ballot is empty
+the ballot is empty
+It is counted, and its voter gets a share of the budget. If your rules do not allow it, delete the row.",
+        STRAY_VOTE,
+    ],
+    &[
+        "no vote names this project
+no vote names the project
+Check whether votes for it are missing, or whether votes name it by another id.",
+        "no vote names this project. A spreadsheet turns its id into {short}, which is another project's
+no vote names the project. A spreadsheet turns its id into that of another project
+Check whether votes for that project are meant for this one. If so, get the votes again, as text.",
+    ],
+    &[
+        "{value} is more than the budget, so the project can't win
+the project costs more than the budget, so it can't win
+Check whether the amount has too many digits, or is in another unit (cents, for example).",
+    ],
+    &[
+        "the id has a comma, so no vote can name the project
+the project's id has a comma, so no vote can name it
+Give the project another id.",
+    ],
+    &[
+        "{value} is read as {amount}, because a point or a comma begins the decimals
+the three digits after an amount's point or comma are read as decimals
+If the point or comma separates thousands, delete it in all amounts, or run `pb_clean {file} -o NEW.pb --marks \
+    thousands`. Otherwise write two decimals.",
+    ],
+    &[
+        "this value, {value}, is used, and the one on line {line} is ignored
 a key is repeated; only the last row of a key counts
-The last row of a key counts. Delete the wrong row.";
-
-pub(crate) const FOOTER_ROW_OF_VOTER: &str = "this last row is the only one with an empty vote
-the last row is the only one with an empty vote
-It is counted as a voter. If it is a total or a note, delete the row.";
-
-pub(crate) const FOOTER_ROW: &str = "its cost, {}, is the sum of all costs above
+The last row of a key counts. Delete the wrong row.",
+    ],
+    &[
+        "its cost, {value}, is the sum of all costs above
 the cost in the last row of PROJECTS is the sum of all costs above
-It is counted as a project. If it is a total, delete the row.";
-
-pub(crate) const VOTES_OF: &str =
-    "the column `votes` says {}, but the number of vote rows that name the project \
-    is {}
-the column `votes` is wrong: the number of vote rows that name the project is {}
-If rows are missing, get the whole file again. Otherwise correct the number.";
-
-pub(crate) const SELECTED_OF: &str = "the column `selected` says {}, but by this count it is {}
-the column `selected` is wrong: by this count it is {}
-Check whether the published count had other options, and whether ballots or costs were changed since.";
-
-pub(crate) const BUDGET_BELOW_COSTS: &str = "{} is less than every cost, so no project can win
+It is counted as a project. If it is a total, delete the row.",
+        "this last row is the only one with an empty vote
+the last row is the only one with an empty vote
+It is counted as a voter. If it is a total or a note, delete the row.",
+        "its cost, {value}, is the sum of all other costs
+the cost in the first row of PROJECTS is the sum of all other costs
+It is counted as a project. If it is a total, delete the row.",
+    ],
+    &[
+        "the column `votes` says {value}, but the number of vote rows that name the project is {number}
+the column `votes` is wrong: the number of vote rows that name the project is {number}
+If rows are missing, get the whole file again. Correct the number only if you know that every row is here.",
+    ],
+    &[
+        "the column `selected` says {value}, but by this count it is {number}
+the column `selected` is wrong: by this count it is {number}
+Check whether the published count had other options, and whether ballots or costs were changed since.",
+    ],
+    &[
+        "{value} is less than every cost, so no project can win
 the budget is less than every cost, so no project can win
-Check whether the budget lacks digits, or is in another unit than the costs (thousands, for example).";
-
-pub(crate) const NOTE_ROWS: &str =
-    "the last {} rows, from here on, have no vote; every row above has one
-the last {} rows have no vote; every row above has one
-They are counted as voters. If they are totals or notes, delete these rows.";
-
-pub(crate) const SWALLOWED_ROWS: &str =
-    "a field in quotation marks runs over several lines that look like rows
+Check whether the budget lacks digits, or is in another unit than the costs (thousands, for example).",
+        "all projects together cost {sum}, which is less than a hundredth of it
+all projects together cost less than a hundredth of the budget
+Check whether the costs are in another unit than the budget (thousands, for example).",
+    ],
+    &[
+        "the last {number} rows, from here on, have no vote; every row above has one
+the last {number} rows have no vote; every row above has one
+They are counted as voters. If they are totals or notes, delete these rows.",
+        "the vote is empty, and the id looks like a note. This concerns {rows}
+the vote is empty, and the id looks like a note. This concerns {rows}
+It is counted as a voter. If it is a heading, a total or a note, delete the row.",
+    ],
+    &[
+        "a field in quotation marks runs over several lines that look like rows
 a field in quotation marks runs over several lines that look like rows
-If each line should be a row of its own, delete the quotation marks.";
-
-pub(crate) const ID_BEHIND_VOTE: &str =
-    "{}, in a later column, names a project too, but is not counted. This concerns {}
-a later column names a project too, but is not counted. This concerns {}
-If the voters chose these projects too, write all ids of a voter into the column `vote`, with `,` between them.";
-
-pub(crate) const TWICE_IN_VOTE: &str = "the vote names {} more than once, which counts once
+If each line should be a row of its own, delete the quotation marks.",
+        "this row is taken for META's row of column names, so its value is ignored
+the first row of META is taken for its row of column names, so its value is ignored
+Write `key;value` on a line of its own above it.",
+    ],
+    &[
+        "{value}, in column {column}, names a project too, but is not counted. This concerns {rows}
+a later column names a project too, but is not counted. This concerns {rows}
+If the voters chose these projects too, write all ids of a voter into the column `vote`, with `,` between them. If \
+    not, give the column the name `comment`.",
+        "the vote is empty, but {value} stands in column {column}. This concerns {rows}
+the vote is empty, but another field of the row names projects. This concerns {rows}
+If the voter chose these projects, write their ids into the column `vote`.",
+    ],
+    &[
+        "the vote names {twice} more than once, which counts once
 the vote names a project more than once, which counts once
-If another project was meant, correct the id by the voter's ballot.";
-
-pub(crate) const REPEATED_COLUMN: &str = "{} columns have this name, and only the first is read
-{} columns have the same name, and only the first is read
+If another project was meant, correct the id by the voter's ballot.",
+        "an invisible character is beside this id. Without it, it is that of another row, so the voter is counted twice
+an invisible character is beside the voter's id. Without it, it is that of another row, so the voter is counted twice
+Delete it, or type the id anew.",
+    ],
+    &[
+        "{number} columns have this name, and only the first is read
+{number} columns have the same name, and only the first is read
 If the others have values that should count, write them into the first (ids with `,` between them). If not, give \
-    the others other names.";
-
-pub(crate) const VOTES_WITH_POINTS: &str =
-    "points are ignored: every project named in a vote counts the same
+    the others other names.",
+        "{number} columns have this name, and only the first is read
+{number} columns have the same name, and only the first is read
+If each row has several voters side by side, write a row for each of them.",
+    ],
+    &[
+        "points are ignored: every project named in a vote counts the same
 VOTES has points, which are ignored: every project named in a vote counts the same
-If your rules count points or ranks, this program can't count the file.";
-
-pub(crate) const VALID_COLUMN_OF_VOTER: &str =
-    "{} differs from line {} in column `{}`. The column is ignored: every row is counted
-a column says which rows are valid. The column is ignored: every row is counted
-If it says that votes are not valid, take their rows out.";
-
-pub(crate) const VALID_COLUMN: &str =
-    "{} differs from line {} in column `{}`. The column is ignored: every project is counted
+If your rules count points or ranks, this program can't count the file.",
+        "its numbers are ignored: every row is counted as one ballot
+VOTES has numbers of ballots, which are ignored: every row is counted as one ballot
+If a row stands for several ballots, write a row for each of them, with an id of its own.",
+    ],
+    &[
+        "{value} differs from line {line} in column `{column}`. The column is ignored: every project is counted
 a column says which projects are valid. The column is ignored: every project is counted
-If it says that projects were withdrawn, take their rows out, and their ids out of the votes.";
-
-pub(crate) const DISTRICT_BUDGETS: &str =
-    "{} is not counted: all projects share the amount of the key `budget`
+If it says that projects were withdrawn, take their rows out, and their ids out of the votes.",
+        "{value} differs from line {line} in column `{column}`. The column is ignored: every row is counted
+a column says which rows are valid. The column is ignored: every row is counted
+If it says that votes are not valid, take their rows out.",
+        "{value} stands in column `{column}`. The column is ignored: the row is counted
+a column has a remark that votes are not valid. The column is ignored: every row is counted
+If the vote is not valid, take the row out.",
+    ],
+    &[
+        "{value} is not counted: all projects share the amount of the key `budget`
 a budget beside the key `budget` is not counted: all projects share the amount of that key
 If each district or category has a budget of its own, make a file for each: its budget, its projects, and of \
-    each vote the ids of its projects.";
-
-pub(crate) const CUT_NAME: &str = "the row has {} fields, but the number of column names is {}
-the row has too many fields: the number of column names is {}
+    each vote the ids of its projects.",
+    ],
+    &[
+        "the row has {fields} fields, but the number of column names is {number}
+the row has too many fields: the number of column names is {number}
 If a `;` in the name has cut it, put the name in quotation marks: `\"Park; north\"`. If the decimal comma \
-    of an amount has become `;`, write the amount in one field, like `12000,50`. Then check the cost.";
+    of an amount has become `;`, write the amount in one field, like `12000,50`. Then check the cost.",
+        "the row has {value} in it, as a vote has
+the row has several ids of projects in it, as a vote has
+If it is a vote, move it below VOTES.",
+    ],
+];

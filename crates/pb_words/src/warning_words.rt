@@ -3,19 +3,13 @@
 use crate::mark_words::{
     CLOSE_IT, line_of, put_mark, put_over, put_record_number, put_subject, put_unclosed,
 };
-use crate::warning_texts::{
-    BESIDE_DECIMALS, BUDGET_BELOW_COSTS, COMMA_IN_ID, CUT_NAME, DISTRICT_BUDGETS, EMPTY_BALLOT,
-    FOOTER_ROW, FOOTER_ROW_OF_VOTER, ID_BEHIND_VOTE, NO_SUPPORTER, NOTE_ROWS, OVER_BUDGET,
-    PROJECTS_MISSING, REPEATED_COLUMN, REPEATED_KEY, SELECTED_OF, STRAY_VOTE, SURPLUS_FIELDS,
-    SWALLOWED_ROWS, THOUSANDS_MARK, TOO_LONG_BALLOT, TWICE_IN_VOTE, VALID_COLUMN,
-    VALID_COLUMN_OF_VOTER, VOTES_MISSING, VOTES_OF, VOTES_WITH_POINTS,
-};
+use crate::warning_texts::{BESIDE_DECIMALS, TEXTS};
 use crate::words::PlaceholderValue::{Amount, Count, Name, Number, Own, Quoted};
 use crate::words::{Said, WordsWriter};
 use pb_core::money::Money;
 use pb_read::Oddity;
 use pb_rounds::rule::Rule;
-use pb_witness::behind_vote::is_one_of;
+use pb_witness::changed::is_one_of;
 use pb_witness::fields::text_at;
 use pb_witness::firsts::twice_in;
 use pb_witness::mark::Mark;
@@ -36,13 +30,7 @@ const OTHER_RULE: &str = ", key \"rule\": the file names the rule {}, and this c
 That rule may give a different result.\n";
 
 /// What META writes that names no other rule than that of any count.
-const NO_OTHER_RULE: [&str; 4] = ["unknown", "-", "mes", "method of equal shares"];
-
-/// What is said of a number of rows that is not a number, and what to do.
-const NO_DIGITS: &str =
-    "{} is not a whole number in digits; the number of these rows in the file is {}";
-
-const NUMBER: &str = "Write the number in digits.";
+const NO_OTHER_RULE: &str = "unknown|-|mes|method of equal shares";
 
 /// What to do where another warning may be the reason.
 const BY_ANOTHER: &str =
@@ -58,50 +46,14 @@ const NO_LENGTH: &str =
 /// What to do where all ballots, or nearly all, have too many projects, or too few.
 const ALL_BREAK: &str = "{} break `{}` {}: check the key.\n";
 
-/// What to do where there are more rows than META says.
-const SURPLUS_ROWS: &str =
-    "If some of them are totals or notes, delete these. Otherwise correct the number.";
-
-/// What is said of a row that is odd: what, with the row's value and numbers in place of `{}`; the same where
-/// the row is not known, with the number; and what to do. They are the three lines of each text.
+/// What is said of a row that is odd: what, with what is known of the row; the same where the row is not known;
+/// and what to do.
 fn said_of(odd: &Odd) -> (&'static str, &'static str, &'static str) {
-    let said = match odd.oddity {
-        Oddity::VotesMissing => VOTES_MISSING,
-        Oddity::ProjectsMissing => PROJECTS_MISSING,
-        Oddity::SurplusFields => SURPLUS_FIELDS,
-        Oddity::TooShortBallot | Oddity::EmptyBallot if odd.before.is_some() => STRAY_VOTE,
-        Oddity::TooLongBallot | Oddity::TooShortBallot => TOO_LONG_BALLOT,
-        Oddity::EmptyBallot => EMPTY_BALLOT,
-        Oddity::NoSupporter => NO_SUPPORTER,
-        Oddity::OverBudget => OVER_BUDGET,
-        Oddity::CommaInId => COMMA_IN_ID,
-        Oddity::ThousandsMark => THOUSANDS_MARK,
-        Oddity::RepeatedKey => REPEATED_KEY,
-        Oddity::FooterRow if odd.subject == Subject::Voter => FOOTER_ROW_OF_VOTER,
-        Oddity::FooterRow => FOOTER_ROW,
-        Oddity::VotesOf => VOTES_OF,
-        Oddity::SelectedOf => SELECTED_OF,
-        Oddity::BudgetBelowCosts => BUDGET_BELOW_COSTS,
-        Oddity::NoteRows => NOTE_ROWS,
-        Oddity::SwallowedRows => SWALLOWED_ROWS,
-        Oddity::IdBehindVote => ID_BEHIND_VOTE,
-        Oddity::TwiceInVote => TWICE_IN_VOTE,
-        Oddity::RepeatedColumn => REPEATED_COLUMN,
-        Oddity::VotesWithPoints => VOTES_WITH_POINTS,
-        Oddity::ValidColumn if odd.subject == Subject::Voter => VALID_COLUMN_OF_VOTER,
-        Oddity::ValidColumn => VALID_COLUMN,
-        Oddity::DistrictBudgets => DISTRICT_BUDGETS,
-        Oddity::CutName => CUT_NAME,
-    };
+    let forms = TEXTS.get(odd.oddity as usize).copied().unwrap_or(&[]);
+    let said = forms.get(odd.form).copied().unwrap_or("");
     let (what, rest) = said.split_once('\n').unwrap_or((said, ""));
     let (alone, remedy) = rest.split_once('\n').unwrap_or((rest, ""));
-    match (odd.oddity, odd.limit) {
-        (Oddity::VotesMissing | Oddity::ProjectsMissing, Some(said)) if said < odd.number => {
-            (what, alone, SURPLUS_ROWS)
-        }
-        (Oddity::VotesMissing | Oddity::ProjectsMissing, None) => (NO_DIGITS, alone, NUMBER),
-        _ => (what, alone, remedy),
-    }
+    (what, alone, remedy)
 }
 
 /// Words for the warnings that were found in the file with this path, by their names; no path is standard
@@ -129,7 +81,7 @@ pub fn rule_words<R: Files>(
 ) -> Said {
     let mut out = WordsWriter::new(alloc);
     let (rule, mark) = named;
-    let is_other = !is_one_of(&NO_OTHER_RULE, rule);
+    let is_other = !is_one_of(NO_OTHER_RULE, rule);
     if is_other && !rule.eq_ignore_ascii_case(counted.word()) {
         put_place(&mut out, &Text::new(rt, alloc, path), mark);
         match counted.text(alloc) {
@@ -197,32 +149,37 @@ fn put_odd<R: Files>(out: &mut WordsWriter, text: &Text<R>, odd: &Odd, oddities:
     if !put_row(out, text, odd, what) {
         put_record_number(out, text, odd.mark.at);
         out.put(": ");
-        if odd.oddity == Oddity::IdBehindVote {
-            out.fill(alone, &[Count(odd.number, "row")]);
-        } else {
-            out.fill(alone, &[Number(odd.number)]);
-        }
+        out.fill_named(
+            alone,
+            &[
+                ("number", Number(odd.number)),
+                ("rows", Count(odd.number, "row")),
+                ("projects", Count(odd.number, "project")),
+                ("limit", Number(odd.limit.unwrap_or(0))),
+            ],
+        );
     }
-    put_limit(out, odd);
     out.fill(" ({}).\n", &[Own(odd.oddity.name())]);
-    let is_length = matches!(odd.oddity, Oddity::TooLongBallot | Oddity::TooShortBallot);
+    let is_length = is_of_length(odd);
     match (cause_of(oddities, odd), odd.oddity) {
         (Some(cause), _) if is_length => out.fill(LENGTH_BY_ANOTHER, &[Own(cause.name())]),
         (Some(cause), _) => out.fill(BY_ANOTHER, &[Own(cause.name())]),
         _ if is_length && put_all_break(out, odd, oddities) => {}
         (None, Oddity::ThousandsMark) if oddities.has_decimals => out.put(BESIDE_DECIMALS),
-        (None, Oddity::ThousandsMark) => put_by_clean(out, remedy, text.path),
-        _ => out.fill("{}\n", &[Own(remedy)]),
+        _ => {
+            let file = match text.path {
+                Some(_) => Name(text.path),
+                None => Own("FILE"),
+            };
+            out.fill_named(remedy, &[("file", file)]);
+            out.put("\n");
+        }
     }
 }
 
-/// Puts a remedy that names a command for the file with this path.
-fn put_by_clean(out: &mut WordsWriter, remedy: &'static str, path: Option<&str>) {
-    match path {
-        Some(_) => out.fill(remedy, &[Name(path)]),
-        None => out.fill(remedy, &[Own("FILE")]),
-    }
-    out.put("\n");
+/// Whether a ballot is odd for how many projects it names.
+fn is_of_length(odd: &Odd) -> bool {
+    odd.form == 0 && matches!(odd.oddity, Oddity::TooLongBallot | Oddity::TooShortBallot)
 }
 
 /// Puts that all ballots, or nearly all, have too many projects or too few, or that no ballot can have as many as
@@ -230,7 +187,7 @@ fn put_by_clean(out: &mut WordsWriter, remedy: &'static str, path: Option<&str>)
 fn put_all_break(out: &mut WordsWriter, odd: &Odd, oddities: &Oddities) -> bool {
     let (count, voters) = (oddities.count(odd.oddity), oddities.voters);
     let are_nearly_all = count.saturating_mul(10) >= voters.saturating_mul(9);
-    if odd.before.is_some() || voters < 2 {
+    if voters < 2 {
         return false;
     }
     if oddities.has_no_length {
@@ -262,13 +219,17 @@ fn cause_of(oddities: &Oddities, odd: &Odd) -> Option<Oddity> {
         oddities.has(Oddity::SwallowedRows),
         oddities.has(Oddity::IdBehindVote),
     );
+    let has_thousands = oddities.has(Oddity::ThousandsMark);
+    let are_beside = oddities.count(Oddity::RepeatedColumn) > 1;
     match odd.oddity {
-        Oddity::TooLongBallot | Oddity::TooShortBallot if odd.before.is_some() => None,
+        Oddity::TooLongBallot | Oddity::TooShortBallot if odd.form > 0 => None,
         Oddity::TooLongBallot | Oddity::TooShortBallot if has_rows => {
             Some(Oddity::SwallowedRows)
         }
         Oddity::TooShortBallot if has_ids => Some(Oddity::IdBehindVote),
         Oddity::VotesMissing if has_rows && are_few => Some(Oddity::SwallowedRows),
+        Oddity::VotesMissing if are_beside && are_few => Some(Oddity::RepeatedColumn),
+        Oddity::OverBudget if has_thousands => Some(Oddity::ThousandsMark),
         Oddity::VotesOf if has_rows => Some(Oddity::SwallowedRows),
         Oddity::VotesOf if has_ids => Some(Oddity::IdBehindVote),
         _ => None,
@@ -301,67 +262,59 @@ fn put_row<R: Files>(out: &mut WordsWriter, text: &Text<R>, odd: &Odd, what: &'s
     put_subject(out, odd.subject.word(), text_at(row, odd.id_place));
     out.put(": ");
     let value = text_at(row, odd.value_place);
-    let (fields, number) = (row.len() as u64, odd.number);
     let line = match odd.before {
         Some(before) => line_of(text, before),
-        None => number,
+        None => 0,
     };
-    match odd.oddity {
-        Oddity::TooShortBallot | Oddity::EmptyBallot if odd.before.is_some() => {
-            put_stray(out, text, odd, (what, value))
+    let amount = match Money::read(value) {
+        Ok(amount) => amount.0,
+        Err(_) => 0,
+    };
+    let twice = if odd.oddity == Oddity::TwiceInVote {
+        twice_in(text.alloc, value)
+    } else {
+        ""
+    };
+    let header = header_of(text, odd);
+    let column = match &header {
+        Some(records) if !text_at(&records.last, odd.value_place).is_empty() => {
+            Quoted(text_at(&records.last, odd.value_place))
         }
-        Oddity::IdBehindVote => out.fill(what, &[Quoted(value), Count(number, "row")]),
-        Oddity::SurplusFields => {
-            out.fill(what, &[Quoted(value), Number(fields), Number(number)])
-        }
-        Oddity::CutName => out.fill(what, &[Number(fields), Number(number)]),
-        Oddity::NoteRows | Oddity::RepeatedColumn => out.fill(what, &[Number(number)]),
-        Oddity::TwiceInVote => put_twice(out, what, text.alloc, value),
-        Oddity::ValidColumn => { put_valid(out, what, (number, line), value) }
-        _ => out.fill(what, &[Quoted(value), Number(line), Number(number)]),
-    }
-    if odd.oddity == Oddity::ThousandsMark {
-        put_as_read(out, value);
-    }
+        _ if odd.oddity == Oddity::ValidColumn => Own(name_of(odd.number)),
+        _ => Number((odd.value_place as u64).saturating_add(1)),
+    };
+    out.fill_named(
+        what,
+        &[
+            ("value", Quoted(value)),
+            ("fields", Number(row.len() as u64)),
+            ("number", Number(odd.number)),
+            ("rows", Count(odd.number, "row")),
+            ("projects", Count(odd.number, "project")),
+            ("limit", Number(odd.limit.unwrap_or(0))),
+            ("line", Number(line)),
+            ("amount", Amount(amount)),
+            ("sum", Amount(odd.number)),
+            ("twice", Quoted(twice)),
+            ("short", Quoted(value.trim_end_matches('0'))),
+            ("column", column),
+        ],
+    );
+    drop(header);
     true
 }
 
-/// Puts which id a vote names twice.
-fn put_twice(out: &mut WordsWriter, what: &'static str, alloc: Global, vote: &str) {
-    out.fill(what, &[Quoted(twice_in(alloc, vote))])
-}
-
-/// Puts what the column with this number says of a row, and the line from which it differs.
-fn put_valid(out: &mut WordsWriter, what: &'static str, numbers: (u64, u64), value: &str) {
-    let (name, line) = (name_of(numbers.0), numbers.1);
-    out.fill(what, &[Quoted(value), Number(line), Own(name)])
-}
-
-/// Puts which column of a row without a vote has this value, which seems to be its vote.
-fn put_stray<R: Files>(
-    out: &mut WordsWriter,
-    text: &Text<R>,
-    odd: &Odd,
-    said: (&'static str, &str),
-) {
-    let (what, value) = said;
-    let Some(records) = header_of(text, odd) else {
-        let number = (odd.value_place as u64).saturating_add(1);
-        return out.fill(what, &[Quoted(value), Number(number)]);
-    };
-    let name = text_at(&records.last, odd.value_place);
-    out.fill(what, &[Quoted(value), Quoted(name)]);
-    drop(records);
-}
-
-/// The row of column names of an odd row, where it can be read again.
+/// The row of column names of a row without a vote, where it can be read again.
 fn header_of<R: Files>(text: &Text<R>, odd: &Odd) -> Option<TextRecords<R::File>> {
-    text.record_at(odd.before?)
+    match odd.subject {
+        Subject::Voter if odd.oddity != Oddity::ValidColumn => text.record_at(odd.before?),
+        _ => None,
+    }
 }
 
 /// The name of this one of the columns that say which rows are valid.
 fn name_of(number: u64) -> &'static str {
-    VALID.get(number as usize).copied().unwrap_or("")
+    VALID.split('|').nth(number as usize).unwrap_or("")
 }
 
 /// Puts where a record stands.
@@ -370,25 +323,5 @@ fn put_place<R: Files>(out: &mut WordsWriter, text: &Text<R>, mark: Mark) {
         let _ = put_mark(out, text, mark);
     } else {
         put_record_number(out, text, mark.at);
-    }
-}
-
-/// Puts the limit that a ballot does not keep, after the number of its projects.
-fn put_limit(out: &mut WordsWriter, odd: &Odd) {
-    let form = match odd.oddity {
-        _ if odd.before.is_some() => return,
-        Oddity::TooLongBallot => " project{}, and `max_length` allows {}",
-        Oddity::TooShortBallot => " project{}, and `min_length` asks for {}",
-        _ => return,
-    };
-    let plural = if odd.number == 1 { "" } else { "s" };
-    out.fill(form, &[Own(plural), Number(odd.limit.unwrap_or(0))])
-}
-
-/// Puts as which amount a value is read.
-fn put_as_read(out: &mut WordsWriter, value: &str) {
-    if let Ok(amount) = Money::read(value) {
-        let form = " is read as {}, because a point or a comma begins the decimals";
-        out.fill(form, &[Amount(amount.0)]);
     }
 }

@@ -1,5 +1,6 @@
 //! Words that are being written: text from outside is made fit for a terminal.
 
+use pb_core::money::put_amount;
 use pb_witness::faulty_record::{is_hidden, is_plain};
 use std::alloc::{AllocError, Global};
 use std::io::Error;
@@ -85,6 +86,23 @@ impl WordsWriter {
         }
     }
 
+    /// Puts a text that is the program's own, with its value in place of each name in braces.
+    pub(crate) fn fill_named(&mut self, form: &str, values: &[(&str, PlaceholderValue<'_>)]) {
+        for (place, piece) in form.split('{').enumerate() {
+            match piece.split_once('}') {
+                Some((name, rest)) if place > 0 => {
+                    for (known, value) in values {
+                        if *known == name {
+                            self.put_value(value);
+                        }
+                    }
+                    self.put(rest)
+                }
+                _ => self.put(piece),
+            }
+        }
+    }
+
     fn put_value(&mut self, value: &PlaceholderValue<'_>) {
         match value {
             PlaceholderValue::Own(text) => self.put(text),
@@ -102,8 +120,7 @@ impl WordsWriter {
                 self.put_number(count.saturating_sub(1))
             }
             PlaceholderValue::Amount(amount) => {
-                let (units, rest) = (amount / 100, amount % 100);
-                self.is_whole &= write!(&mut self.text, "{units}.{rest:02}").is_ok();
+                self.is_whole &= put_amount(&mut self.text, u128::from(amount)).is_ok();
             }
             PlaceholderValue::Quoted(text) => self.put_quoted(text.as_bytes()),
             PlaceholderValue::Bytes(bytes) => self.put_quoted(bytes),
