@@ -19,6 +19,7 @@ pub mod RaisesEnd
 pub mod Completing
 pub mod Counted
 pub mod Explained
+pub mod FairToGroups
 pub mod FrontSteps
 pub mod Fronts
 pub mod Listed

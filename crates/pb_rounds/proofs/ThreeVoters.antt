@@ -3,10 +3,12 @@ use Rattle.std.proofs.Common.{◌≡◌, [], ◌∷◌, None, Some, refl}
 use Rattle.std.specs.Prelude.{codes}
 use Rattle.pb_core.specs.Election.{ElectionView}
 use Rattle.pb_price.specs.Price.{price_of}
-use Rattle.pb_price.specs.Supporters.{supporters_of}
-use Rattle.pb_rounds.specs.declared.measure.Measure.TheVariants.{Votes}
+use Rattle.pb_price.specs.Supporters.{supporters_of, support_of}
+use Rattle.pb_rounds.specs.declared.measure.Measure.TheVariants.{Votes, Cost}
 use Rattle.pb_rounds.specs.declared.options.Completion.TheVariants.{Plain, Add1}
 use Rattle.pb_rounds.specs.Count.{is_over, is_exhausted, first_decisive, count_of}
+use Rattle.pb_rounds.specs.Fairness.{paid_within}
+use Rattle.pb_rounds.specs.Payments.{paid_in_turn, payments_of}
 use Rattle.pb_rounds.specs.Run.{best_of, charged, run_from, run_of}
 
 abbrev three : ElectionView
@@ -33,3 +35,17 @@ raised : count_of three (record { step = 100; max_raises = 5; workers = 1; compl
     })
 unfolding best_of charged run_from run_of price_of supporters_of is_over is_exhausted first_decisive
 raised = refl
+
+-- The second project would have cost each of its supporters 30.00. With no raise one of them paid 15.00, for the first project: more
+-- than what 33.33 leave beside 30.00. By cost these 15.00 are just what 30.00 for 60.00 come to for 30.00; they count at no less.
+fair_by_votes : paid_within Votes (support_of three) 3333 (record { place = 0; price = 1500; collected = 3000 } ∷ []) 1 3000 1 ≡ 1500
+unfolding charged payments_of paid_in_turn supporters_of
+fair_by_votes = refl
+
+fair_by_cost : paid_within Cost (support_of three) 3333 (record { place = 0; price = 1500; collected = 3000 } ∷ []) 1 3000 1 ≡ 1500
+unfolding charged payments_of paid_in_turn supporters_of
+fair_by_cost = refl
+
+none_below : paid_within Cost (support_of three) 3333 (record { place = 0; price = 1500; collected = 3000 } ∷ []) 1 2999 1 ≡ 0
+unfolding charged payments_of paid_in_turn supporters_of
+none_below = refl

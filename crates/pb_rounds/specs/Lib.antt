@@ -4,6 +4,7 @@ pub mod Completed
 pub mod Count
 pub mod CountFault
 pub mod Counted
+pub mod Fairness
 pub mod Key
 pub mod Outcome
 pub mod Payments

@@ -113,7 +113,8 @@ where
 }
 
 /// Counts an election: the outcome at the opening share, or with completion by raises the first one that is
-/// exhausted, or the last one before the first that is over the budget.
+/// exhausted, or the last one before the first that is over the budget. It is fair to groups
+/// (`laws::outcomes_are_fair_to_groups`).
 ///
 /// The options are checked first, workers, step and raises in this order, whatever the completion.
 pub fn count<R: Threads + Sync, A: Allocator + Send + Sync, B: Allocator>(

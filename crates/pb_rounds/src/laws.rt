@@ -1,15 +1,16 @@
 //! Laws over counts, each as the contract of a function that does nothing.
 
-ghost use Rattle.std.specs.Prelude.{◌≡◌, ◌↔◌, ◌+◌, ◌*◌, ◌<◌, ◌≤◌, ℕ, None, Some, length};
+ghost use Rattle.std.specs.Prelude.{◌≡◌, ◌↔◌, ◌+◌, ◌*◌, ◌<◌, ◌≤◌, ℕ, List, None, Some, length};
 ghost use Rattle.pb_core.specs.Election.{ElectionView, IsElection};
-ghost use Rattle.pb_price.specs.Supporters.{support_of};
+ghost use Rattle.pb_price.specs.Supporters.{SupportView, support_of};
 ghost use Rattle.pb_rounds.specs.Cheapest.{IsRun};
 ghost use Rattle.pb_rounds.specs.Completed.{AreSpent, IsCompleted};
 ghost use Rattle.pb_rounds.specs.Count.{add1_of, count_of, opening_share};
 ghost use Rattle.pb_rounds.specs.CountFault.{refusal_of};
 ghost use Rattle.pb_rounds.specs.Counted.{IsCountFault, IsCountOf};
+ghost use Rattle.pb_rounds.specs.Fairness.{GroupsHaveWinners, IsFairToGroups};
 ghost use Rattle.pb_rounds.specs.Outcome.{OutcomeView, settled};
-ghost use Rattle.pb_rounds.specs.Run.{RunView, outcome_of};
+ghost use Rattle.pb_rounds.specs.Run.{ElectedView, RunView, outcome_of};
 ghost use Rattle.pb_rounds.specs.declared.count_fault.CountFault.TheVariants.{RaisesSpent};
 ghost use Rattle.pb_rounds.specs.declared.measure.Measure.{Measure};
 ghost use Rattle.pb_rounds.specs.declared.options.CountOptions.{CountOptions};
@@ -49,4 +50,17 @@ pub fn count_is_computed()
 pub fn run_is_its_rule()
     ensures { (m : Measure) (e : ElectionView) (share : ℕ) (run : RunView) → IsElection e
         → (run ≡ outcome_of m e share) ↔ IsRun m (support_of e) share run.elected run.rests }
+{}
+
+/// Every run, and so every outcome of a count, is fair to groups: of voters who all want a project that is
+/// not elected, at least one had already spent so much, on elected projects that took no more from it (under
+/// measure cost, for their cost) than that project would have, that too little of the share was left. So at
+/// least one has enough of the elected among its choices. (Added projects are no elected ones.)
+pub fn outcomes_are_fair_to_groups()
+    ensures run { (m : Measure) (s : SupportView) (share : ℕ) (elected : List ElectedView) (rests : List ℕ)
+        → IsRun m s share elected rests → IsFairToGroups m s share elected }
+    ensures count { (e : ElectionView) (options : CountOptions) (o : OutcomeView) → IsCountOf e options o
+        → IsFairToGroups options.measure (support_of e) o.share o.elected }
+    ensures winners { (e : ElectionView) (options : CountOptions) (o : OutcomeView) → IsCountOf e options o
+        → GroupsHaveWinners options.measure (support_of e) o.share o.elected }
 {}
