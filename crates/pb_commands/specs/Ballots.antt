@@ -2,20 +2,20 @@
 use Rattle.std.specs.Prelude.{◌≡◌, ℕ, suc, true, false, List, [], ◌∷◌, Option, Some, None, codes}
 use Rattle.std.specs.Prelude.{decimal, filter, map, if◌then◌else◌, slice_index_or}
 use Rattle.std.specs.List.{join_with_byte}
-use Rattle.std.specs.Option.{option_map_or}
+use Rattle.std.specs.Option.{option_map, option_map_or}
 use Rattle.std.specs.Str.{bytes_eq}
 use Rattle.pb_core.specs.Election.{project_ids}
-use Rattle.pb_core.specs.Request.{EntryView, RequestView, Cast, Replace}
+use Rattle.pb_core.specs.Request.{EntryView, RequestView}
 use Rattle.pb_core.specs.declared.answer.Answer.{Answer}
 use Rattle.pb_core.specs.declared.answer.Answer.TheVariants.{Done}
 use Rattle.pb_desk.specs.Desk.{DeskView, standing_of}
+use Rattle.pb_desk.specs.Step.{brought}
 use Rattle.pb_rows.specs.Tables.{Column, table_text}
 use Rattle.pb_commands.specs.Audited.{IsDeskOf}
 
 -- the voter to whom a request that is answered so gives a ballot: a cast or a replacement that is done does
 abbrev pub given_to : Answer → RequestView → Option (List ℕ)
-given_to Done (Cast voter ballot) = Some voter
-given_to Done (Replace voter ballot) = Some voter
+given_to Done request = option_map (λ b. b.0) (brought request)
 given_to answer request = None
 
 -- the number of the last entry, from 1, that gave this voter a ballot, if one did

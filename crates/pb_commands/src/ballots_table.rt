@@ -14,9 +14,9 @@ use pb_core::answer::Answer;
 use pb_core::entry::Entry;
 use pb_core::no_memory::NoMemory;
 use pb_core::project::Project;
-use pb_core::request::Request;
 use pb_core::voter_id::VoterId;
 use pb_desk::Desk;
+use pb_desk::request_fields::brought;
 use pb_ids::IdTable;
 use pb_rows::{Field, RowsWriter};
 use std::alloc::Global;
@@ -85,8 +85,11 @@ fn given_by(desk: &Desk, number: u32) -> Option<&VoterId>
 fn given_to(entry: &Entry) -> Option<&VoterId>
     ensures { option_copied result ≡ given_to entry.now.answer entry.now.request }
 {
-    match (entry.answer, &entry.request) {
-        (Answer::Done, Request::Cast(voter, _) | Request::Replace(voter, _)) => Some(voter),
+    match entry.answer {
+        Answer::Done => {
+            let (voter, _ballot) = brought(&entry.request)?;
+            Some(voter)
+        }
         _ => None,
     }
 }

@@ -15,7 +15,8 @@ use Rattle.pb_core.specs.Election.{ElectionView, VoterView, IsVoter}
 use Rattle.pb_core.specs.Request.{EntryView}
 use Rattle.pb_desk.specs.Inner.Desk.{AreKnown}
 use Rattle.pb_desk.specs.Inner.Legal.{voters_of}
-use Rattle.pb_desk.specs.Inner.Sources.{ballot_at, ballots_at, brought, emptied, found_at, AreFound, IsInOrder, IsOwnVoter}
+use Rattle.pb_desk.specs.Inner.Sources.{ballot_at, ballots_at, emptied, found_at, AreFound, IsInOrder, IsOwnVoter}
+use Rattle.pb_desk.specs.Step.{brought}
 use Rattle.pb_desk.specs.declared.source.Source.{Source}
 use Rattle.pb_desk.specs.declared.source.Source.TheVariants.{Opening, Entry}
 use Rattle.pb_desk.proofs.Slots.{NoneTwice}

@@ -7,13 +7,11 @@ ghost use Rattle.std.specs.Map.{lookup, remove_entry, set_value};
 ghost use Rattle.std.specs.Str.{bytes_eq};
 ghost use Rattle.pb_core.specs.Inner.Ids.{AreDistinct};
 ghost use Rattle.pb_core.specs.Election.{most_voters};
-ghost use Rattle.pb_core.specs.Request.{asked};
 ghost use Rattle.pb_desk.specs.Inner.Slots.{filed};
-ghost use Rattle.pb_desk.specs.Inner.Sources.{filed_under, opened_from, HasNewVoter};
+ghost use Rattle.pb_desk.specs.Inner.Sources.{opened_from};
 
 use crate::source::Source;
 use pb_core::no_memory::NoMemory;
-use pb_core::request::Request;
 use pb_core::voter::Voter;
 use pb_core::voter_id::VoterId;
 use pb_ids::IdTable;
@@ -164,7 +162,12 @@ impl<A: Allocator> BallotList<A> {
     }
 
     /// Adds a voter who has no ballot, after the others.
-    fn push(&mut self, alloc: A, voter: &VoterId<A>, source: Source) -> Result<(), NoMemory>
+    pub(crate) fn push(
+        &mut self,
+        alloc: A,
+        voter: &VoterId<A>,
+        source: Source,
+    ) -> Result<(), NoMemory>
     where
         A: Copy,
         requires { lookup (bytes_eq voter.now) self.old ≡ None }
@@ -189,7 +192,7 @@ impl<A: Allocator> BallotList<A> {
     }
 
     /// The ballot of a voter who has one stands there from now on.
-    fn replace(&mut self, voter: &VoterId<A>, source: Source)
+    pub(crate) fn replace(&mut self, voter: &VoterId<A>, source: Source)
         ensures { self.new ≡ set_value (bytes_eq voter.now) self.old source }
     {
         if let Some(slot) = self.slot_of.get(voter.text()) {
@@ -198,40 +201,13 @@ impl<A: Allocator> BallotList<A> {
     }
 
     /// Takes the voter out; the others keep their order.
-    fn remove(&mut self, voter: &VoterId<A>)
+    pub(crate) fn remove(&mut self, voter: &VoterId<A>)
         ensures { self.new ≡ remove_entry (bytes_eq voter.now) self.old }
     {
         if let Some(slot) = self.slot_of.get(voter.text()) {
             if self.slots[slot as usize].take().is_some() {
                 self.count -= 1;
             }
-        }
-    }
-
-    /// Files a request that is carried out, and is to stand in the journal's entry with this index.
-    pub(crate) fn file(
-        &mut self,
-        alloc: A,
-        index: u32,
-        request: &Request<A>,
-    ) -> Result<(), NoMemory>
-    where
-        A: Copy,
-        requires { HasNewVoter self.old (asked request.now) }
-        ensures ok { OnOk result (self.new ≡ filed_under index self.old (asked request.now)) }
-        ensures err { OnErr result (self.new ≡ self.old) }
-    {
-        match request {
-            Request::Cast(voter, _) => self.push(alloc, voter, Source::Entry(index)),
-            Request::Replace(voter, _) => {
-                self.replace(voter, Source::Entry(index));
-                Ok(())
-            }
-            Request::Withdraw(voter) => {
-                self.remove(voter);
-                Ok(())
-            }
-            Request::Shut => Ok(()),
         }
     }
 }

@@ -1,17 +1,9 @@
 //! The desk of one clerk: its ballots, its journal, and the audit of a journal.
 //!
 //! A desk opens with an election, whose voters have their ballots from the opening on. Each request gets
-//! the first answer of its line that applies, and only `Done` changes anything.
-//!
-//! | Request | Answers, in this order | What `Done` changes |
-//! |---|---|---|
-//! | Cast(voter, ballot) | DeskShut; UnknownPlace(the first place at which there is no project); TooLong; AlreadyCast; VoterLimit, where 1,000,000 ballots stand; Done | the ballot goes last |
-//! | Replace(voter, ballot) | DeskShut; UnknownPlace; TooLong; NoBallot; Done | the voter's ballot changes in its place |
-//! | Withdraw(voter) | DeskShut; NoBallot; Done | the ballot goes, and the later ones close up |
-//! | Shut | DeskShut; Done | the desk is shut |
-//!
-//! TooLong is the answer to a ballot of more places than the election allows; a desk of version 1 knows no
-//! such limit, and the ballots that stand at the opening are not checked against it.
+//! the first answer that applies (`answer_of`; docs/desk.md has the table), and only `Done` changes
+//! anything. TooLong is the answer to a ballot of more places than the election allows; a desk of version 1
+//! knows no such limit, and the ballots that stand at the opening are not checked against it.
 //!
 //! Every answer stands in the journal. Its text has a row for each entry, with six fields and `;` between
 //! two, after the row `journal;2` where the desk has version 2: the number, from 1; the clerk, 0 to 63;
@@ -23,6 +15,7 @@
 //! row's end, which is a shorter legal one, nor whether a clerk wrote down what a voter wanted.
 #![tactic(auto)]
 
+pub mod answer_text;
 pub mod audit_fault;
 pub mod audit_refused;
 mod audit_watch;

@@ -4,8 +4,8 @@ use Rattle.std.specs.Prelude.{None, Result, Ok, Err, if◌then◌else◌}
 use Rattle.std.specs.FinMap.{get}
 use Rattle.std.specs.Option.{option_map_or}
 use Rattle.csv.specs.Records.{AllText}
-use Rattle.pb_core.specs.Request.{RequestView, Withdraw, Shut}
-use Rattle.pb_desk.specs.Step.{places_of, voter_of}
+use Rattle.pb_core.specs.Request.{RequestView, Shut}
+use Rattle.pb_desk.specs.Step.{brought, voter_of}
 use Rattle.pb_desk.specs.Rows.{IsScriptRow, ScriptRowView}
 use Rattle.pb_read.specs.Rows.{field}
 use Rattle.pb_read.specs.Voting.{ballot_of, names_only}
@@ -34,8 +34,7 @@ Says a clerks row x = AllText row × IsScriptRow clerks (by_places a.ids row) x
 
 -- a ballot that is cast, or replaces another, has this many projects at least
 abbrev pub has_enough : ℕ → RequestView → Bool
-has_enough least (Withdraw voter) = true
-has_enough least request = nat_le least (length (places_of request))
+has_enough least request = option_map_or (λ b. nat_le least (length b.1)) (brought request) true
 
 -- the first rule of the desk that a request breaks: it may not shut the desk; or its voter is not on the roll,
 -- its ballot has too few projects, or its voter is one of the file, for whom no request is taken

@@ -6,7 +6,7 @@ ghost use Rattle.std.specs.Prelude.{◌≡◌, false, is_some, Some, true};
 ghost use Rattle.pb_core.specs.Request.{asked};
 ghost use Rattle.pb_read.specs.Rows.{field};
 ghost use Rattle.pb_rows.specs.Reading.{Fields};
-ghost use Rattle.pb_script.specs.Admission.{broken_rule, open_to_all, refusal_of};
+ghost use Rattle.pb_script.specs.Admission.{broken_rule, has_enough, open_to_all, refusal_of};
 ghost use Rattle.pb_script.specs.Inner.Admission.{broken_for, knows_ids};
 ghost use Rattle.pb_script.specs.ScriptReading.{fault_of_row};
 
@@ -14,6 +14,7 @@ use crate::script_fault::ScriptFault;
 use csv::StringRecord;
 use pb_core::answer::Answer;
 use pb_core::request::Request;
+use pb_desk::request_fields::{brought, voter_of};
 use pb_ids::IdTable;
 use pb_read::ProjectIds;
 
@@ -172,11 +173,6 @@ impl Admission {
         ensures { result ≡ broken_rule self.now (asked request.now) }
     {
         match request {
-            Request::Cast(voter, ballot) | Request::Replace(voter, ballot) => {
-                let has_enough = ballot.places().len() >= self.least as usize;
-                self.broken_for(voter.text(), has_enough)
-            }
-            Request::Withdraw(voter) => self.broken_for(voter.text(), true),
             Request::Shut => {
                 if self.may_shut {
                     None
@@ -184,6 +180,17 @@ impl Admission {
                     Some(RowRefusal::NoShut)
                 }
             }
+            _ => self.broken_for(voter_of(request), self.has_enough(request)),
+        }
+    }
+
+    /// Whether the ballot that a request brings, if it brings one, has enough projects.
+    fn has_enough(&self, request: &Request) -> bool
+        ensures { result ≡ has_enough self.now.least (asked request.now) }
+    {
+        match brought(request) {
+            Some((_voter, ballot)) => ballot.places().len() >= self.least as usize,
+            None => true,
         }
     }
 
