@@ -56,8 +56,7 @@ WORDS = {
     'NoHeader': "the row of column names below the section's heading is missing",
     'MissingColumn': 'needed are project_id and cost; voter_id, and vote or (a row a vote) project_id; what '
         'is found is {}{}',
-    'MissingField': 'the row is too short: if it is a heading, a total or a note, delete it; if not, get it '
-        'whole',
+    'MissingField': 'it is too short: delete it if it is a heading, a total or a note; if not, get it whole',
     'MissingKey': 'META needs budget;AMOUNT and vote_type;approval',
     'VoteType': 'only approval ballots are counted; if each voter picks one project, name `--single-choice`',
     'BadMoney': 'an amount is digits, with at most one point or comma: no currency, no minus, no letters, no '
@@ -134,12 +133,9 @@ def shown(text):
     text = ''.join(it if it.isprintable() else f'\\u{{{ord(it):x}}}' for it in text[:61])
     return '`' + (text if len(text) <= 60 else text[:60] + '..') + '`'
 
-def value_of(digits):
-    return int(digits[-18:])        # Python takes long for long numbers, and then refuses them
-
 def form_of(text):
-    """An id but for its digits."""
-    return re.sub('[0-9]+', '0', text)
+    """An id but for which digits it has."""
+    return re.sub('[0-9]', '0', text)
 
 def unmarked(text):
     """The text without marks at its ends."""
@@ -172,9 +168,8 @@ def label_of(names, column):
 
 def is_columns(names, section):
     """Whether these are the column names of PROJECTS or VOTES."""
-    if section == 'projects':
-        return 'project_id' in names and 'cost' in names
-    return 'voter_id' in names and ('vote' in names or 'project_id' in names)
+    needed = ['project_id', 'cost'] if section == 'projects' else ['voter_id', 'vote']
+    return {*needed} <= {*names} or section == 'votes' and {'voter_id', 'project_id'} <= {*names}
 
 def key_behind(rows):
     """The key of a row that would follow these."""
@@ -246,7 +241,8 @@ class Cleaner:
     def __init__(self, rows, reading, given):
         self.rows, self.given = [*added_rows(rows, given)] if given.projects else rows, given
         self.is_cut = any(it[2] == 'separator' for it in reading)
-        self.refusals = collections.defaultdict(list)       # by row why it is refused
+        # By row why it is refused; the rows that were joined to another one that differs in other columns.
+        self.refusals, self.others = collections.defaultdict(list), []
         # Votes repeat: what is found of one is kept.
         self.pieces_of = functools.lru_cache(1 << 16)(self.pieces_of)
 
@@ -264,7 +260,7 @@ class Cleaner:
 
     # Rows that are left out, and characters that can't be seen
     def parts(self):
-        """The sections. Empty rows are left out, and what stands above META, and column names again."""
+        """The sections. Empty rows are left out, and what stands above META."""
         parts, last, section = {}, self.rows[0], None
         for row in self.rows:
             # Of two tables the headings are those that were added.
@@ -308,11 +304,11 @@ class Cleaner:
                 row.edit_unseen(1)
                 if self.is_cut and any(map(seen, row.fields[2:])):
                     self.refuse(row, 'cut')
-        row = self.meta.get('vote_type')
-        is_one = row and name_of(''.join(row.fields[1:2])) in ('choose-1', 'choose1')
+        kind = self.meta.get('vote_type', Row('', []))
+        is_one = name_of(''.join(kind.fields[1:2])) in ('choose-1', 'choose1')
         self.is_single = self.given.single_choice and is_one
         if self.is_single:
-            row.edit(1, '--single-choice', 'approval')
+            kind.edit(1, '--single-choice', 'approval')
 
     def clean_columns(self, section):
         """Mends the names of columns, leaves out what stands above them, and them where they stand again."""
@@ -412,17 +408,12 @@ class Cleaner:
         self.zero -= {*self.ids}
         # A character that an id has separates nothing in votes.
         self.repairs = [it for it in VOTE_REPAIRS if {*it[0]}.isdisjoint(''.join(self.ids))]
-        self.floats = {f'{it}.0': it for it in self.ids if self.ids.keys().isdisjoint(['0', f'{it}.0'])}
-        # How else the ids may be written; the limits of their numbers, where they are alike but for these.
+        self.floats = {f'{it}.0': it for it in self.ids if it.isdigit() and '0' not in self.ids}
+        # How else the ids may be written, and what they have in common.
         shorter = {plain(re.sub(r'^\D+(?=\d)', '', it)): it for it in self.ids}
-        self.alike, numbers = shorter | {plain(it): it for it in self.ids}, collections.defaultdict(list)
-        for it in self.ids:
-            numbers[form_of(it)].append(re.findall('[0-9]+', it))
-        self.limits = {form: [(min(map(len, it)), max(map(len, it)), min(map(value_of, it)),
-                               max(map(value_of, it)) + 1) for it in zip(*all_of)]
-                       for form, all_of in numbers.items()}
+        self.alike, self.forms = shorter | {plain(it): it for it in self.ids}, {*map(form_of, self.ids)}
         self.cases = {(it.islower(), it.isupper(), it.isascii()) for it in self.ids if form_of(it) == it}
-        lengths = {*map(len, self.ids)}
+        lengths = {*map(len, filter(None, self.ids))}
         self.length = lengths.pop() if len(lengths) == 1 else 3
 
     # Votes
@@ -472,7 +463,7 @@ class Cleaner:
         kinds = {UNSEEN: 1} if text != ','.join(pieces) else {}
         text, more = mended(text, self.repairs)
         found = [*filter(None, text.split(','))]
-        pieces = [self.floats.get(it, it) for it in found]
+        pieces = [it if it in self.ids else self.floats.get(it, it) for it in found]
         kinds |= more | ({'point and zero': 1} if pieces != found else {})
         return pieces, kinds, [it for it in dict.fromkeys(pieces) if it not in self.ids]
 
@@ -486,6 +477,7 @@ class Cleaner:
             return
         if way == 'merge':
             others = [{*map(seen, row.fields[:vote] + row.fields[vote + 1:])} for row in rows]
+            self.others += [row for row, other in zip(rows, others) if other != others[0]]
             said = {it for other in others for it in other ^ others[0] if it.lower() in NO}
             if self.is_long and said:
                 self.refuse(first, 'says no', shown(min(said)))
@@ -520,14 +512,14 @@ class Cleaner:
     def is_vote(self, text, is_sure):
         """Whether a field beside the vote is a list of ids, or (if this is sure) the id of a project."""
         pieces = self.pieces_of(text)[0]
-        return ((is_sure or len(pieces) > 1) and not self.ids.keys().isdisjoint(pieces)
-                and self.limits.keys() >= {*map(form_of, pieces)})
+        forms, wanted = ({re.sub('[0-9]+', '0', it) for it in them} for them in (self.forms, pieces))
+        return (is_sure or len(pieces) > 1) and not self.ids.keys().isdisjoint(pieces) and forms >= wanted
 
     def clean_unknown(self, rows, odd, vote):
         """Drops ids that no project has where the option asks for it, or refuses them, each once."""
         # The last rows, of which none names a project: they may be totals and notes.
-        tail = [*itertools.takewhile(
-            lambda row: row in odd and self.ids.keys().isdisjoint(odd[row][0]), reversed(rows))]
+        tail = {*itertools.takewhile(
+            lambda row: row in odd and self.ids.keys().isdisjoint(odd[row][0]), reversed(rows))}
         unknown, empties = collections.defaultdict(list), []
         for row, (pieces, lost) in odd.items():
             if lost and row not in self.refusals:
@@ -544,9 +536,8 @@ class Cleaner:
         dates = {*filter(MADE_DATE.fullmatch, self.ids)} if unknown else set()
         if dates:
             dates -= {trimmed(it) for row in rows for it in row.fields[vote].split(',')}
-        has_zeros = any(len(odd[row][0]) > 1 for row in unknown.get('0', ()))
         for piece, (first, *more) in unknown.items():
-            why, value = self.cause_of(piece, has_zeros, min(dates, default=''))
+            why, value = self.cause_of(piece, min(dates, default=''))
             is_nothing = piece.lower() in NOTHING
             if not why and not is_nothing:
                 why = ('no vote' if len(tail) == len(rows) else 'no form' if not self.is_like(piece) else
@@ -560,22 +551,19 @@ class Cleaner:
             self.refuse(empties[0], 'empties', len(empties))
 
     def is_like(self, piece):
-        """Whether it has the next number of projects, or one between theirs; or is a word beside one."""
-        numbers, form = re.findall('[0-9]+', piece), form_of(piece)
-        if not numbers:
-            return piece in self.beside and (piece.islower(), piece.isupper(), piece.isascii()) in self.cases
-        return form in self.limits and all(
-            shortest <= len(it) <= longest and low <= value_of(it) <= high
-            for it, (shortest, longest, low, high) in zip(numbers, self.limits[form]))
+        """Whether it differs from a project's id only by which digits it has, or is a word beside one."""
+        is_word = piece in self.beside and form_of(piece) == piece
+        return form_of(piece) in self.forms or (
+            is_word and (piece.islower(), piece.isupper(), piece.isascii()) in self.cases)
 
-    def cause_of(self, piece, has_zeros, date):
+    def cause_of(self, piece, date):
         """Why an id is hardly that of a project that is gone, so that it is never dropped; and a project."""
         parts = [it for it in re.split(r'[\W_]+', piece) if it]
         cut = [piece[it:it + self.length] for it in range(0, len(piece), self.length)]
         like, called = self.alike.get(plain(piece), ''), self.called.get(plain(piece), '')
         is_run = self.length > 1 and len(cut) > 1 and self.ids.keys() >= {*cut}
         marked = unmarked(piece) if unmarked(piece) in self.ids else ''
-        causes = [('lines', len(piece.splitlines()) > 1), ('places', piece == '0' and has_zeros),
+        causes = [('lines', len(piece.splitlines()) > 1), ('places', piece == '0' and piece in self.beside),
                   ('sign', re.fullmatch('[-+\u2212].+', piece)), ('marked', marked),
                   ('id and more', len(parts) > 1 and any(it in self.ids for it in parts)),
                   ('alike', like), ('no commas', is_run), ('date', date), ('name', called)]

@@ -5,9 +5,9 @@ use Rattle.std.specs.List.{range_with_len}
 use Rattle.std.proofs.lemmas.Grind.{flat_map-append}
 use Rattle.std.proofs.lemmas.List.{map-append, take_more}
 use Rattle.pb_price.proofs.BuiltLists.{range_with_len_more}
-use Rattle.pb_page.specs.Filling.{Filling, filled, page_of}
+use Rattle.pb_page.specs.Inner.Filling.{Filling, filled, page_of}
 use Rattle.pb_page.specs.Inner.Grown.{Grows}
-use Rattle.pb_page.specs.Page.{filling}
+use Rattle.pb_page.specs.Inner.Sections.{filling}
 
 -- no piece
 pub none : (page : List ℕ) → Grows page page []

@@ -4,14 +4,14 @@ use Rattle.std.specs.Prelude.{sum_by}
 use Rattle.std.proofs.lemmas.List.{get_or_default, take_more}
 use Rattle.std.proofs.lemmas.List.Sums.{sum_by-cons}
 use Rattle.pb_core.specs.Election.{ElectionView, ProjectView}
-use Rattle.pb_page.specs.Filling.{Filling}
+use Rattle.pb_page.specs.Inner.Filling.{Filling}
 use Rattle.pb_page.specs.declared.markup.form.Form.{Form}
 use Rattle.pb_price.specs.Supporters.{cost_at, support_of}
 use Rattle.pb_reasons.proofs.PlaceSums.{IsPlaced}
 use Rattle.pb_page.specs.Inner.Grown.{Grows}
 use Rattle.pb_page.proofs.Grown.{grown_as, then}
 use Rattle.pb_page.specs.Inner.Pieces.{block}
-use Rattle.pb_page.specs.Page.{blocks, project_at}
+use Rattle.pb_page.specs.Inner.Sections.{blocks, project_at}
 
 pub the_project : (e : ElectionView) (place : ℕ) (p : ProjectView) → place < length e.projects → p ≡ get_or e.projects place p → p ≡ project_at e place
 the_project e place p known is = is ∙ get_or_default e.projects place p (record { id = []; name = []; cost = 0 }) known

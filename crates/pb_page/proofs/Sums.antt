@@ -9,11 +9,11 @@ use Rattle.std.proofs.lemmas.List.Filters.{length-filter_both, sum_by-filter_bot
 use Rattle.std.proofs.lemmas.List.FromFn.{get_or-map-range_with_len, length-map-range_with_len, map-range_with_len_more}
 use Rattle.std.proofs.lemmas.List.Sums.{sum_by-take-le, sum_by_push}
 use Rattle.pb_core.specs.Election.{ElectionView}
-use Rattle.pb_page.specs.Filling.{Filling}
+use Rattle.pb_page.specs.Inner.Filling.{Filling}
 use Rattle.pb_page.proofs.Grown.{grown_as, then}
 use Rattle.pb_page.specs.Inner.Grown.{Grows}
 use Rattle.pb_page.specs.Inner.Pieces.{categories_head, category_said, category_table, in_category, sum_row, sums_table, winners_in}
-use Rattle.pb_page.specs.Page.{category_name, category_row, filling}
+use Rattle.pb_page.specs.Inner.Sections.{category_name, category_row, filling}
 use Rattle.pb_page.specs.declared.language.Language.{Language}
 use Rattle.pb_page.specs.declared.templates.TheConstants.{TABLE_CLOSING}
 use Rattle.pb_page.specs.declared.categories.Categories.{Categories}

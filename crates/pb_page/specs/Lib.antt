@@ -1,8 +1,7 @@
 -- The words that public contracts reach, a notion a file.
+pub mod Content
 pub mod Page
 pub mod Markup
-pub mod Filling
-pub mod Sentence
 pub mod Words
 pub mod Amount
 pub mod Inner

@@ -5,7 +5,7 @@ ghost use Rattle.std.specs.List.{range_with_len};
 ghost use Rattle.pb_page.specs.Inner.Grown.{Grows};
 ghost use Rattle.pb_page.specs.Inner.Pieces.{category_said, category_table, in_category, sum_rows};
 ghost use Rattle.pb_page.specs.Inner.Pieces.{sums_table};
-ghost use Rattle.pb_page.specs.Page.{categories};
+ghost use Rattle.pb_page.specs.Inner.Sections.{categories};
 ghost use Rattle.pb_price.specs.Supporters.{cost_at, support_of};
 ghost use Rattle.pb_reasons.specs.Counted.{winners_of};
 
@@ -25,7 +25,7 @@ use pb_reasons::CountedElection;
 use std::alloc::Global;
 
 /// The winners of each category and their money, where the facts have categories; otherwise nothing.
-#[tactic(auto, using(crate::proofs::Grown::none), unfolding(crate::specs::Page::categories))]
+#[tactic(auto, using(crate::proofs::Grown::none), unfolding(crate::specs::Inner::Sections::categories))]
 pub(crate) fn put_categories(
     page: &mut Vec<u8>,
     facts: &Facts,

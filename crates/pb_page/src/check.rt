@@ -7,7 +7,7 @@ ghost use Rattle.pb_page.specs.Inner.Pieces.{measure_option, named, option_place
 ghost use Rattle.pb_page.specs.Inner.Pieces.{recount, recounting, sources};
 ghost use Rattle.pb_page.specs.declared.keys.TheConstants as key;
 ghost use Rattle.pb_page.specs.declared.templates.TheConstants.{RECOUNT_LINK};
-ghost use Rattle.pb_page.specs.Page.{at, check, filling, say, text};
+ghost use Rattle.pb_page.specs.Inner.Sections.{at, check, filling, say, text};
 
 use crate::facts::{Facts, ReadText};
 use crate::keys;

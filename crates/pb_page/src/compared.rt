@@ -3,7 +3,7 @@
 ghost use Rattle.std.specs.Prelude.{◌≡◌, [], ◌∷◌, OnOk};
 ghost use Rattle.pb_page.specs.Inner.Grown.{Grows};
 ghost use Rattle.pb_page.specs.Inner.Pieces.{compared};
-ghost use Rattle.pb_page.specs.Page.{besides, compared_row};
+ghost use Rattle.pb_page.specs.Inner.Sections.{besides, compared_row};
 
 use crate::facts::Facts;
 use crate::keys;
@@ -15,7 +15,7 @@ use pb_core::no_memory::NoMemory;
 use pb_reasons::{Comparison, CountedElection, RuleRow, compare_with_votes};
 
 /// Both rules, where the facts ask for them; otherwise nothing.
-#[tactic(auto, using(crate::proofs::Grown::none), unfolding(crate::specs::Page::besides))]
+#[tactic(auto, using(crate::proofs::Grown::none), unfolding(crate::specs::Inner::Sections::besides))]
 pub(crate) fn put_besides(
     page: &mut Vec<u8>,
     facts: &Facts,

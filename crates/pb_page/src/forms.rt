@@ -1,7 +1,7 @@
 //! How numbers and names stand in a page.
 
 ghost use Rattle.std.specs.Prelude.{◌≡◌};
-ghost use Rattle.pb_page.specs.Page.{called, width};
+ghost use Rattle.pb_page.specs.Inner.Sections.{called, width};
 
 use pb_core::project::Project;
 

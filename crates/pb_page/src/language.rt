@@ -2,7 +2,7 @@
 
 ghost use Rattle.std.specs.Prelude.{◌≡◌};
 ghost use Rattle.pb_page.specs.Words.{noun};
-ghost use Rattle.pb_page.specs.Page.{at};
+ghost use Rattle.pb_page.specs.Inner.Sections.{at};
 
 use crate::markup::{Form, Words};
 

@@ -3,7 +3,8 @@
 ghost use Rattle.std.specs.Prelude.{◌++◌, IfOk, OnOk};
 ghost use Rattle.pb_page.specs.Inner.Grown.{Grows};
 ghost use Rattle.pb_page.specs.Inner.Pieces.{KnowsPlaces};
-ghost use Rattle.pb_page.specs.Page.{IsPage, added, budget, others, parts, winners};
+ghost use Rattle.pb_page.specs.Inner.Sections.{IsMade, added, budget, others, parts, winners};
+ghost use Rattle.pb_page.specs.Page.{IsPage};
 ghost use Rattle.pb_reasons.specs.RaiseEnd.{IsRaiseEnd};
 
 use crate::by_category::put_categories;
@@ -24,9 +25,10 @@ use std::thread::Threads;
 
 /// The page of a counted election: an HTML document that needs no other file, and runs no script.
 ///
-/// Each number on it is one of the count's. Nothing in it is markup but the program's own pieces, whatever
-/// texts the election and the facts have. Where the raises ended before the outcome was exhausted, the method
-/// is run once more, by as many workers as count: the page says what one raise more would elect.
+/// Its contract says each byte: which elements it has, and which number, row and sentence of the count is in which.
+/// Nothing in it is markup but the program's own, whatever texts the election and the facts have. Where the raises
+/// ended before the outcome was exhausted, the method is run once more, by as many workers as count: the page says
+/// what one raise more would elect.
 pub fn page_of<R: Threads + Sync, G: Gate>(
     rt: &R,
     alloc: Global,
@@ -50,7 +52,7 @@ fn page_ended(
     end: &RaiseEnd,
 ) -> Result<Vec<u8>, NoMemory>
     requires { IsRaiseEnd count.now.election count.now.rule.options count.now.counted.outcome end.now }
-    ensures { IfOk result (λ text. IsPage count.now facts.now text.items) }
+    ensures { IfOk result (λ text. IsMade count.now facts.now text.items) }
 {
     let mut page = Vec::new(alloc);
     put_all(&mut page, facts, count, end)?;

@@ -6,14 +6,13 @@ pub mod form;
 pub mod laws;
 mod pieces;
 pub mod plural;
-pub mod value;
+mod value;
 pub mod words;
 mod written;
 
 pub use form::Form;
-pub use pieces::fill;
-pub(crate) use pieces::fill_words;
+pub(crate) use pieces::{fill, fill_words};
 pub use plural::Plural;
-pub use value::Value;
+pub(crate) use value::Value;
 pub use words::Words;
 pub(crate) use written::write_byte;

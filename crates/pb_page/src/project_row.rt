@@ -3,7 +3,7 @@
 ghost use Rattle.std.specs.Prelude.{◌<◌, [], ◌∷◌, OnOk, length};
 ghost use Rattle.pb_page.specs.Inner.Grown.{Grows};
 ghost use Rattle.pb_page.specs.Inner.Pieces.{category_cell, lost_figures, row_category, said_at, said_of};
-ghost use Rattle.pb_page.specs.Page.{row_at};
+ghost use Rattle.pb_page.specs.Inner.Sections.{row_at};
 
 use crate::facts::Facts;
 use crate::forms::width;

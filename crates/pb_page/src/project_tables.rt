@@ -5,7 +5,7 @@ ghost use Rattle.std.specs.List.{range_with_len};
 ghost use Rattle.pb_page.specs.Inner.Grown.{Grows};
 ghost use Rattle.pb_page.specs.Inner.Pieces.{added_table, elected_table, head_category, lost_row};
 ghost use Rattle.pb_page.specs.Inner.Pieces.{other_table, table_head};
-ghost use Rattle.pb_page.specs.Page.{added, others, row_at, winners};
+ghost use Rattle.pb_page.specs.Inner.Sections.{added, others, row_at, winners};
 ghost use Rattle.pb_page.specs.declared.keys.TheConstants as key;
 ghost use Rattle.pb_rounds.specs.RuleNames.{fills_up};
 
@@ -23,7 +23,7 @@ use pb_rounds::outcome::{Elected, Outcome};
 use pb_rounds::rule::FillUp;
 
 /// The elected, in order of election.
-#[tactic(auto, unfolding(crate::specs::Page::winners))]
+#[tactic(auto, unfolding(crate::specs::Inner::Sections::winners))]
 pub(crate) fn put_winners(
     page: &mut Vec<u8>,
     facts: &Facts,
@@ -104,7 +104,7 @@ fn put_elected_rows(
 }
 
 /// The added projects, in their order; nothing where there are none.
-#[tactic(auto, using(crate::proofs::Grown::none), unfolding(crate::specs::Page::added))]
+#[tactic(auto, using(crate::proofs::Grown::none), unfolding(crate::specs::Inner::Sections::added))]
 pub(crate) fn put_added(
     page: &mut Vec<u8>,
     facts: &Facts,
@@ -164,7 +164,7 @@ fn put_added_rows(
 }
 
 /// The projects that did not win, in the order of the file.
-#[tactic(auto, unfolding(crate::specs::Page::others))]
+#[tactic(auto, unfolding(crate::specs::Inner::Sections::others))]
 pub(crate) fn put_others(
     page: &mut Vec<u8>,
     facts: &Facts,

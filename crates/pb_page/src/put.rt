@@ -1,10 +1,10 @@
 //! A page that grows by pieces and by sentences.
 
 ghost use Rattle.std.specs.Prelude.{[], ◌∷◌, OnOk, map};
-ghost use Rattle.pb_page.specs.Filling.{text_of};
+ghost use Rattle.pb_page.specs.Inner.Value.{text_of};
 ghost use Rattle.pb_page.specs.Inner.Grown.{Grows};
 ghost use Rattle.pb_page.specs.Inner.Pieces.{at_place};
-ghost use Rattle.pb_page.specs.Page.{filling, labels, say};
+ghost use Rattle.pb_page.specs.Inner.Sections.{filling, labels, say};
 
 use crate::language::Language;
 use crate::markup::{Value, fill, fill_words};

@@ -3,7 +3,7 @@
 ghost use Rattle.std.specs.Prelude.{◌<◌, [], ◌∷◌, All, OnOk, codes, length, map};
 ghost use Rattle.pb_page.specs.Inner.Grown.{Grows};
 ghost use Rattle.pb_page.specs.Inner.Pieces.{KnowsPlaces, only_then, over_said};
-ghost use Rattle.pb_page.specs.Page.{amount, project_at, raises_ended, say};
+ghost use Rattle.pb_page.specs.Inner.Sections.{amount, project_at, raises_ended, say};
 ghost use Rattle.pb_page.specs.declared.keys.TheConstants as key;
 
 use crate::keys;

@@ -6,7 +6,7 @@ ghost use Rattle.pb_page.specs.Amount.{shown};
 ghost use Rattle.pb_page.specs.Inner.Grown.{Grows};
 ghost use Rattle.pb_page.specs.Inner.Pieces.{KnowsPlaces, filled_up, item, method_key, method_said, order};
 ghost use Rattle.pb_page.specs.Inner.Pieces.{raises_key, rounds_said, share_rule};
-ghost use Rattle.pb_page.specs.Page.{amount, filling, noun_at, number, rule, say};
+ghost use Rattle.pb_page.specs.Inner.Sections.{amount, filling, noun_at, number, rule, say};
 ghost use Rattle.pb_page.specs.declared.keys.TheConstants as key;
 ghost use Rattle.pb_page.specs.declared.templates.TheConstants.{NAMELESS};
 

@@ -1,10 +1,10 @@
 //! Sentences from outside, with markup at their places.
 
 ghost use Rattle.std.specs.Prelude.{◌≡◌, [], ◌∷◌, ◌++◌, OnOk, map};
-ghost use Rattle.pb_page.specs.Filling.{page_of};
+ghost use Rattle.pb_page.specs.Inner.Filling.{page_of};
 ghost use Rattle.pb_page.specs.Inner.Grown.{Grows};
 ghost use Rattle.pb_page.specs.Inner.Pieces.{at_place};
-ghost use Rattle.pb_page.specs.Sentence.{character_said};
+ghost use Rattle.pb_page.specs.Inner.Sentence.{character_said};
 
 use crate::markup::{Value, write_byte};
 use crate::place::Place;

@@ -1,17 +1,16 @@
-//! The head of a page, with how it looks.
+//! How a page looks, and what its head says to a browser.
 
-/// The head, and what the page is about, up to the first sentence. Values: the language, its direction, and
-/// the title, in two places.
-pub(crate) const HEAD: &str = "<!DOCTYPE html>
-<html lang='~' dir='~'>
-<head>
-<meta charset='utf-8'>
+/// What stands in the head of a page, before its title: that it is UTF-8, fits a telephone's screen, and may
+/// fetch nothing and run no script.
+pub(crate) const META: &str = "<meta charset='utf-8'>
 <meta name='viewport' content='width=device-width, initial-scale=1'>
 <meta http-equiv='Content-Security-Policy' content=\"default-src 'none'; style-src 'unsafe-inline'; img-src data:\">
 <meta name='color-scheme' content='light dark'>
 <link rel='icon' href='data:,'>
-<title>^</title>
-<style>
+";
+
+/// How a page looks.
+pub(crate) const STYLE: &str = "
 :root {
   color-scheme: light dark;
   --paper: #ffffff; --ink: #1c1e23; --soft: #545a66; --line: #d5d9e0; --track: #e6e9ee;
@@ -105,9 +104,4 @@ pre { margin: .5rem 0; padding: .75rem; background: var(--track); border-radius:
   div.budget, div.budget span, div.budget span:nth-child(even) { background: none; color: inherit; }
   div.budget span::after { background: currentcolor; forced-color-adjust: none; print-color-adjust: exact; -webkit-print-color-adjust: exact; }
 }
-</style>
-</head>
-<body>
-<header>
-<h1 dir='auto'>~</h1>
-<p class='lead'>";
+";

@@ -2,6 +2,24 @@
 //! number that the report or a table has stands in a `<data>` with its text as `value`, and its name there as
 //! `class`. What is said between them is in the table of sentences.
 
+/// The start of a page, up to its head. Values: the language, and its direction.
+pub(crate) const HEAD_OPENING: &str = "<!DOCTYPE html>
+<html lang='~' dir='~'>
+<head>
+";
+
+/// The title, up to how the page looks. Value: the title.
+pub(crate) const TITLE: &str = "<title>~</title>
+<style>";
+
+/// What stands behind that, up to the first sentence. Value: the title.
+pub(crate) const TOP: &str = "</style>
+</head>
+<body>
+<header>
+<h1 dir='auto'>~</h1>
+<p class='lead'>";
+
 /// A text alone. Value: the text.
 pub(crate) const TEXT: &str = "~";
 

@@ -4,7 +4,7 @@ ghost use Rattle.std.specs.Prelude.{◌≡◌, [], ◌∷◌, OnOk, flat_map};
 ghost use Rattle.pb_page.specs.Inner.Grown.{Grows};
 ghost use Rattle.pb_page.specs.Inner.Pieces.{tie_called, tie_list, tie_said, ties_told};
 ghost use Rattle.pb_rounds.specs.RuleNames.{by_measure};
-ghost use Rattle.pb_page.specs.Page.{called, project_at, tie, ties};
+ghost use Rattle.pb_page.specs.Inner.Sections.{called, project_at, tie, ties};
 ghost use Rattle.pb_page.specs.declared.keys.TheConstants as key;
 
 use crate::forms::called;

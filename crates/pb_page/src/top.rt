@@ -5,9 +5,10 @@ ghost use Rattle.pb_page.specs.Amount.{shown};
 ghost use Rattle.pb_page.specs.Inner.Grown.{Grows};
 ghost use Rattle.pb_page.specs.Inner.Pieces.{block, caption, caption_key, none_said, nothing, picture};
 ghost use Rattle.pb_page.specs.Inner.Pieces.{result_said, whole_said};
-ghost use Rattle.pb_page.specs.Page.{amount, at, blocks, filling, noun_at, number, say, text};
+ghost use Rattle.pb_page.specs.Inner.Sections.{amount, at, blocks, filling, noun_at, number, say, text};
+ghost use Rattle.pb_page.specs.Inner.Sections.{top};
 ghost use Rattle.pb_page.specs.declared.keys.TheConstants as key;
-ghost use Rattle.pb_page.specs.declared.style.TheConstants.{HEAD};
+ghost use Rattle.pb_page.specs.declared.templates.TheConstants.{HEAD_OPENING};
 ghost use Rattle.pb_price.specs.Supporters.{cost_at, support_of};
 ghost use Rattle.pb_reasons.specs.Counted.{winners_of};
 
@@ -18,9 +19,10 @@ use crate::language::Language;
 use crate::markup::{Form, Value};
 use crate::place::Place;
 use crate::put::{put, put_labels, say};
-use crate::style::HEAD;
+use crate::style::{META, STYLE};
 use crate::templates::{
-    BLOCKS_CLOSING, BLOCKS_OPENING, BUDGET_CLOSING, BUDGET_OPENING, BUDGET_PART, LEAD_NEXT, NOTHING,
+    BLOCKS_CLOSING, BLOCKS_OPENING, BUDGET_CLOSING, BUDGET_OPENING, BUDGET_PART, HEAD_OPENING,
+    LEAD_NEXT, NOTHING, TITLE, TOP,
 };
 use pb_core::election::Election;
 use pb_core::money::Money;
@@ -44,18 +46,28 @@ pub(crate) fn put_summary(
     put_result(page, language, figures)
 }
 
-/// What the page is about.
+/// What the page is about, and how it looks.
 fn put_head(page: &mut Vec<u8>, language: &Language, title: &str) -> Result<(), NoMemory>
+    ensures { OnOk result (Grows page.old.items page.new.items (top language.now title.now)) }
+{
+    put_opening(page, language)?;
+    put(page, META, &[])?;
+    put(page, TITLE, &[Value::Text(title)])?;
+    put(page, STYLE, &[])?;
+    put(page, TOP, &[Value::Text(title)])
+}
+
+/// The start of a page.
+fn put_opening(page: &mut Vec<u8>, language: &Language) -> Result<(), NoMemory>
     ensures { OnOk result (Grows page.old.items page.new.items
-        (filling HEAD.now (at language.now key.LANG ∷ at language.now key.DIR ∷ title.now ∷ []) ∷ [])) }
+        (filling HEAD_OPENING.now (at language.now key.LANG ∷ at language.now key.DIR ∷ []) ∷ [])) }
 {
     put(
         page,
-        HEAD,
+        HEAD_OPENING,
         &[
             Value::Text(language.text(keys::LANG)),
             Value::Text(language.text(keys::DIR)),
-            Value::Text(title),
         ],
     )
 }

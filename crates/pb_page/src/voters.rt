@@ -4,7 +4,7 @@ ghost use Rattle.std.specs.Prelude.{[], ◌∷◌, ◌<◌, ◌^◌, OnOk, decim
 ghost use Rattle.std.specs.List.{range_with_len};
 ghost use Rattle.pb_page.specs.Inner.Grown.{Grows};
 ghost use Rattle.pb_page.specs.Inner.Pieces.{exact_row, got, got_said, histogram, row_closing, shown_row};
-ghost use Rattle.pb_page.specs.Page.{ballots_row, say, text, voters};
+ghost use Rattle.pb_page.specs.Inner.Sections.{ballots_row, say, text, voters};
 
 use crate::forms::width;
 use crate::histogram::{BallotsRow, at_least, exactly, won_by_voter};

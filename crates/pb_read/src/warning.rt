@@ -7,7 +7,7 @@ ghost use Rattle.pb_read.specs.contracts.warning.Oddity.{the_type};
 use pb_core::names::name_at;
 
 /// The names of `Oddity`, in the order of its variants.
-pub const NAMES: [&str; 24] = [
+pub const NAMES: [&str; 27] = [
     "VotesMissing",
     "ProjectsMissing",
     "SurplusFields",
@@ -32,6 +32,9 @@ pub const NAMES: [&str; 24] = [
     "ValidColumn",
     "DistrictBudgets",
     "CutName",
+    "HiddenCharacter",
+    "BudgetAboveCosts",
+    "SeveralBallots",
 ];
 
 /// What is accepted in a file, and probably not meant, in the order in which warnings are written.
@@ -85,6 +88,12 @@ pub enum Oddity {
     DistrictBudgets,
     /// A row of PROJECTS has more fields than there are column names: a name was probably cut.
     CutName,
+    /// The id of a voter is that of another but for characters at its ends that can't be seen.
+    HiddenCharacter,
+    /// All costs together are less than a hundredth of the budget.
+    BudgetAboveCosts,
+    /// VOTES has a column that says how many ballots a row is, which no count reads.
+    SeveralBallots,
 }
 
 impl Oddity {

@@ -5,7 +5,7 @@ use crate::fields::{column_of, text_at};
 use crate::firsts::Firsts;
 use crate::mark::Mark;
 use crate::oddities::{Odd, Oddities};
-use crate::valid_columns::VALID;
+use crate::valid_columns::is_of_validity;
 use crate::vote_oddities::{NUMBERS, VoteRow};
 use crate::warnings::places_of;
 use csv::ByteRecord;
@@ -68,7 +68,7 @@ impl BehindVote {
             let name = text_at(names, place);
             let is_again = has_voters && name.eq_ignore_ascii_case(Column::Vote.name());
             let is_other = is_one_of(OTHERS, name) || is_one_of(NUMBERS, name);
-            if !is_again && !is_other && !is_one_of(VALID, name) {
+            if !is_again && !is_other && !is_of_validity(name) {
                 columns.push(FurtherColumn::of(place, name))?;
             }
         }
@@ -105,10 +105,7 @@ impl BehindVote {
         let Some(place) = stray_vote(row.record, but, row.projects) else {
             return odd;
         };
-        let odd = Odd {
-            before: Some(header),
-            ..odd.at(place).in_form(1)
-        };
+        let odd = odd.at(place).in_form(1).named_in(header);
         let value = text_at(row.record, place);
         if is_list(value) && row.min_length.unwrap_or(0) == 0 {
             let first = self.stray.unwrap_or(odd.as_a(Oddity::IdBehindVote));

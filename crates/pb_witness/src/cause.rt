@@ -1,8 +1,8 @@
 //! Why a vote names an id that no project has.
 
 use crate::changed::{
-    Difference, has_digit, how_differs, is_date, is_decimal, is_nothing, is_power, is_tick,
-    is_word, without_hidden,
+    Difference, has_digit, has_word, how_differs, is_date, is_decimal, is_nothing, is_power,
+    is_tick, is_word, without_hidden,
 };
 use crate::ids::Ids;
 use crate::projects::Projects;
@@ -58,8 +58,10 @@ pub enum Cause {
     More,
     /// The id of a project was changed.
     ChangedProject,
-    /// It is a word in place of ids.
+    /// It is a word in place of ids, or looks like a phone's keys or a list of PHP.
     Word,
+    Keycaps,
+    Php,
     /// It ends with `=`, as e-mail programs break lines.
     Mail,
     /// It has a character that no id of a project has.
@@ -88,6 +90,9 @@ impl Cause {
         )
     }
 }
+
+/// What an id has in it that shows its cause.
+const LOOKS: [(&str, Cause); 2] = [("\u{20e3}", Cause::Keycaps), (":{i:", Cause::Php)];
 
 /// What between ids makes several of them one piece.
 const BETWEEN: [(char, Cause); 9] = [
@@ -172,6 +177,8 @@ fn plain_cause(id: &str, ids: &Ids, projects: &Projects, has_columns: bool) -> O
         Cause::Mail
     } else if id.eq_ignore_ascii_case(Column::Vote.name()) {
         Cause::NamesAgain
+    } else if let Some((_, cause)) = LOOKS.iter().find(|(look, _)| has_word(id, look)) {
+        *cause
     } else if let Some(cause) = wrapped(id, ids) {
         cause
     } else if let Some(cause) = between(id, ids) {

@@ -220,6 +220,41 @@ impl FaultyRecord {
         }
     }
 
+    /// Where the other half of a short row begins, if a line break in a text seems to have cut one row into this one
+    /// and the one before it or behind it.
+    pub fn half<R: Files>(&self, text: &Text<'_, R>) -> Option<Mark> {
+        let is_kind = matches!(self.kind(), ReadKind::MissingField | ReadKind::BadMoney);
+        if !is_kind || !self.is_half_with(self.record.len()) {
+            return None;
+        }
+        let before = text.record_at(self.seen.last)?;
+        let (mark, fields) = (before.mark(), before.last.len());
+        drop(before);
+        if self.seen.last.at > self.seen.names.at && self.is_other_half(fields) {
+            return Some(mark);
+        }
+        let mut behind = text.record_at(self.mark)?;
+        let has_next = behind.advance();
+        let (mark, fields) = (behind.mark(), behind.last.len());
+        drop(behind);
+        if has_next && self.is_other_half(fields) {
+            return Some(mark);
+        }
+        None
+    }
+
+    /// Whether a row with so many fields has less than there are column names.
+    fn is_half_with(&self, fields: usize) -> bool {
+        fields < self.seen.columns
+    }
+
+    /// Whether a row with so many fields is short, and has with this one as many as there are column names, if the
+    /// field that was cut counts once.
+    fn is_other_half(&self, fields: usize) -> bool {
+        let together = self.record.len().saturating_add(fields);
+        self.is_half_with(fields) && together == self.seen.columns.saturating_add(1)
+    }
+
     /// Whether it is a row of VOTES with one field in which words stand.
     pub fn is_line_of_words(&self) -> bool {
         let has_words = text_at(&self.record, 0).contains(|c: char| c.is_whitespace());

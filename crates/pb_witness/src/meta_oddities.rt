@@ -13,9 +13,6 @@ use pb_read::{MetaKey, Oddity};
 use std::alloc::{AllocError, Global};
 use std::mem;
 
-/// How the keys of Pabulib begin that have a budget for each district or category.
-const BUDGET_PER: &str = "budget_per_";
-
 /// Words in a key beside `budget` that make it no budget of a district or category.
 const NO_DISTRICT: &str =
     "total|overall|whole|city|max|maximum|min|minimum|average|project|spent|used|unused|left|\
@@ -119,7 +116,7 @@ impl MetaOddities {
 
     /// Takes a key that may be a budget beside the one that is counted.
     fn take_further(&mut self, key: &str, value: &str, mark: Mark) {
-        let is_per = begins(key, BUDGET_PER) && !value.is_empty();
+        let is_per = begins(key, "budget_per_") && !value.is_empty();
         if !is_per && !(is_of_budget(key) && !is_of_no_district(key) && are_amounts(value)) {
             return;
         }
@@ -151,7 +148,7 @@ impl MetaOddities {
         if is_below_costs(election) {
             found.take(below);
         } else if let Some(sum) = sum_below_budget(election) {
-            found.take(below.in_form(1).by(sum));
+            found.take(below.as_a(Oddity::BudgetAboveCosts).by(sum));
         }
         match self.further {
             Some(mark) if self.has_budget_per || has_districts || self.further_count > 1 => {

@@ -7,7 +7,7 @@ use std::alloc::Global;
 
 /// The kinds in the order in which a check lists them. Where no record is named behind a kind, its record is
 /// the row of the project or the voter that it is about.
-const LISTED: [Oddity; 24] = [
+const LISTED: [Oddity; 27] = [
     Oddity::VotesMissing, // META's row
     Oddity::ProjectsMissing, // META's row
     Oddity::SurplusFields,
@@ -32,10 +32,13 @@ const LISTED: [Oddity; 24] = [
     Oddity::ValidColumn, // once a column: the first row that differs from the section's first
     Oddity::DistrictBudgets, // the first of these rows of META
     Oddity::CutName,
+    Oddity::HiddenCharacter,
+    Oddity::BudgetAboveCosts, // META's row
+    Oddity::SeveralBallots, // the row of column names
 ];
 
 /// The kinds that can change a result, in the order in which a count tells them; `--strict` refuses the first.
-const TOLD: [Oddity; 19] = [
+const TOLD: [Oddity; 22] = [
     Oddity::VotesMissing,
     Oddity::ProjectsMissing,
     Oddity::SurplusFields,
@@ -55,6 +58,9 @@ const TOLD: [Oddity; 19] = [
     Oddity::ValidColumn,
     Oddity::DistrictBudgets,
     Oddity::CutName,
+    Oddity::HiddenCharacter,
+    Oddity::BudgetAboveCosts,
+    Oddity::SeveralBallots,
 ];
 
 /// How many kinds there are.
@@ -102,8 +108,10 @@ pub struct Odd {
     pub number: u64,
     /// What the number should not pass, or should be, where META says so.
     pub limit: Option<u64>,
-    /// The earlier row that it repeats, or differs from; of a row without a vote the row of column names.
+    /// The earlier row that it repeats, or differs from.
     pub before: Option<Mark>,
+    /// The row of column names, where words name a column.
+    pub names: Option<Mark>,
 }
 
 impl Odd {
@@ -119,6 +127,7 @@ impl Odd {
             number: 0,
             limit: None,
             before: None,
+            names: None,
         }
     }
 
@@ -165,6 +174,14 @@ impl Odd {
     pub fn at(self, value_place: usize) -> Odd {
         Odd {
             value_place,
+            ..self
+        }
+    }
+
+    /// The same, of a column whose name stands in this row.
+    pub fn named_in(self, names: Mark) -> Odd {
+        Odd {
+            names: Some(names),
             ..self
         }
     }

@@ -13,9 +13,6 @@ use pb_core::election::Election;
 use pb_read::{Oddity, ProjectColumns};
 use std::alloc::{AllocError, Global};
 
-/// The columns that name a part of the city.
-const DISTRICTS: &str = "district|subdistrict|neighborhood|subunit";
-
 /// What a row of totals is called.
 const TOTALS: &str =
     "total|totals|sum|suma|summe|razem|gesamt|insgesamt|celkem|totale|totaal|somme|subtotal";
@@ -23,7 +20,18 @@ const TOTALS: &str =
 /// The fewest projects above a last one that is their sum by its cost alone.
 const MANY: usize = 4;
 
-/// A row that is accepted.
+/// A row of PROJECTS that is accepted.
+#[derive(Clone, Copy)]
+pub(crate) struct AcceptedProject<'a> {
+    pub(crate) record: &'a ByteRecord,
+    /// Where it begins.
+    pub(crate) mark: Mark,
+    pub(crate) columns: ProjectColumns,
+    /// The ids of the projects before it, each with its place.
+    pub(crate) projects: &'a Firsts,
+}
+
+/// What is kept of it.
 #[derive(Clone, Copy)]
 struct CheckedProject {
     mark: Mark,
@@ -47,7 +55,8 @@ impl CheckedProject {
 #[derive(Drop)]
 pub(crate) struct ProjectOddities {
     alloc: Global,
-    /// How many column names there are.
+    /// Where the row of column names begins, and how many there are.
+    header: Mark,
     pub(crate) names: usize,
     /// The places of the columns that claim a result.
     votes: Option<usize>,
@@ -60,13 +69,18 @@ pub(crate) struct ProjectOddities {
 
 impl ProjectOddities {
     /// Nothing was read yet but the row of column names.
-    pub(crate) fn of(alloc: Global, names: &ByteRecord) -> Result<ProjectOddities, AllocError> {
+    pub(crate) fn of(
+        alloc: Global,
+        names: &ByteRecord,
+        header: Mark,
+    ) -> Result<ProjectOddities, AllocError> {
         Ok(ProjectOddities {
             alloc,
+            header,
             names: names.len(),
             votes: column_of(names, "votes"),
             selected: column_of(names, "selected"),
-            has_districts: DISTRICTS
+            has_districts: "district|subdistrict|neighborhood|subunit"
                 .split('|')
                 .any(|word| column_of(names, word).is_some()),
             valid: ValidColumn::all_of(alloc, names)?,
@@ -77,12 +91,10 @@ impl ProjectOddities {
     /// Takes a row that is accepted.
     pub(crate) fn take(
         &mut self,
-        row: &ByteRecord,
-        mark: Mark,
-        columns: ProjectColumns,
-        projects: &Firsts,
+        row: AcceptedProject<'_>,
         found: &mut Oddities,
     ) -> Result<(), AllocError> {
+        let (row, mark, columns, projects) = (row.record, row.mark, row.columns, row.projects);
         let odd = Odd::of_project(Oddity::ThousandsMark, mark, columns);
         found.has_decimals |= has_decimals(text_at(row, columns.cost));
         if has_thousands_mark(text_at(row, columns.cost)) {
@@ -100,7 +112,8 @@ impl ProjectOddities {
             }
         }
         for column in self.valid.iter_mut() {
-            column.take(row, odd.as_a(Oddity::ValidColumn), found)?;
+            let odd = odd.as_a(Oddity::ValidColumn).named_in(self.header);
+            column.take(row, odd, found)?;
         }
         self.accepted.push(CheckedProject {
             mark,

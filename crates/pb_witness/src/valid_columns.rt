@@ -1,20 +1,22 @@
 //! Columns that say which rows are valid, and that no count reads.
 
 use crate::changed::{has_word, is_one_of};
-use crate::fields::{column_of, text_at};
+use crate::fields::text_at;
 use crate::mark::Mark;
 use crate::oddities::{Odd, Oddities, Subject};
 use csv::ByteRecord;
 use std::alloc::{AllocError, Global};
 
 /// What such columns are called.
-pub const VALID: &str =
+const VALID: &str =
     "valid|is_valid|invalid|accepted|status|withdrawn|cancelled|deleted|duplicate|counted|finished|\
-    completed|wazny|ważny|gueltig|gültig|platny|platný|geldig|valide|remark|remarks|comment|\
-    comments|note|notes";
+    completed|wazny|ważny|gueltig|gültig|platny|platný|geldig|valide";
 
-/// How many of them say nothing else: the others have remarks.
-const STATED: usize = 20;
+/// How names begin of further ones, such as one with the day on which a project was withdrawn.
+const BEGINNINGS: &str = "withdrawn|cancelled|invalid|removed|rejected";
+
+/// What columns are called that have remarks.
+const NOTES: &str = "remark|remarks|comment|comments|note|notes";
 
 /// What a remark says of a vote that should not count.
 const REMARKS: &str =
@@ -29,14 +31,24 @@ const STATES: &str =
 /// A column that says which rows are valid.
 #[derive(Drop)]
 pub(crate) struct ValidColumn {
-    /// The place of its name in `VALID`, and its own place.
-    name: usize,
     place: usize,
+    /// Whether it has remarks, and whether it may say something else than that.
+    has_remarks: bool,
+    says_more: bool,
     /// Where the section's first row begins, and what it says.
     first: Option<Mark>,
     value: String,
-    /// Whether a row differs from it.
+    /// Whether a row differs from it, or has a remark.
     differs: bool,
+}
+
+/// Whether a column of this name says which rows are valid, or has remarks.
+pub(crate) fn is_of_validity(name: &str) -> bool {
+    let begins = |word: &str| match name.as_bytes().get(..word.len()) {
+        Some(start) => start.eq_ignore_ascii_case(word.as_bytes()),
+        None => false,
+    };
+    is_one_of(VALID, name) || is_one_of(NOTES, name) || BEGINNINGS.split('|').any(begins)
 }
 
 impl ValidColumn {
@@ -46,11 +58,13 @@ impl ValidColumn {
         names: &ByteRecord,
     ) -> Result<Vec<ValidColumn>, AllocError> {
         let mut columns = Vec::new(alloc);
-        for (name, word) in VALID.split('|').enumerate() {
-            if let Some(place) = column_of(names, word) {
+        for place in 0..names.len() {
+            let name = text_at(names, place);
+            if is_of_validity(name) {
                 columns.push(ValidColumn {
-                    name,
                     place,
+                    has_remarks: is_one_of(NOTES, name),
+                    says_more: is_one_of("status|accepted|finished|completed", name),
                     first: None,
                     value: String::new(alloc),
                     differs: false,
@@ -60,7 +74,7 @@ impl ValidColumn {
         Ok(columns)
     }
 
-    /// Takes a row, which is odd so where it is the first that differs from the section's first.
+    /// Takes a row, which is odd so where it is the first that differs from the section's first, or has a remark.
     pub(crate) fn take(
         &mut self,
         row: &ByteRecord,
@@ -68,17 +82,20 @@ impl ValidColumn {
         found: &mut Oddities,
     ) -> Result<(), AllocError> {
         let value = text_at(row, self.place);
-        let odd = odd.at(self.place).by(self.name as u64);
-        if self.name >= STATED {
+        let odd = odd.at(self.place);
+        if self.differs {
+            return Ok(());
+        }
+        if self.has_remarks {
             let says = REMARKS.split('|').any(|word| has_word(value, word));
-            if says && !self.differs && odd.subject == Subject::Voter {
+            if says && odd.subject == Subject::Voter {
                 self.differs = true;
                 found.take(odd.in_form(2));
             }
         } else if self.first.is_none() {
             self.first = Some(odd.mark);
             self.value.push_str(value)?;
-        } else if !self.differs && self.is_other(value) {
+        } else if self.is_other(value) {
             self.differs = true;
             found.take(Odd {
                 before: self.first,
@@ -91,10 +108,10 @@ impl ValidColumn {
     /// Whether a value says something else of a row than the section's first row has.
     fn is_other(&self, value: &str) -> bool {
         let first = self.value.as_str();
-        let is_state = is_one_of(STATES, value) || is_one_of(STATES, first);
-        let name = VALID.split('|').nth(self.name).unwrap_or("");
-        let says_more = matches!(name, "status" | "accepted" | "finished" | "completed");
-        let is_mark = !says_more && value.is_empty() != first.is_empty();
-        (is_state || is_mark) && !value.eq_ignore_ascii_case(first)
+        if value.eq_ignore_ascii_case(first) {
+            return false;
+        }
+        let is_mark = !self.says_more && value.is_empty() != first.is_empty();
+        is_mark || is_one_of(STATES, value) || is_one_of(STATES, first)
     }
 }

@@ -49,8 +49,8 @@ impl VoteRow<'_> {
 #[derive(Clone, Copy)]
 struct NumberColumn {
     place: usize,
-    /// 0 for points, 1 for a number of ballots.
-    form: usize,
+    /// What it is odd for: points, or a number of ballots.
+    oddity: Oddity,
     /// Whether no row had such a number yet.
     is_open: bool,
 }
@@ -95,7 +95,11 @@ impl VoteOddities {
             if let Some(place) = column_of(names, name) {
                 numbers.push(NumberColumn {
                     place,
-                    form: if kind < POINTS { 0 } else { 1 },
+                    oddity: if kind < POINTS {
+                        Oddity::VotesWithPoints
+                    } else {
+                        Oddity::SeveralBallots
+                    },
                     is_open: true,
                 })?;
             }
@@ -133,7 +137,7 @@ impl VoteOddities {
         if is_marked(text_at(row.record, row.columns.voter)) {
             self.marked.push(MarkedVoter {
                 place: row.election.voters().len().saturating_sub(1),
-                odd: row.odd(Oddity::TwiceInVote).in_form(1),
+                odd: row.odd(Oddity::HiddenCharacter),
             })?;
         }
         if self.has_further || row.record.len() > self.names {
@@ -149,10 +153,7 @@ impl VoteOddities {
         ballot: &[u32],
         found: &mut Oddities,
     ) -> Result<(), AllocError> {
-        let odd = Odd {
-            before: Some(self.header),
-            ..row.odd(Oddity::IdBehindVote)
-        };
+        let odd = row.odd(Oddity::IdBehindVote).named_in(self.header);
         self.behind.take(row.record, odd, ballot, row.projects);
         if row.record.len() > self.names {
             found.take(odd.as_a(Oddity::SurplusFields).by(self.names as u64));
@@ -161,8 +162,7 @@ impl VoteOddities {
             let value = text_at(row.record, column.place);
             if column.is_open && column.has_number(value, ballot.len() as u64) {
                 column.is_open = false;
-                let odd = Odd::of_column(Oddity::VotesWithPoints, self.header, column.place);
-                found.take(odd.in_form(column.form));
+                found.take(Odd::of_column(column.oddity, self.header, column.place));
             }
         }
         for column in self.valid.iter_mut() {
@@ -266,7 +266,7 @@ impl NumberColumn {
     /// Whether a value of a row whose vote approves so many projects says what no count reads: that not each
     /// project has one point, or that the row is not one ballot.
     fn has_number(&self, value: &str, length: u64) -> bool {
-        if self.form == 0 {
+        if self.oddity == Oddity::VotesWithPoints {
             return value
                 .split(',')
                 .any(|piece| !matches!(piece.trim(), "" | "1"));

@@ -6,7 +6,7 @@ use crate::fields::text_at;
 use crate::mark::Mark;
 use crate::meta_oddities::MetaOddities;
 use crate::oddities::{Odd, Oddities};
-use crate::project_oddities::ProjectOddities;
+use crate::project_oddities::{AcceptedProject, ProjectOddities};
 use crate::swallowed::swallows_row;
 use crate::vote_oddities::{VoteOddities, VoteRow};
 use crate::witness::Witness;
@@ -108,7 +108,13 @@ impl Warnings {
                 self.rows.1 = self.rows.1.saturating_add(1);
                 match &mut self.projects {
                     Some(projects) => {
-                        projects.take(row, mark, columns, &self.witness.ids.projects, found)
+                        let row = AcceptedProject {
+                            record: row,
+                            mark,
+                            columns,
+                            projects: &self.witness.ids.projects,
+                        };
+                        projects.take(row, found)
                     }
                     None => Ok(()),
                 }
@@ -157,7 +163,7 @@ impl Warnings {
             Section::Projects => {
                 self.meta.end_meta(found);
                 take_repeated(names, mark, [Column::ProjectId, Column::Cost], found);
-                self.projects = Some(ProjectOddities::of(self.alloc, names)?);
+                self.projects = Some(ProjectOddities::of(self.alloc, names, mark)?);
             }
             Section::Votes => {
                 take_repeated(names, mark, [Column::VoterId, Column::Vote], found);

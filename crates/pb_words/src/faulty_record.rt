@@ -47,7 +47,7 @@ const INVISIBLE: &str =
 
 /// What to do about a row of PROJECTS that is one word, or too short.
 const ONE_WORD: &str =
-    "If it is the heading of the votes, write VOTES. If not, complete the row, or delete it if it is a note.\n";
+    "If it is the heading of the votes, write VOTES. If it is the end of a text on the line above, join the two lines. If it is a note, delete it.\n";
 
 /// What to do about a project's row that has an id alone.
 const ALONE: &str =

@@ -40,9 +40,15 @@ pub fn write_words(alloc: Global, path: Option<&str>, reason: Option<&Error>) ->
             );
         }
         (Some(_), Some(ErrorKind::IsADirectory)) => return said(alloc, FOLDER, &[Name(path)]),
-        (Some(_), Some(ErrorKind::NotFound)) => (Name(path), NO_SUCH_FOLDER),
+        (Some(_), Some(ErrorKind::NotFound)) => (
+            Name(path),
+            "The result was not written. Name a file in a folder that exists.\n",
+        ),
         (Some(_), _) => (Name(path), UNWRITTEN),
-        (None, _) => (Own("standard output"), CUT_OFF),
+        (None, _) => (
+            Own("standard output"),
+            "Check for a full disk or a closed pipe. Do not use the part that was written.\n",
+        ),
     };
     failed(
         alloc,
@@ -53,15 +59,9 @@ pub fn write_words(alloc: Global, path: Option<&str>, reason: Option<&Error>) ->
     )
 }
 
-/// What to do where a result could not be written to a file, and to standard output.
-const NO_SUCH_FOLDER: &str = "The result was not written. Name a file in a folder that exists.\n";
-
 const UNWRITTEN: &str =
     "The result was not written. Check that you may write to this folder, and that the disk is not full. \
     A file that already had this name is unchanged.\n";
-
-const CUT_OFF: &str =
-    "Check for a full disk or a closed pipe. Do not use the part that was written.\n";
 
 /// Puts why a text could not be read to its end, at the record with this number where there is one, if it has
 /// a path; answers whether it has. A file is tried once more, for the system's reason.

@@ -24,10 +24,6 @@ use std::rt::Files;
 /// What is said of a row whose number is not the next one.
 const MISPLACED: &str = "A row is missing, repeated or in the wrong order.";
 
-/// What is said of a row whose answer is wrong.
-const OTHER_ANSWER: &str =
-    "Check that {} is the .pb file with which the desk was opened. If it is, this row was changed, or a row above it was changed or deleted.";
-
 /// What is said of a journal that is perhaps another file, has an incomplete end, or is of another version.
 const OTHER_FILE: &str =
     "Check that {} is the journal. (The .pb file comes first in the command, then the journal.) \
@@ -36,16 +32,6 @@ const OTHER_FILE: &str =
 const INCOMPLETE: &str =
     "If the power failed or the disk was full, run `pb_app serve` first: it cuts off the incomplete end. \
     If not, the journal is not as the desk wrote it.";
-
-const NEWER: &str =
-    "If a newer pb_app wrote the journal, use that program. If not, the journal is not as the desk wrote it.";
-
-/// Where to get a journal that is right.
-const GET_IT: &str = " Get the journal from the desk's machine, or last evening's copy.\n";
-
-/// Where a desk gets it.
-const GET_COPY: &str =
-    " `pb_app serve` did not change the journal. Get last evening's copy, and compare the two.\n";
 
 /// Words for a fault of a journal that was audited on a .pb file.
 pub fn journal_words<R: Files>(
@@ -73,12 +59,19 @@ fn put_words<R: Files>(out: &mut WordsWriter, audited: &Audited<R>) {
 /// Puts this sentence, and where to get a journal that is right.
 fn put_get<R>(out: &mut WordsWriter, audited: &Audited<R>, why: &str) {
     out.put(why);
-    out.put(if audited.is_served { GET_COPY } else { GET_IT })
+    out.put(if audited.is_served {
+        " `pb_app serve` did not change the journal. Get last evening's copy, and compare the two.\n"
+    } else {
+        " Get the journal from the desk's machine, or last evening's copy.\n"
+    })
 }
 
 /// Puts what to do about a wrong answer.
 fn put_other_answer<R>(out: &mut WordsWriter, audited: &Audited<R>) {
-    out.fill(OTHER_ANSWER, &[Name(audited.file.path)]);
+    out.fill(
+        "Check that {} is the .pb file with which the desk was opened. If it is, this row was changed, or a row above it was changed or deleted.",
+        &[Name(audited.file.path)],
+    );
     put_get(out, audited, "")
 }
 
@@ -134,7 +127,11 @@ fn put_row<R: Files>(out: &mut WordsWriter, audited: &Audited<R>, row: &ByteReco
                 ": this program can't read journals of version {}; the first line should be `journal;2`.\n",
                 &[Bytes(bytes_at(row, 1))],
             );
-            put_get(out, audited, NEWER)
+            put_get(
+                out,
+                audited,
+                "If a newer pb_app wrote the journal, use that program. If not, the journal is not as the desk wrote it.",
+            )
         }
         AuditFault::BadRow(_) => {
             if !put_unclosed(out, span) {

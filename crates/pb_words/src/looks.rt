@@ -58,9 +58,6 @@ const UTF_16: &str =
 /// What is said of a file in which no line has a text.
 pub(crate) const EMPTY: &str = ": the file is empty.\nGet or save the file again.\n";
 
-const WEB_PAGE: &str =
-    ": the file looks like a web page.\nGet the file itself, and not the page that shows it.\n";
-
 /// Puts what a text that is a file looks like by its first bytes, and what to do, and answers whether they say
 /// something.
 pub(crate) fn put_looks<R: Files>(out: &mut WordsWriter, text: &Text<R>) -> bool {
@@ -102,7 +99,9 @@ fn looks_by(bytes: &[u8]) -> Option<&'static str> {
     match LOOKS.iter().find(|(begins, _)| bytes.starts_with(begins)) {
         Some((_, words)) => Some(*words),
         None if bytes.is_empty() => Some(EMPTY),
-        None if is_web_page(bytes) => Some(WEB_PAGE),
+        None if is_web_page(bytes) => Some(
+            ": the file looks like a web page.\nGet the file itself, and not the page that shows it.\n",
+        ),
         None if is_json(bytes) => Some(JSON),
         None => None,
     }

@@ -7,22 +7,9 @@ use pb_witness::quote::{Span, span_of};
 use pb_witness::text::Text;
 use std::rt::Files;
 
-/// What is said of a quotation mark that is never closed.
-const UNCLOSED: &str = " and is never closed, so the rest of the file is read as one field.\n";
-
 /// What to do about it.
 pub(crate) const CLOSE_IT: &str =
     "Delete it, or write a second quotation mark where the text should end. If the text itself has quotation marks, write each of them twice, and put the whole text in quotation marks: `\"Playground \"\"Otter\"\"\"`.\n";
-
-/// What is said of a field in quotes that runs over several lines.
-const OVER_LINES: &str = " and is closed on line {}, so these lines are read as one field.\n";
-
-/// What to do about it, where the two lines have no other quotation mark, and where they have.
-const TWO_MARKS: &str =
-    "If each line should be a row of its own, delete the quotation mark on line {} and the one on line {}.\n";
-
-const LOOK_THERE: &str =
-    "If each line should be a row of its own, line {} has one quotation mark too many, or one too few. The quotation marks on line {} may be right.\n";
 
 /// Puts where a record stands that was not read again: `standard input: row 32`.
 pub(crate) fn put_record_number<R>(out: &mut WordsWriter, text: &Text<R>, at: u64) {
@@ -64,7 +51,7 @@ pub(crate) fn put_unclosed(out: &mut WordsWriter, span: Span) -> bool {
         return false;
     };
     put_opening(out, span, opens);
-    out.put(UNCLOSED);
+    out.put(" and is never closed, so the rest of the file is read as one field.\n");
     true
 }
 
@@ -79,11 +66,14 @@ pub(crate) fn put_over(out: &mut WordsWriter, span: Span, is_sentence: bool) -> 
     } else {
         put_opening(out, span, opens);
     }
-    out.fill(OVER_LINES, &[Number(closes)]);
+    out.fill(
+        " and is closed on line {}, so these lines are read as one field.\n",
+        &[Number(closes)],
+    );
     let form = if span.is_single {
-        TWO_MARKS
+        "If each line should be a row of its own, delete the quotation mark on line {} and the one on line {}.\n"
     } else {
-        LOOK_THERE
+        "If each line should be a row of its own, line {} has one quotation mark too many, or one too few. The quotation marks on line {} may be right.\n"
     };
     out.fill(form, &[Number(opens), Number(closes)]);
     true

@@ -28,9 +28,6 @@ const ADD_VOTE_TYPE: &str =
 const TAKEN_FOR_NAMES: &str =
     ": this row, with the key `{}`, was taken for META's row of column names.\nWrite `key;value` on a line of its own above it.\n";
 
-/// What to do where fields are separated by something else than `;`.
-const SAVE_AGAIN: &str = "The fields are separated by {}. {}";
-
 /// What to do about it in a .pb file, in a script, and in a row that was typed.
 pub(crate) const VOTE: &str =
     "Save the file again with `;` between the fields. Keep the commas between the ids of a vote.\n";
@@ -40,10 +37,6 @@ pub(crate) const BALLOT: &str =
 
 pub(crate) const TYPED: &str =
     "Write `;` between the fields, and `,` only between the projects of a ballot.\n";
-
-/// What to do about a row that is one field in quotes.
-const NO_QUOTES: &str =
-    "Quotation marks around the whole row turn it into one field. Delete these quotation marks.\n";
 
 /// What to do about rows that are one field in quotes, such as the one on this line.
 const NO_QUOTES_AT: &str =
@@ -96,11 +89,17 @@ fn value_remedy(kind: ReadKind, value: &str) -> &'static str {
 pub(crate) fn put_cleaning<R>(out: &mut WordsWriter, text: &Text<R>, kind: ReadKind, value: &str) {
     match kind {
         ReadKind::MoneyTooFine if has_thousandths(value) => out.fill(
-            THOUSANDTHS,
+            "`pb_clean {} -o NEW.pb --marks thousands` does the first, and `--marks decimals --round half-up` the second.\n",
             &[Name(text.path)],
         ),
-        ReadKind::MoneyTooFine => out.fill(ROUND, &[Name(text.path)]),
-        ReadKind::NotText => out.fill(ENCODING, &[Name(text.path)]),
+        ReadKind::MoneyTooFine => out.fill(
+            "`pb_clean {} -o NEW.pb --round half-up` rounds it.\n",
+            &[Name(text.path)],
+        ),
+        ReadKind::NotText => out.fill(
+            "If you know how it is encoded, `pb_clean {} -o NEW.pb --encoding NAME` does this, for example with `cp1250`.\n",
+            &[Name(text.path)],
+        ),
         _ => {
             if let Some(options) = clean_options(kind, value) {
                 put_clean(out, text, options)
@@ -111,15 +110,6 @@ pub(crate) fn put_cleaning<R>(out: &mut WordsWriter, text: &Text<R>, kind: ReadK
 
 /// The vote type of votes for one project each.
 pub(crate) const ONE_CHOICE: &str = "choose-1";
-
-/// How `pb_clean` mends an amount with three decimals, and one with more, and reads another encoding.
-const THOUSANDTHS: &str =
-    "`pb_clean {} -o NEW.pb --marks thousands` does the first, and `--marks decimals --round half-up` the second.\n";
-
-const ROUND: &str = "`pb_clean {} -o NEW.pb --round half-up` rounds it.\n";
-
-const ENCODING: &str =
-    "If you know how it is encoded, `pb_clean {} -o NEW.pb --encoding NAME` does this, for example with `cp1250`.\n";
 
 /// Puts which key META lacks, and what to do.
 pub(crate) fn put_missing_key<R: Files>(
@@ -169,7 +159,10 @@ fn put_like_key<R: Files>(out: &mut WordsWriter, text: &Text<R>, key: &'static s
     if has_one {
         let field = text_at(&records.last, 0);
         let _ = put_mark(out, text, records.mark());
-        out.fill(LIKE_KEY, &[Own(key), Quoted(field), Own(key)]);
+        out.fill(
+            ": this row seems to give `{}`, but its key is {}.\nWrite only `{}` before the `;`, and the value behind it.\n",
+            &[Own(key), Quoted(field), Own(key)],
+        );
         if without_hidden(field).len() == key.len() {
             put_clean(out, text, "");
         }
@@ -198,10 +191,6 @@ fn find_like<F: Read>(records: &mut TextRecords<F>, key: &str) -> bool {
     false
 }
 
-/// What is said of a row of META whose key is one that the count uses, and more.
-const LIKE_KEY: &str =
-    ": this row seems to give `{}`, but its key is {}.\nWrite only `{}` before the `;`, and the value behind it.\n";
-
 /// Puts which command mends a file whose fields something else than `;` separates, if one does.
 pub(crate) fn put_separate<R>(out: &mut WordsWriter, text: &Text<R>, joined: JoinedBy) {
     match joined {
@@ -222,8 +211,13 @@ pub(crate) fn put_joined(
     separate: &'static str,
 ) {
     match joined.map(JoinedBy::separators) {
-        Some(Some(separators)) => out.fill(SAVE_AGAIN, &[Own(separators), Own(separate)]),
-        Some(None) => out.put(NO_QUOTES),
+        Some(Some(separators)) => out.fill(
+            "The fields are separated by {}. {}",
+            &[Own(separators), Own(separate)],
+        ),
+        Some(None) => out.put(
+            "Quotation marks around the whole row turn it into one field. Delete these quotation marks.\n",
+        ),
         None => out.put(remedy),
     }
 }

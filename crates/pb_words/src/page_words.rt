@@ -42,7 +42,10 @@ impl KeyLine<'_> {
             "a control character"
         };
         self.put(out, "");
-        out.fill(MARKUP, &[shown(markup_in(self.value), otherwise)])
+        out.fill(
+            ": the sentence has {}, which is not allowed here.\nWrite the sentence without <, >, & and control characters.\n",
+            &[shown(markup_in(self.value), otherwise)],
+        )
     }
 
     /// Puts that its key does not take its value, and which values it takes.
@@ -129,12 +132,6 @@ impl KeyLine<'_> {
     }
 }
 
-const MARKUP: &str =
-    ": the sentence has {}, which is not allowed here.\nWrite the sentence without <, >, & and control characters.\n";
-
-const NO_FEW: &str =
-    "The line `plural = polish` asks for it: nouns then have three forms, as words/pl.words shows. If the language has no such form, correct the line `plural`.\n";
-
 /// Puts that the line with this number is not text.
 pub fn put_not_text(out: &mut WordsWriter, line: u32) {
     out.fill(
@@ -163,7 +160,9 @@ pub fn put_unknown_key(out: &mut WordsWriter, line: u32, key: &str) {
 pub fn put_missing_key(out: &mut WordsWriter, key: &'static str) {
     out.fill(": no line has the key `{}`.\n", &[Own(key)]);
     match values_of(key) {
-        "" if key.ends_with(".few") => out.put(NO_FEW),
+        "" if key.ends_with(".few") => out.put(
+            "The line `plural = polish` asks for it: nouns then have three forms, as words/pl.words shows. If the language has no such form, correct the line `plural`.\n",
+        ),
         "" => out.put("Copy its line from words/en.words, and translate it.\n"),
         values => out.fill(
             "Add the line `{} = VALUE`. VALUE is {}.\n",

@@ -16,10 +16,6 @@ use pb_witness::witness::Witness;
 use std::alloc::Global;
 use std::rt::Files;
 
-/// How to see more of the rows of a text that can't be read again.
-const ROWS_OF_INPUT: &str =
-    "Empty lines are not counted as rows. To see the line, and what is wrong there, save the text in a file, and name this file in the command.\n";
-
 /// Words for a fault of the .pb file with this path; no path is standard input. If the witness did not look
 /// on while the file was read, or the cause of the fault may be in the rest, the file is read once more.
 pub fn read_words<R: Files>(
@@ -92,7 +88,7 @@ fn put_each_fault<R: Files>(
 ) {
     let can_be_read = text.is_file();
     let mut names_row = false;
-    let mut told = Told {
+    let mut told = CausesTold {
         repeats: [false; Repeat::COUNT],
         mail: false,
     };
@@ -112,13 +108,15 @@ fn put_each_fault<R: Files>(
         }
     }
     if names_row {
-        out.put(ROWS_OF_INPUT);
+        out.put(
+            "Empty lines are not counted as rows. To see the line, and what is wrong there, save the text in a file, and name this file in the command.\n",
+        );
     }
 }
 
 /// For which causes words have been put.
 #[derive(Clone, Copy)]
-struct Told {
+struct CausesTold {
     repeats: [bool; Repeat::COUNT],
     /// Whether it was said that an e-mail program broke lines.
     mail: bool,
@@ -129,7 +127,7 @@ fn is_told<R: Files>(
     text: &Text<R>,
     known: &Known,
     faulty: &FaultyRecord,
-    told: &mut Told,
+    told: &mut CausesTold,
 ) -> bool {
     match faulty.kind() {
         ReadKind::UnknownProject => is_vote_told(known, faulty),

@@ -65,6 +65,10 @@ const TABS: &str = "Tabs separate the fields of this row. Write `;` in place of 
 const COMMAS: &str =
     "Commas separate the fields of this row. Write `;` between them, but keep the commas between the ids of a vote.\n";
 
+/// What to do about a row that a line break cut in two.
+const HALVES: &str =
+    "This row and the one on line {} may be one row, cut by a line break in a text. If so, join them.\n";
+
 /// What to do about a line of words among the votes.
 const LINE_OF_WORDS: &str =
     "If it is a heading or a note, delete it. If it says that rows are left out, get the whole file. If it is a vote, write all of its fields.\n";
@@ -110,13 +114,8 @@ fn put_record<R: Files>(
     known: &Known,
     faulty: &FaultyRecord,
 ) {
-    if let Some(records) = faulty.like_head(text) {
-        let _ = put_mark(out, text, records.mark());
-        return out.fill(LIKE_A_HEAD, &[Quoted(text_at(&records.last, 0))]);
-    }
-    if faulty.is_of_mail(text) {
-        let _ = put_mark(out, text, faulty.mark);
-        return out.put(MAIL);
+    if put_line_words(out, text, faulty) {
+        return;
     }
     let is_vote = faulty.kind() == ReadKind::UnknownProject;
     if is_vote && !faulty.is_spaced_quote() && !faulty.is_ditto() {
@@ -152,6 +151,22 @@ fn put_record<R: Files>(
         put_remedy(out, text, known, faulty);
     }
     let _ = put_over(out, span, true);
+}
+
+/// Puts what is wrong with a line that is read as a heading, or that an e-mail program broke; answers whether it is
+/// one.
+fn put_line_words<R: Files>(out: &mut WordsWriter, text: &Text<R>, faulty: &FaultyRecord) -> bool {
+    if let Some(records) = faulty.like_head(text) {
+        let _ = put_mark(out, text, records.mark());
+        out.fill(LIKE_A_HEAD, &[Quoted(text_at(&records.last, 0))]);
+        return true;
+    }
+    let is_of_mail = faulty.is_of_mail(text);
+    if is_of_mail {
+        let _ = put_mark(out, text, faulty.mark);
+        out.put(MAIL);
+    }
+    is_of_mail
 }
 
 /// Puts which quotation mark is wrong in a record whose line was put, and what to do; answers whether one is.
@@ -222,15 +237,8 @@ fn put_remedy<R: Files>(
     if let Some(odd) = faulty.odd_head() {
         return put_odd_head(out, text, odd);
     }
-    if let Some(marks) = faulty.marks() {
-        let is_tabs = matches!(marks, JoinedBy::Tabs);
-        return out.put(if is_tabs { TABS } else { COMMAS });
-    }
-    if faulty.is_line_of_words() {
-        return out.put(LINE_OF_WORDS);
-    }
-    if faulty.kind() == ReadKind::MissingField && faulty.is_like_project(text) {
-        return out.put(LATE_PROJECT);
+    if put_row_words(out, text, faulty) {
+        return;
     }
     let is_before_meta = faulty.kind() == ReadKind::NoSection && faulty.is_first();
     if is_before_meta && put_late_meta(out, text, faulty.mark) {
@@ -259,6 +267,23 @@ fn put_remedy<R: Files>(
         None if faulty.is_behind_mark() || faulty.is_by_project() => put_clean(out, text, ""),
         None => put_cleaning(out, text, faulty.kind(), faulty.value()),
     }
+}
+
+/// Puts what to do about a row that seems to be none of its section, or half of one; answers whether it seems so.
+fn put_row_words<R: Files>(out: &mut WordsWriter, text: &Text<R>, faulty: &FaultyRecord) -> bool {
+    if let Some(half) = faulty.half(text) {
+        out.fill(HALVES, &[Number(line_of(text, half))])
+    } else if let Some(marks) = faulty.marks() {
+        let is_tabs = matches!(marks, JoinedBy::Tabs);
+        out.put(if is_tabs { TABS } else { COMMAS })
+    } else if faulty.is_line_of_words() {
+        out.put(LINE_OF_WORDS)
+    } else if faulty.kind() == ReadKind::MissingField && faulty.is_like_project(text) {
+        out.put(LATE_PROJECT)
+    } else {
+        return false;
+    }
+    true
 }
 
 /// Puts that a row has more fields than there are column names, and what to do.

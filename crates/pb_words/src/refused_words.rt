@@ -62,19 +62,25 @@ fn put_remedy<R: Files>(out: &mut WordsWriter, refused: &RefusedRow<'_>, roll: &
         }
         RowRefusal::UnknownId => "Correct the id",
         RowRefusal::TooFew => "Ask the voter which further projects to add",
-        RowRefusal::FromFile => FROM_FILE,
-        RowRefusal::NoShut => NO_SHUT,
+        RowRefusal::FromFile =>
+            "What the desk has for this voter stays as it is. If the voter's id is wrong, correct it",
+        RowRefusal::NoShut =>
+            "A shut is final. If an open desk is to be shut, start `serve` without `--no-shut`",
         RowRefusal::NotOnRoll | RowRefusal::Bad => {
             let joined = roll.joined_behind(Mark::start());
             if let Some(Some(separators)) = joined.map(JoinedBy::separators) {
-                return out.fill(OTHER_SEPARATORS, &[Own(separators)]);
+                return out.fill(
+                    "The fields of the roll are separated by {}. Save the roll again with `;` between the fields, and run again.\n",
+                    &[Own(separators)],
+                );
             }
             "Correct the voter's id, or add it to the roll as the first field of a row"
         }
     };
     let again = match (refused.refuses_script, refused.why) {
         (true, _) => "run again.",
-        (false, RowRefusal::NotOnRoll) => AGAIN,
+        (false, RowRefusal::NotOnRoll) =>
+            "send the request again. (`serve` reads the roll when it starts: start it again if you changed the roll.)",
         (false, _) => "send the request again.",
     };
     out.fill("{}, and {}\n", &[Own(remedy), Own(again)])
@@ -118,30 +124,6 @@ pub fn like_a_place_words(alloc: Global, id: &str) -> Said {
     )
 }
 
-/// What to do where a voter is not on a roll whose fields something else than `;` separates.
-const OTHER_SEPARATORS: &str =
-    "The fields of the roll are separated by {}. Save the roll again with `;` between the fields, and run again.\n";
-
-/// What to do about a request for a voter of the file.
-const FROM_FILE: &str =
-    "What the desk has for this voter stays as it is. If the voter's id is wrong, correct it";
-
-/// What to do where a request may not shut the desk.
-const NO_SHUT: &str =
-    "A shut is final. If an open desk is to be shut, start `serve` without `--no-shut`";
-
-/// What to do behind the correction of a voter who is not on the roll of `serve`.
-const AGAIN: &str =
-    "send the request again. (`serve` reads the roll when it starts: start it again if you changed the roll.)";
-
-const ROLL_UNREAD: &str =
-    "the roll could not be read to its end.\nCheck the disk or the connection, then run again.\n";
-
-const ROLL_NOT_TEXT: &str =
-    "the row is not UTF-8 text.\nSave the file again with the encoding UTF-8.\n";
-
-const ROLL_TOO_LONG: &str = "the roll has more than 2,000,000 ids.\nA longer roll can't be used.\n";
-
 /// Words for a fault of the voters' roll with this path.
 pub fn roll_words<R: Files>(rt: &R, alloc: Global, path: &str, fault: RollFault) -> Said {
     let (row, what) = match fault {
@@ -149,9 +131,18 @@ pub fn roll_words<R: Files>(rt: &R, alloc: Global, path: &str, fault: RollFault)
             return said(alloc, FOLDER, &[Name(Some(path))]);
         }
         RollFault::NoMemory => return said(alloc, "{}{}", &[Name(Some(path)), Own(NO_MEMORY)]),
-        RollFault::ReadFailed(row) => (row, ROLL_UNREAD),
-        RollFault::NotText(row) => (row, ROLL_NOT_TEXT),
-        RollFault::TooManyIds(row) => (row, ROLL_TOO_LONG),
+        RollFault::ReadFailed(row) => (
+            row,
+            "the roll could not be read to its end.\nCheck the disk or the connection, then run again.\n",
+        ),
+        RollFault::NotText(row) => (
+            row,
+            "the row is not UTF-8 text.\nSave the file again with the encoding UTF-8.\n",
+        ),
+        RollFault::TooManyIds(row) => (
+            row,
+            "the roll has more than 2,000,000 ids.\nA longer roll can't be used.\n",
+        ),
     };
     let row = Number(u64::from(row));
     said(alloc, "{}: row {}: {}", &[Name(Some(path)), row, Own(what)])

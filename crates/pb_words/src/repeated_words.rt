@@ -84,12 +84,11 @@ fn put_remedy<R>(out: &mut WordsWriter, text: &Text<R>, repeat: Repeat, kind: Re
         Repeat::Unknown => {
             out.put(words_of(kind).1);
             if is_voter {
-                out.fill(WAYS, &[Name(text.path)])
+                out.fill(
+                    "`pb_clean {} -o NEW.pb --repeated-voters merge` makes one ballot of the rows, `distinct` makes different voters, `first` or `last` keeps one row.\n",
+                    &[Name(text.path)],
+                )
             }
         }
     }
 }
-
-/// How `pb_clean` does what was found out of a voter with several rows.
-const WAYS: &str =
-    "`pb_clean {} -o NEW.pb --repeated-voters merge` makes one ballot of the rows, `distinct` makes different voters, `first` or `last` keeps one row.\n";

@@ -2,9 +2,6 @@
 
 use crate::words::Said;
 
-/// What is said where memory is refused, also for words.
-const MEMORY_RAN_OUT: &str = "Memory ran out.\nRun again on a machine with more memory.\n";
-
 /// Says these words, or that memory ran out before they were formed.
 pub fn say_words<R: Eprint>(rt: &R, words: Said) {
     match words {
@@ -12,7 +9,10 @@ pub fn say_words<R: Eprint>(rt: &R, words: Said) {
             say(rt, words.as_str());
             drop(words);
         }
-        Err(_) => say(rt, MEMORY_RAN_OUT),
+        Err(_) => say(
+            rt,
+            "Memory ran out.\nRun again on a machine with more memory.\n",
+        ),
     }
 }
 

@@ -18,28 +18,6 @@ use pb_witness::text::Text;
 use std::alloc::Global;
 use std::rt::Files;
 
-/// What to do about a row of other than four fields.
-const FOUR_FIELDS: &str =
-    "Write it as CLERK;REQUEST;VOTER;PLACES, with three `;`, and with `,` between projects.\n";
-
-/// What is said of a journal's row.
-const JOURNAL_ROW: &str = ": this is a row of a journal, not a request.
-To check a journal, run `pb_app audit FILE JOURNAL`. To continue its desk, run `pb_app serve FILE JOURNAL`.
-";
-
-/// What is said of a .pb file's first row.
-const PB_FILE: &str = " is the heading of a .pb file, not a request.
-Name the .pb file first, and then the script: `pb_app desk FILE SCRIPT`. (`pb_app serve` reads the requests from standard input.)
-";
-
-/// The form of requests that name projects by their positions.
-const BY_POSITIONS: &str =
-    "A request has the form CLERK;REQUEST;VOTER;PLACES; VOTER is the voter's id. PLACES are positions such as 0,1; for ids, run again with `--by-id`.\n";
-
-/// The form of requests that name projects by their ids.
-const BY_IDS: &str =
-    "A request has the form CLERK;REQUEST;VOTER;PLACES; VOTER is the voter's id. PLACES are ids of projects, with `,` between them.\n";
-
 /// How a run takes the rows of a script.
 #[derive(Clone, Copy)]
 pub struct Taking {
@@ -79,7 +57,11 @@ fn put_words<R: Files>(out: &mut WordsWriter, text: &Text<R>, fault: ScriptFault
         put_record_number(out, text, at);
         out.put(what_and_remedy(fault));
         if let ScriptFault::BadRow(_) = fault {
-            out.put(if taking.by_id { BY_IDS } else { BY_POSITIONS });
+            out.put(if taking.by_id {
+                "A request has the form CLERK;REQUEST;VOTER;PLACES; VOTER is the voter's id. PLACES are ids of projects, with `,` between them.\n"
+            } else {
+                "A request has the form CLERK;REQUEST;VOTER;PLACES; VOTER is the voter's id. PLACES are positions such as 0,1; for ids, run again with `--by-id`.\n"
+            });
         }
     }
 }
@@ -133,16 +115,29 @@ pub fn last_row_words(alloc: Global, rows: &LastRows, number: u64) -> Said {
 /// not shown how to shut the desk.
 fn put_row_words(out: &mut WordsWriter, row: &ByteRecord, clerks: u32, is_served: bool) {
     if is_of_journal(row) {
-        return out.put(JOURNAL_ROW);
+        return out.put(
+            ": this is a row of a journal, not a request.
+To check a journal, run `pb_app audit FILE JOURNAL`. To continue its desk, run `pb_app serve FILE JOURNAL`.
+",
+        );
     }
     if raw_text(row, 0).eq_ignore_ascii_case("META") {
-        return out.put(PB_FILE);
+        return out.put(
+            " is the heading of a .pb file, not a request.
+Name the .pb file first, and then the script: `pb_app desk FILE SCRIPT`. (`pb_app serve` reads the requests from standard input.)
+",
+        );
     }
     match flaw_of_script_row(row, clerks) {
         Some(flaw) if flaw.condition == Condition::FieldCount => {
             put_field_count(out, row, SCRIPT_FIELDS.len());
             let separate = if is_served { TYPED } else { BALLOT };
-            put_joined(out, joined(row), FOUR_FIELDS, separate)
+            put_joined(
+                out,
+                joined(row),
+                "Write it as CLERK;REQUEST;VOTER;PLACES, with three `;`, and with `,` between projects.\n",
+                separate,
+            )
         }
         Some(flaw) => {
             let clerks = clerks.min(MOST_CLERKS);

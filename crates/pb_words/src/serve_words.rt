@@ -6,10 +6,6 @@ use crate::words::{Said, failed, said};
 use std::alloc::Global;
 use std::io::{Error, ErrorKind};
 
-/// What is said where one of the rows that were cut off shuts the desk.
-const CAREFUL: &str =
-    "Careful: one of the rows that were cut off shuts the desk, and without them the desk is open.\n";
-
 /// The end of the row that shuts a desk.
 const SHUT: &[u8] = b";shut;;;done";
 
@@ -133,7 +129,10 @@ pub fn open_desk_words(alloc: Global, journal: Option<&str>) -> Said {
 /// Words for these bytes from behind a journal's text that are kept in this file.
 pub fn torn_words(alloc: Global, path: &str, bytes: &[u8]) -> Said {
     let (unit, warning) = match (bytes.len(), has_shut_row(bytes)) {
-        (_, true) => ("bytes were", CAREFUL),
+        (_, true) => (
+            "bytes were",
+            "Careful: one of the rows that were cut off shuts the desk, and without them the desk is open.\n",
+        ),
         (1, _) => ("byte was", ""),
         _ => ("bytes were", ""),
     };

@@ -17,34 +17,8 @@ use pb_witness::text::Text;
 use pb_witness::unknown::Votes;
 use std::rt::Files;
 
-/// What is said of the last row of a file.
-const LAST_ROW: &str =
-    "This is the last row of the file. If the file is cut off, get the whole file again. If the row is a total or a note, and no vote, delete it. If not:\n";
-
-/// What is said of a code of a web page, whose `;` ends a field.
-const CUT_CODE: &str =
-    "This ends in a code of a web page, such as `&amp;`, whose `;` has cut the row. Get the file again, as text.\n";
-
-/// What is said of a row of titles, and of one that looks like a project's.
-const TITLES: &str =
-    "If this row has titles or types of the columns, and is no vote, delete it. If not, ask whoever made the file what is meant.\n";
-
 pub(crate) const LATE_PROJECT: &str =
     "This row looks like a project. If it is one, move it above the heading VOTES. If not, ask whoever made the file.\n";
-
-const LATE_ROW: &str =
-    "The row on line {}, below the heading VOTES, looks like this project. Correct that line first.\n";
-
-/// What is said of a field that names projects and is not the vote.
-const MOVED: &str =
-    " names projects: the fields of this row may be in another order. If so, put them below their column names. If not, ask whoever made the file.\n";
-
-/// What is said of an id with a character that no id of a project has.
-const ODD_LETTER: &str =
-    "This contains {}, which no id in PROJECTS contains. It may be another kind of dash or letter. Compare the id with those.\n";
-
-const ODD_MARK: &str =
-    "This contains {}, which no id in PROJECTS contains. Ask whoever made the file what it means.\n";
 
 /// Whether a text ends in a code of a web page without its `;`.
 pub(crate) fn is_cut_code(text: &str) -> bool {
@@ -114,10 +88,6 @@ fn remedy_of(cause: Cause) -> &'static str {
             "Several projects have almost this id, or this name. Ask whoever made the file which of them is meant.\n",
         Cause::Word =>
             "This seems to be a word in place of ids. Ask whoever made the file what it means.\n",
-        Cause::Mail =>
-            "This ends with `=`, as e-mail programs break long lines. Get the file again, as an attachment.\n",
-        Cause::OtherElection =>
-            "No vote of the file names a project. PROJECTS and VOTES may be of two elections, or the ids of one of them were changed. Get the whole file again.\n",
         Cause::Unknown | Cause::Near => words_of(ReadKind::UnknownProject).1,
         cause => list_remedy(cause),
     }
@@ -126,6 +96,14 @@ fn remedy_of(cause: Cause) -> &'static str {
 /// What to do about ids that are no list of ids with commas between them.
 fn list_remedy(cause: Cause) -> &'static str {
     match cause {
+        Cause::OtherElection =>
+            "No vote of the file names a project. PROJECTS and VOTES may be of two elections, or the ids of one of them were changed. Get the whole file again.\n",
+        Cause::Keycaps =>
+            "These are signs of a phone's keys. Write only the ids, with `,` between them.\n",
+        Cause::Php =>
+            "This looks like a list as PHP writes it. Get the votes again, with the ids of the projects.\n",
+        Cause::Mail =>
+            "This ends with `=`, as e-mail programs break long lines. Get the file again, as an attachment.\n",
         Cause::NamesAgain => "If this line has the column names again, delete it.\n",
         Cause::OnLines => "The ids are on lines of their own: write `,` between them.\n",
         Cause::Blanks => "The vote has spaces between the ids: write `,` instead.\n",
@@ -270,7 +248,9 @@ fn put_remedy<R: Files>(
     match found.cause {
         Cause::Unknown | Cause::Near | Cause::OtherForm | Cause::Word
             if found.votes.count == 1 && text.is_last(faulty.mark) => {
-            out.put(LAST_ROW);
+            out.put(
+                "This is the last row of the file. If the file is cut off, get the whole file again. If the row is a total or a note, and no vote, delete it. If not:\n",
+            );
             return out.put(remedy);
         }
         Cause::Cut => out.fill(remedy, &[Number(line)]),
@@ -293,13 +273,20 @@ fn put_row_cause<R: Files>(
     faulty: &FaultyRecord,
 ) -> bool {
     if is_cut_code(faulty.piece()) {
-        out.put(CUT_CODE)
+        out.put(
+            "This ends in a code of a web page, such as `&amp;`, whose `;` has cut the row. Get the file again, as text.\n",
+        )
     } else if faulty.has_titles() {
-        out.put(TITLES)
+        out.put(
+            "If this row has titles or types of the columns, and is no vote, delete it. If not, ask whoever made the file what is meant.\n",
+        )
     } else if faulty.is_like_project(text) {
         out.put(LATE_PROJECT)
     } else if let Some(mark) = late_row(text, known, faulty.piece()) {
-        out.fill(LATE_ROW, &[Number(line_of(text, mark))])
+        out.fill(
+            "The row on line {}, below the heading VOTES, looks like this project. Correct that line first.\n",
+            &[Number(line_of(text, mark))],
+        )
     } else if let Some(place) = faulty.moved(&known.witness.ids) {
         put_moved(out, text, faulty, place)
     } else {
@@ -325,7 +312,9 @@ fn put_moved<R: Files>(out: &mut WordsWriter, text: &Text<R>, faulty: &FaultyRec
         out.fill(" in column {}", &[Quoted(text_at(&records.last, place))]);
         drop(records);
     }
-    out.put(MOVED)
+    out.put(
+        " names projects: the fields of this row may be in another order. If so, put them below their column names. If not, ask whoever made the file.\n",
+    )
 }
 
 /// Puts which character of this id no project's id has, and what to do.
@@ -336,9 +325,9 @@ fn put_odd_letter(out: &mut WordsWriter, known: &Known, id: &str) {
         let odd = from.strip_suffix(behind).unwrap_or(from);
         let is_dash = letter == '-' || (0x2010..=0x2015).contains(&u32::from(letter));
         let form = if is_dash || letter.is_alphanumeric() {
-            ODD_LETTER
+            "This contains {}, which no id in PROJECTS contains. It may be another kind of dash or letter. Compare the id with those.\n"
         } else {
-            ODD_MARK
+            "This contains {}, which no id in PROJECTS contains. Ask whoever made the file what it means.\n"
         };
         out.fill(form, &[Quoted(odd)])
     }

@@ -20,7 +20,7 @@ const TOO_SHORT: &str = "the vote {value} names {projects}, and `min_length` ask
 the vote names {projects}, and `min_length` asks for {limit}
 This ballot is counted. If your rules do not allow it, delete the row.";
 
-pub(crate) const TEXTS: [&[&str]; 24] = [
+pub(crate) const TEXTS: [&[&str]; 27] = [
     &[
         "{value} is wrong: the number of vote rows in the file is {number}
 `num_votes` is wrong: the number of vote rows in the file is {number}
@@ -113,9 +113,6 @@ Check whether the published count had other options, and whether ballots or cost
         "{value} is less than every cost, so no project can win
 the budget is less than every cost, so no project can win
 Check whether the budget lacks digits, or is in another unit than the costs (thousands, for example).",
-        "all projects together cost {sum}, which is less than a hundredth of it
-all projects together cost less than a hundredth of the budget
-Check whether the costs are in another unit than the budget (thousands, for example).",
     ],
     &[
         "the last {number} rows, from here on, have no vote; every row above has one
@@ -146,9 +143,6 @@ If the voter chose these projects, write their ids into the column `vote`.",
         "the vote names {twice} more than once, which counts once
 the vote names a project more than once, which counts once
 If another project was meant, correct the id by the voter's ballot.",
-        "an invisible character is beside this id. Without it, it is that of another row, so the voter is counted twice
-an invisible character is beside the voter's id. Without it, it is that of another row, so the voter is counted twice
-Delete it, or type the id anew.",
     ],
     &[
         "{number} columns have this name, and only the first is read
@@ -163,18 +157,15 @@ If each row has several voters side by side, write a row for each of them.",
         "points are ignored: every project named in a vote counts the same
 VOTES has points, which are ignored: every project named in a vote counts the same
 If your rules count points or ranks, this program can't count the file.",
-        "its numbers are ignored: every row is counted as one ballot
-VOTES has numbers of ballots, which are ignored: every row is counted as one ballot
-If a row stands for several ballots, write a row for each of them, with an id of its own.",
     ],
     &[
-        "{value} differs from line {line} in column `{column}`. The column is ignored: every project is counted
+        "{value} differs from line {line} in column {column}. The column is ignored: every project is counted
 a column says which projects are valid. The column is ignored: every project is counted
 If it says that projects were withdrawn, take their rows out, and their ids out of the votes.",
-        "{value} differs from line {line} in column `{column}`. The column is ignored: every row is counted
+        "{value} differs from line {line} in column {column}. The column is ignored: every row is counted
 a column says which rows are valid. The column is ignored: every row is counted
 If it says that votes are not valid, take their rows out.",
-        "{value} stands in column `{column}`. The column is ignored: the row is counted
+        "{value} stands in column {column}. The column is ignored: the row is counted
 a column has a remark that votes are not valid. The column is ignored: every row is counted
 If the vote is not valid, take the row out.",
     ],
@@ -192,5 +183,20 @@ If a `;` in the name has cut it, put the name in quotation marks: `\"Park; north
         "the row has {value} in it, as a vote has
 the row has several ids of projects in it, as a vote has
 If it is a vote, move it below VOTES.",
+    ],
+    &[
+        "an invisible character is beside this id. Without it, it is that of another row, so the voter is counted twice
+an invisible character is beside the voter's id. Without it, it is that of another row, so the voter is counted twice
+Delete it, or type the id anew.",
+    ],
+    &[
+        "all projects together cost {sum}, which is less than a hundredth of it
+all projects together cost less than a hundredth of the budget
+Check whether the costs are in another unit than the budget (thousands, for example).",
+    ],
+    &[
+        "its numbers are ignored: every row is counted as one ballot
+VOTES has numbers of ballots, which are ignored: every row is counted as one ballot
+If a row stands for several ballots, write a row for each of them, with an id of its own.",
     ],
 ];

@@ -13,38 +13,14 @@ use pb_witness::changed::is_one_of;
 use pb_witness::fields::text_at;
 use pb_witness::firsts::twice_in;
 use pb_witness::mark::Mark;
-use pb_witness::oddities::{MOST, Odd, Oddities, Subject};
+use pb_witness::oddities::{MOST, Odd, Oddities};
 use pb_witness::quote::span_of;
-use pb_witness::records::TextRecords;
 use pb_witness::text::Text;
-use pb_witness::valid_columns::VALID;
 use std::alloc::Global;
 use std::rt::Files;
 
-/// What is said of a file without votes, in place of a warning for each project.
-const NO_VOTES: &str = "{}: VOTES has no rows, so no project has a supporter (NoSupporter).
-A desk can open on this file. If it should have votes, get the whole file again.\n";
-
-/// What is said of another rule in META than that of the count.
-const OTHER_RULE: &str = ", key \"rule\": the file names the rule {}, and this count has {} ({}).
-That rule may give a different result.\n";
-
 /// What META writes that names no other rule than that of any count.
 const NO_OTHER_RULE: &str = "unknown|-|mes|method of equal shares";
-
-/// What to do where another warning may be the reason.
-const BY_ANOTHER: &str =
-    "Look at the warning {} first: it may be the reason. Don't correct the number before that.\n";
-
-const LENGTH_BY_ANOTHER: &str =
-    "Look at the warning {} first: it may be the reason. Don't delete the row before that.\n";
-
-/// What to do where no ballot has as many projects as both keys ask for.
-const NO_LENGTH: &str =
-    "`min_length` is more than `max_length`, so no ballot keeps both: check these keys.\n";
-
-/// What to do where all ballots, or nearly all, have too many projects, or too few.
-const ALL_BREAK: &str = "{} break `{}` {}: check the key.\n";
 
 /// What is said of a row that is odd: what, with what is known of the row; the same where the row is not known;
 /// and what to do.
@@ -86,7 +62,8 @@ pub fn rule_words<R: Files>(
         put_place(&mut out, &Text::new(rt, alloc, path), mark);
         match counted.text(alloc) {
             Ok(own) => out.fill(
-                OTHER_RULE,
+                ", key \"rule\": the file names the rule {}, and this count has {} ({}).
+That rule may give a different result.\n",
                 &[Quoted(rule), Quoted(counted.word()), Own(own.as_str())],
             ),
             Err(_) => out.fail(),
@@ -103,7 +80,11 @@ fn put_oddities<R: Files>(out: &mut WordsWriter, text: &Text<R>, oddities: &Oddi
     for oddity in oddities.kinds.iter().copied() {
         match oddity {
             Oddity::NoSupporter if oddities.has(oddity) && oddities.has_no_votes => {
-                out.fill(NO_VOTES, &[Name(text.path)]);
+                out.fill(
+                    "{}: VOTES has no rows, so no project has a supporter (NoSupporter).
+A desk can open on this file. If it should have votes, get the whole file again.\n",
+                    &[Name(text.path)],
+                );
                 continue;
             }
             Oddity::VotesOf if oddities.has_no_votes => continue,
@@ -125,7 +106,7 @@ fn put_oddities<R: Files>(out: &mut WordsWriter, text: &Text<R>, oddities: &Oddi
 fn put_more(out: &mut WordsWriter, oddity: Oddity, more: u64, is_of_check: bool) {
     let unit = match oddity {
         Oddity::IdBehindVote | Oddity::ValidColumn => "more column",
-        Oddity::RepeatedColumn | Oddity::VotesWithPoints => "more column",
+        Oddity::RepeatedColumn | Oddity::VotesWithPoints | Oddity::SeveralBallots => "more column",
         _ => "more row",
     };
     out.fill("{} applies to {}", &[Own(oddity.name()), Count(more, unit)]);
@@ -162,8 +143,14 @@ fn put_odd<R: Files>(out: &mut WordsWriter, text: &Text<R>, odd: &Odd, oddities:
     out.fill(" ({}).\n", &[Own(odd.oddity.name())]);
     let is_length = is_of_length(odd);
     match (cause_of(oddities, odd), odd.oddity) {
-        (Some(cause), _) if is_length => out.fill(LENGTH_BY_ANOTHER, &[Own(cause.name())]),
-        (Some(cause), _) => out.fill(BY_ANOTHER, &[Own(cause.name())]),
+        (Some(cause), _) if is_length => out.fill(
+            "Look at the warning {} first: it may be the reason. Don't delete the row before that.\n",
+            &[Own(cause.name())],
+        ),
+        (Some(cause), _) => out.fill(
+            "Look at the warning {} first: it may be the reason. Don't correct the number before that.\n",
+            &[Own(cause.name())],
+        ),
         _ if is_length && put_all_break(out, odd, oddities) => {}
         (None, Oddity::ThousandsMark) if oddities.has_decimals => out.put(BESIDE_DECIMALS),
         _ => {
@@ -191,7 +178,9 @@ fn put_all_break(out: &mut WordsWriter, odd: &Odd, oddities: &Oddities) -> bool 
         return false;
     }
     if oddities.has_no_length {
-        out.put(NO_LENGTH);
+        out.put(
+            "`min_length` is more than `max_length`, so no ballot keeps both: check these keys.\n",
+        );
         return true;
     }
     if !are_nearly_all {
@@ -208,7 +197,10 @@ fn put_all_break(out: &mut WordsWriter, odd: &Odd, oddities: &Oddities) -> bool 
         "min_length"
     };
     let limit = odd.limit.unwrap_or(0);
-    out.fill(ALL_BREAK, &[Own(who), Own(key), Number(limit)]);
+    out.fill(
+        "{} break `{}` {}: check the key.\n",
+        &[Own(who), Own(key), Number(limit)],
+    );
     true
 }
 
@@ -262,25 +254,15 @@ fn put_row<R: Files>(out: &mut WordsWriter, text: &Text<R>, odd: &Odd, what: &'s
     put_subject(out, odd.subject.word(), text_at(row, odd.id_place));
     out.put(": ");
     let value = text_at(row, odd.value_place);
-    let line = match odd.before {
-        Some(before) => line_of(text, before),
-        None => 0,
+    let line = line_of(text, odd.before.unwrap_or(odd.mark));
+    let header = match odd.names {
+        Some(names) => text.record_at(names),
+        None => None,
     };
-    let amount = match Money::read(value) {
-        Ok(amount) => amount.0,
-        Err(_) => 0,
-    };
-    let twice = if odd.oddity == Oddity::TwiceInVote {
-        twice_in(text.alloc, value)
-    } else {
-        ""
-    };
-    let header = header_of(text, odd);
     let column = match &header {
         Some(records) if !text_at(&records.last, odd.value_place).is_empty() => {
             Quoted(text_at(&records.last, odd.value_place))
         }
-        _ if odd.oddity == Oddity::ValidColumn => Own(name_of(odd.number)),
         _ => Number((odd.value_place as u64).saturating_add(1)),
     };
     out.fill_named(
@@ -293,9 +275,9 @@ fn put_row<R: Files>(out: &mut WordsWriter, text: &Text<R>, odd: &Odd, what: &'s
             ("projects", Count(odd.number, "project")),
             ("limit", Number(odd.limit.unwrap_or(0))),
             ("line", Number(line)),
-            ("amount", Amount(amount)),
+            ("amount", Amount(amount_of(value))),
             ("sum", Amount(odd.number)),
-            ("twice", Quoted(twice)),
+            ("twice", Quoted(twice_of(text.alloc, odd, value))),
             ("short", Quoted(value.trim_end_matches('0'))),
             ("column", column),
         ],
@@ -304,17 +286,20 @@ fn put_row<R: Files>(out: &mut WordsWriter, text: &Text<R>, odd: &Odd, what: &'s
     true
 }
 
-/// The row of column names of a row without a vote, where it can be read again.
-fn header_of<R: Files>(text: &Text<R>, odd: &Odd) -> Option<TextRecords<R::File>> {
-    match odd.subject {
-        Subject::Voter if odd.oddity != Oddity::ValidColumn => text.record_at(odd.before?),
-        _ => None,
+/// The first id that a vote names twice, if it is odd for that.
+fn twice_of<'v>(alloc: Global, odd: &Odd, vote: &'v str) -> &'v str {
+    match odd.oddity {
+        Oddity::TwiceInVote => twice_in(alloc, vote),
+        _ => "",
     }
 }
 
-/// The name of this one of the columns that say which rows are valid.
-fn name_of(number: u64) -> &'static str {
-    VALID.split('|').nth(number as usize).unwrap_or("")
+/// The hundredths that a value is read as; 0 if it is no amount.
+fn amount_of(value: &str) -> u64 {
+    match Money::read(value) {
+        Ok(amount) => amount.0,
+        Err(_) => 0,
+    }
 }
 
 /// Puts where a record stands.

@@ -120,7 +120,7 @@ impl WordsWriter {
                 self.put_number(count.saturating_sub(1))
             }
             PlaceholderValue::Amount(amount) => {
-                self.is_whole &= put_amount(&mut self.text, u128::from(amount)).is_ok();
+                self.is_whole &= put_amount(&mut self.text, u128::from(*amount)).is_ok();
             }
             PlaceholderValue::Quoted(text) => self.put_quoted(text.as_bytes()),
             PlaceholderValue::Bytes(bytes) => self.put_quoted(bytes),

@@ -19,7 +19,7 @@ use Rattle.pb_reasons.specs.declared.tie.Tie.{Tie}
 use Rattle.pb_core.specs.Election.{ElectionView, ProjectView}
 use Rattle.pb_price.specs.Supporters.{cost_at, support_of}
 use Rattle.pb_page.specs.Amount.{shown}
-use Rattle.pb_page.specs.Filling.{Filling}
+use Rattle.pb_page.specs.Inner.Filling.{Filling}
 use Rattle.pb_page.specs.declared.markup.form.Form.{Form}
 use Rattle.pb_reasons.specs.Counted.{winners_of}
 use Rattle.pb_reasons.specs.CountedElection.{CountedElectionView}
@@ -36,11 +36,10 @@ use Rattle.pb_rounds.specs.declared.rule.FillUp.{FillUp}
 use Rattle.pb_rounds.specs.declared.rule.Rule.{Rule}
 use Rattle.pb_page.specs.declared.keys.TheConstants as key
 use Rattle.pb_page.specs.declared.language.Language.{Language}
-use Rattle.pb_page.specs.declared.style.TheConstants.{HEAD}
-use Rattle.pb_page.specs.Page.{filling, at, labels, say, between, text, noun_at, number, amount, width}
-use Rattle.pb_page.specs.Page.{project_at, called, category_of, category_name, cells, ended_row}
-use Rattle.pb_page.specs.Page.{row_at, table, category_row, exactly, at_least}
-use Rattle.pb_page.specs.Page.{ballots_row, compared_row, tie}
+use Rattle.pb_page.specs.Inner.Sections.{filling, at, labels, say, between, text, noun_at, number, amount, width}
+use Rattle.pb_page.specs.Inner.Sections.{project_at, called, category_of, category_name, cells, ended_row}
+use Rattle.pb_page.specs.Inner.Sections.{row_at, table, category_row, exactly, at_least}
+use Rattle.pb_page.specs.Inner.Sections.{ballots_row, compared_row, tie, top}
 use Rattle.pb_page.specs.declared.templates.TheConstants.{NAMELESS, CALLED, RECOUNT_LINK, NOTHING, LEAD_NEXT}
 use Rattle.pb_page.specs.declared.templates.TheConstants.{BUDGET_OPENING, BLOCKS_OPENING, BLOCKS_CLOSING}
 use Rattle.pb_page.specs.declared.templates.TheConstants.{BUDGET_CLOSING, COMPARED_OPENING, TABLE_CLOSING}
@@ -95,7 +94,7 @@ result_said l f =
 -- what was voted on, who voted, how many won and what was spent
 abbrev pub whole_said : Language → List ℕ → Figures → List Filling
 whole_said l title f =
-    filling HEAD.now (at l key.LANG ∷ at l key.DIR ∷ title ∷ []) ∷ (say l key.VOTED
+    top l title ++ (say l key.VOTED
     (number (codes "voters") f.voters ∷ number (codes "projects") f.projects
     ∷ amount l.costs (codes "budget") f.budget ∷ noun_at l key.PEOPLE f.voters
     ∷ noun_at l key.TOPICS f.projects ∷ []) ++ (filling LEAD_NEXT.now [] ∷ result_said l f))

@@ -2,7 +2,7 @@
 
 ghost use Rattle.std.specs.Prelude.{◌≡◌, ◌≢◌, ◌≤◌, ◌==◌, ◌⊎◌, ◌++◌, ◌∷◌, ℕ, All, List, None, filter, flat_map};
 ghost use Rattle.std.specs.List.{before_first};
-ghost use Rattle.pb_page.specs.Filling.{Filling, page_of};
+ghost use Rattle.pb_page.specs.Content.{Part, Text, bytes};
 ghost use Rattle.pb_page.specs.Markup.{is_delimiter, read_from, written};
 
 /// A text as it stands in a page never ends the attribute that it stands in, whichever of the two quotes (34,
@@ -16,9 +16,10 @@ pub fn texts_stay_texts()
     ensures back { (text : List ℕ) → read_from None (written text) ≡ text }
 {}
 
-/// Each `<`, `>` and quote of a page is one of its pieces', in their order: the texts, whatever they are, add
-/// none, and take none away.
-pub fn pieces_alone_are_markup()
-    ensures { (fillings : List Filling) → filter is_delimiter (page_of fillings)
-        ≡ flat_map (λ f. filter is_delimiter f.piece) fillings }
+/// A text, whatever it is, adds no `<`, `>` and quote to a page, and takes none away: each is of the program's own
+/// markup.
+pub fn texts_add_no_markup()
+    ensures { (before after : List Part) (text : List ℕ)
+        → filter is_delimiter (flat_map bytes (before ++ Text text ∷ after))
+        ≡ filter is_delimiter (flat_map bytes (before ++ after)) }
 {}

@@ -1,7 +1,8 @@
 //! Pieces of markup, filled with texts.
 
 ghost use Rattle.std.specs.Prelude.{◌≡◌, ◌++◌, OnOk, map};
-ghost use Rattle.pb_page.specs.Filling.{filled, text_of};
+ghost use Rattle.pb_page.specs.Inner.Filling.{filled};
+ghost use Rattle.pb_page.specs.Inner.Value.{text_of};
 ghost use Rattle.pb_page.specs.Markup.{written};
 ghost use Rattle.pb_page.specs.Words.{sentence};
 
@@ -20,7 +21,11 @@ const NEXT: u8 = b'^';
 
 /// Writes a piece of the program's own markup after a page, with these values in the places of its `~`, one
 /// after the other; each `^` is the value of the next `~` as well. A place without a value stays empty.
-pub fn fill(page: &mut Vec<u8>, piece: &'static str, values: &[Value]) -> Result<(), NoMemory>
+pub(crate) fn fill(
+    page: &mut Vec<u8>,
+    piece: &'static str,
+    values: &[Value],
+) -> Result<(), NoMemory>
     ensures { OnOk result (page.new.items ≡ page.old.items ++ filled piece.now (map text_of values.now)) }
 {
     let mut used = 0;

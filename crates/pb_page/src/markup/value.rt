@@ -5,7 +5,7 @@ use pb_core::money::Money;
 
 /// A value that fills a place of a piece of markup.
 #[derive(Clone, Copy)]
-pub enum Value<'a> {
+pub(crate) enum Value<'a> {
     /// A text from outside.
     Text(&'a str),
     /// A number, in decimal.

@@ -1,6 +1,6 @@
 use Rattle.std.proofs.Common.{◌≡◌, ◌∙◌, List, ap, subst}
 use Rattle.std.specs.Prelude.{OnOk, ℕ}
-use Rattle.pb_page.specs.Filling.{Filling}
+use Rattle.pb_page.specs.Inner.Filling.{Filling}
 use Rattle.pb_page.specs.Inner.Grown.{Grows}
 use Rattle.pb_page.specs.Inner.Pieces.{category_table, sums_table}
 use Rattle.pb_page.proofs.Sums.{rows_told}

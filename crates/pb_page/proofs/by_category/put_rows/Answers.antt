@@ -1,5 +1,5 @@
 use Rattle.std.proofs.Common.{[], ◌∷◌, ap}
-use Rattle.pb_page.specs.Filling.{Filling}
+use Rattle.pb_page.specs.Inner.Filling.{Filling}
 use Rattle.pb_page.specs.Inner.Pieces.{sum_row}
 use Rattle.pb_page.proofs.Grown.{grown_as, none}
 use Rattle.pb_page.proofs.Sums.{row_more, sum_told}

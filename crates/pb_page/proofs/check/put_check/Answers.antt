@@ -1,4 +1,4 @@
-use Rattle.pb_page.specs.Page.{check}
+use Rattle.pb_page.specs.Inner.Sections.{check}
 use Rattle.pb_page.proofs.Grown.{then_put}
 use Rattle.pb_page.proofs.check.put_check.Goals as goal
 

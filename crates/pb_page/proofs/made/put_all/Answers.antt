@@ -1,6 +1,6 @@
 use Rattle.pb_core.specs.declared.no_memory.NoMemory.{NoMemory}
 use Rattle.pb_page.specs.Inner.Grown.{Grows}
-use Rattle.pb_page.specs.Page.{parts}
+use Rattle.pb_page.specs.Inner.Sections.{parts}
 use Rattle.pb_page.proofs.Grown.{refused, then_put}
 use Rattle.pb_page.proofs.made.put_all.Goals as goal
 

@@ -2,7 +2,7 @@ use Rattle.std.proofs.Common.{subst}
 use Rattle.std.specs.Prelude.{OnOk}
 use Rattle.pb_page.specs.Inner.Grown.{Grows}
 use Rattle.pb_page.specs.Inner.Pieces.{caption, picture, whole_said}
-use Rattle.pb_page.specs.Page.{budget}
+use Rattle.pb_page.specs.Inner.Sections.{budget}
 use Rattle.pb_page.specs.declared.figures.Figures.{Figures}
 use Rattle.pb_page.proofs.Grown.{then_put}
 use Rattle.pb_page.proofs.made.put_budget.Goals as goal

@@ -1,6 +1,6 @@
 use Rattle.std.proofs.Common.{ap}
 use Rattle.pb_rounds.specs.Run.{ElectedView}
-use Rattle.pb_page.specs.Page.{row_at}
+use Rattle.pb_page.specs.Inner.Sections.{row_at}
 use Rattle.pb_page.proofs.Grown.{none, row_more}
 use Rattle.pb_page.proofs.project_tables.put_elected_rows.Goals as goal
 

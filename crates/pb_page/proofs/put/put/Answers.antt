@@ -1,5 +1,5 @@
 use Rattle.std.proofs.Common.{map}
-use Rattle.pb_page.specs.Filling.{text_of}
+use Rattle.pb_page.specs.Inner.Value.{text_of}
 use Rattle.pb_page.proofs.Grown.{one}
 use Rattle.pb_page.proofs.put.put.Goals as goal
 

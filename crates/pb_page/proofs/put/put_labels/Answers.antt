@@ -1,5 +1,5 @@
 use Rattle.std.proofs.Common.{map}
-use Rattle.pb_page.specs.Page.{at}
+use Rattle.pb_page.specs.Inner.Sections.{at}
 use Rattle.pb_page.proofs.Grown.{one}
 use Rattle.pb_page.proofs.put.put_labels.Goals as goal
 

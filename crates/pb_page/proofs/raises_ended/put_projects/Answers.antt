@@ -3,7 +3,7 @@ use Rattle.std.proofs.lemmas.List.{get_or_default, take_all}
 use Rattle.pb_core.specs.Election.{ProjectView}
 use Rattle.pb_reasons.proofs.PlaceSums.{the_placed}
 use Rattle.pb_page.specs.Inner.Pieces.{only_then}
-use Rattle.pb_page.specs.Page.{project_at}
+use Rattle.pb_page.specs.Inner.Sections.{project_at}
 use Rattle.pb_page.proofs.Grown.{grown_as, item_more, none}
 use Rattle.pb_page.proofs.Rows.{the_project}
 use Rattle.pb_page.proofs.raises_ended.put_projects.Goals as goal

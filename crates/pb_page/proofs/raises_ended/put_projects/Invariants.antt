@@ -1,7 +1,7 @@
 use Rattle.std.proofs.Common.{map, take}
 use Rattle.pb_page.specs.Inner.Grown.{Grows}
 use Rattle.pb_page.specs.Inner.Pieces.{only_then}
-use Rattle.pb_page.specs.Page.{project_at}
+use Rattle.pb_page.specs.Inner.Sections.{project_at}
 use Rattle.pb_page.proofs.raises_ended.put_projects.Given as goal
 
 abbrev pub invariant-loop-place : goal.invariant-loop-place

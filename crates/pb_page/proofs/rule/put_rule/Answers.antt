@@ -1,5 +1,5 @@
 use Rattle.pb_page.specs.Inner.Pieces.{rounds_said}
-use Rattle.pb_page.specs.Page.{rule}
+use Rattle.pb_page.specs.Inner.Sections.{rule}
 use Rattle.pb_page.proofs.Grown.{then_put}
 use Rattle.pb_page.proofs.rule.put_rule.Goals as goal
 

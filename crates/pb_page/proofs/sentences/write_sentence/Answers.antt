@@ -2,7 +2,7 @@ use Rattle.std.proofs.Common.{get_or, map}
 use Rattle.std.proofs.lemmas.List.{get_or_default, take_all}
 use Rattle.pb_page.specs.Inner.Grown.{Grows}
 use Rattle.pb_page.specs.Inner.Pieces.{at_place}
-use Rattle.pb_page.specs.Sentence.{character_said}
+use Rattle.pb_page.specs.Inner.Sentence.{character_said}
 use Rattle.pb_page.proofs.Grown.{item_more}
 use Rattle.pb_page.proofs.sentences.write_sentence.Goals as goal
 

@@ -1,7 +1,7 @@
 use Rattle.std.proofs.Common.{◌≡◌, ◌++◌, map, take}
-use Rattle.pb_page.specs.Filling.{page_of}
+use Rattle.pb_page.specs.Inner.Filling.{page_of}
 use Rattle.pb_page.specs.Inner.Pieces.{at_place}
-use Rattle.pb_page.specs.Sentence.{character_said}
+use Rattle.pb_page.specs.Inner.Sentence.{character_said}
 use Rattle.pb_page.proofs.sentences.write_sentence.Given as goal
 
 abbrev pub invariant-loop-byte : goal.invariant-loop-byte

@@ -1,4 +1,4 @@
-use Rattle.pb_page.specs.Page.{tie}
+use Rattle.pb_page.specs.Inner.Sections.{tie}
 use Rattle.pb_page.proofs.Grown.{then_put}
 use Rattle.pb_page.proofs.ties.put_tie.Goals as goal
 

@@ -2,7 +2,7 @@ use Rattle.std.proofs.Common.{◌∙◌, List, subst}
 use Rattle.std.specs.Prelude.{OnOk}
 use Rattle.pb_page.specs.Inner.Grown.{Grows}
 use Rattle.pb_page.specs.Inner.Pieces.{ties_told}
-use Rattle.pb_page.specs.Page.{ties}
+use Rattle.pb_page.specs.Inner.Sections.{ties}
 use Rattle.pb_page.proofs.ties.put_ties.Goals as goal
 use Rattle.pb_reasons.specs.declared.tie.Tie.{Tie}
 

@@ -1,7 +1,7 @@
 use Rattle.std.proofs.Common.{◌≡◌, take}
 use Rattle.std.specs.Prelude.{sum_by}
 use Rattle.pb_page.specs.Inner.Grown.{Grows}
-use Rattle.pb_page.specs.Page.{blocks}
+use Rattle.pb_page.specs.Inner.Sections.{blocks}
 use Rattle.pb_price.specs.Supporters.{cost_at, support_of}
 use Rattle.pb_page.proofs.top.put_blocks_at.Given as goal
 

@@ -2,7 +2,7 @@ use Rattle.std.proofs.Common.{◌∙◌, List, subst}
 use Rattle.std.specs.Prelude.{OnOk, ℕ}
 use Rattle.pb_page.specs.Inner.Grown.{Grows}
 use Rattle.pb_page.specs.Inner.Pieces.{histogram}
-use Rattle.pb_page.specs.Page.{voters}
+use Rattle.pb_page.specs.Inner.Sections.{voters}
 use Rattle.pb_page.proofs.voters.put_voters.Goals as goal
 
 pub returns : goal.returns

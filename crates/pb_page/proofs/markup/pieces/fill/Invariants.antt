@@ -1,5 +1,6 @@
 use Rattle.std.proofs.Common.{◌≡◌, ◌++◌, drop, map}
-use Rattle.pb_page.specs.Filling.{filled, text_of}
+use Rattle.pb_page.specs.Inner.Filling.{filled}
+use Rattle.pb_page.specs.Inner.Value.{text_of}
 use Rattle.pb_page.proofs.markup.pieces.fill.Given as goal
 
 abbrev pub invariant-loop-byte : goal.invariant-loop-byte

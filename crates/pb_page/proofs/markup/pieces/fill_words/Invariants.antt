@@ -1,5 +1,5 @@
 use Rattle.std.proofs.Common.{◌≡◌, ◌++◌, drop, map}
-use Rattle.pb_page.specs.Filling.{filled}
+use Rattle.pb_page.specs.Inner.Filling.{filled}
 use Rattle.pb_page.specs.Words.{sentence}
 use Rattle.pb_page.proofs.markup.pieces.fill_words.Given as goal
 

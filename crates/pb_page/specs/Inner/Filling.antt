@@ -1,18 +1,6 @@
 -- Pieces of markup, filled with texts.
-use Rattle.std.specs.Prelude.{ℕ, ◌==◌, List, [], ◌∷◌, ◌++◌, decimal, drop, flat_map, if◌then◌else◌}
-use Rattle.std.specs.Prelude.{slice_index_or}
-use Rattle.pb_core.specs.MoneyText.{money_text}
-use Rattle.pb_page.specs.Amount.{shown}
+use Rattle.std.specs.Prelude.{ℕ, ◌==◌, List, [], ◌∷◌, ◌++◌, drop, flat_map, if◌then◌else◌, slice_index_or}
 use Rattle.pb_page.specs.Markup.{written}
-use Rattle.pb_page.specs.declared.markup.value.Value.{Value}
-use Rattle.pb_page.specs.declared.markup.value.Value.TheVariants.{Text, Number, Amount, Shown}
-
--- the text of a value
-abbrev pub text_of : Value → List ℕ
-text_of (Text text) = text.now
-text_of (Number n) = decimal n
-text_of (Amount hundredths) = money_text hundredths
-text_of (Shown hundredths form) = shown form hundredths
 
 -- a piece of markup in which texts, as they stand in a page, take the places of `~`, one after the other; `^`
 -- is the text of the next `~` as well

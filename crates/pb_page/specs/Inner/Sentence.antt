@@ -1,6 +1,6 @@
 -- Sentences from outside, with markup at their places.
 use Rattle.std.specs.Prelude.{ℕ, List, [], ◌∷◌, codes, if◌then◌else◌, nat_lt, slice_index_or}
-use Rattle.pb_page.specs.Filling.{Filling}
+use Rattle.pb_page.specs.Inner.Filling.{Filling}
 
 -- a character of a sentence: below 32 the place of that number, or nothing where none is given; any other is
 -- text
