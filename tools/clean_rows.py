@@ -37,9 +37,13 @@ MONTH = '(?:jan|feb|f[eé]v|mar|mär|apr|avr|abr|ma[ijy]|jun|jui|jul|aug|ao[uû]
         'nov|de[cz]|dic|sty|lut|kwi|cze|lip|sie|wrz|paź|lis|gru)[^\\W\\d_]{0,7}'
 MADE_DATE = re.compile(r'[0-9]{4}-[0-9]{2}-[0-9]{2}|[0-9]{1,2}[./][0-9]{1,2}[./][0-9]{4}|[0-9]{1,2}[-. ]+'
                        rf'{MONTH}\.?(?:[-. ]+[0-9]{{2,4}})?|{MONTH}[-. ]+[0-9]{{1,4}}', re.I)
+# How many different ids that no project has are judged one by one.
+MOST_UNKNOWN = 10_000
 # Letters that are read as digits.
 DIGITS = str.maketrans('oilzsgb', '0112568')
-# Columns whose votes are no approvals; what stands where there is no value; what says that a row is no vote.
+# Columns whose ids are no votes; those whose votes are no approvals; what stands where there is no value; what says
+# that a row is no vote.
+OTHER = {*'against rejected veto contra comment remark note'.split()}
 POINTS = {*'points point score scores rank ranks ranking weight weights votes count'.split()}
 NOTHING = {*'nan none null nil na n/a - 0 \\n'.split()}
 NO = {*'0 no n false f non nein nie ne nej não nao'.split()}
@@ -97,6 +101,7 @@ WORDS = {
     'beside': '{} in the field {} names projects, where it is not counted: write each field below its '
         'column name, the ids of a vote into one field, with `,` between, and joined rows apart',
     'unknown': 'the vote names {}, which no project has{}: {}',
+    'many': 'the votes name {} ids that no project has, this one first: {}',
     # why no option drops an id that no project has
     'lines': 'it goes over several lines: a quotation mark is not closed, or is too many; if its ids are on '
         'lines of their own, write `,` between them',
@@ -501,7 +506,8 @@ class Cleaner:
             for at, text in enumerate(row.fields):
                 is_behind = at >= len(names) or at in bare
                 is_sure = is_behind or not (self.beside.issuperset(lost) or at == voter and text.isdigit())
-                if at != vote and (is_behind or lost or not pieces) and self.is_vote(text, is_sure):
+                is_other = at == vote or not is_behind and names[at].lower() in OTHER
+                if not is_other and (is_behind or lost or not pieces) and self.is_vote(text, is_sure):
                     self.refuse(row, 'beside', shown(text), label_of(names, at))
                     break
         for column in [at for at, it in enumerate(names) if it in POINTS]:
@@ -532,6 +538,10 @@ class Cleaner:
                     row.edit(vote, '--drop-unknown', ','.join(it for it in kept if it in self.ids))
                     is_empty = self.ids.keys().isdisjoint(kept) and not {it.lower() for it in kept} <= NOTHING
                     empties += [row] if is_empty else []
+        if len(unknown) > MOST_UNKNOWN:
+            piece = next(iter(unknown))
+            self.refuse(unknown[piece][0], 'many', len(unknown), shown(piece))
+            return
         # A date that a vote names is an id on purpose.
         dates = {*filter(MADE_DATE.fullmatch, self.ids)} if unknown else set()
         if dates:

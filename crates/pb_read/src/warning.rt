@@ -44,7 +44,7 @@ pub enum Oddity {
     VotesMissing,
     /// META's `num_projects` is not the number of projects.
     ProjectsMissing,
-    /// A vote has more fields than the row of column names.
+    /// A vote has more fields than the row of column names, or META's budget has a further amount behind it.
     SurplusFields,
     /// A ballot approves more projects than META's `max_length`.
     TooLongBallot,
@@ -62,7 +62,7 @@ pub enum Oddity {
     ThousandsMark,
     /// A key of META that the count uses is repeated; the last value counts.
     RepeatedKey,
-    /// The last row of PROJECTS or VOTES looks like their sum.
+    /// The first or last row of PROJECTS, or the last of VOTES, looks like a sum or a note.
     FooterRow,
     /// The column `votes` has another number than that of the ballots that approve the project.
     VotesOf,
@@ -70,11 +70,11 @@ pub enum Oddity {
     SelectedOf,
     /// The budget is less than every cost.
     BudgetBelowCosts,
-    /// The last rows of VOTES, two or more, have no vote, and no other row has none.
+    /// Rows of VOTES without a vote look like notes: the last two or more, or others by their ids.
     NoteRows,
-    /// A field in quotation marks has lines in it that look like rows.
+    /// A field in quotation marks has lines in it that look like rows, or META's row of column names is one.
     SwallowedRows,
-    /// A field behind the vote has a project's id.
+    /// A field behind the vote, or any field of a row without a vote, has a project's id.
     IdBehindVote,
     /// A vote names a project twice; it counts once.
     TwiceInVote,
@@ -86,7 +86,8 @@ pub enum Oddity {
     ValidColumn,
     /// META has further budgets, which no count reads.
     DistrictBudgets,
-    /// A row of PROJECTS has more fields than there are column names: a name was probably cut.
+    /// A row of PROJECTS has more fields than there are column names, so a name was probably cut; or it has a
+    /// list of ids, as a vote has.
     CutName,
     /// The id of a voter is that of another but for characters at its ends that can't be seen.
     HiddenCharacter,

@@ -53,9 +53,10 @@ pub fn run_is_its_rule()
 {}
 
 /// Every run, and so every outcome of a count, is fair to groups: of voters who all want a project that is
-/// not elected, at least one had already spent so much, on elected projects that took no more from it (under
-/// measure cost, for their cost) than that project would have, that too little of the share was left. So at
-/// least one has enough of the elected among its choices. (Added projects are no elected ones.)
+/// not elected, and whose shares together pay for it, at least one had already spent so much, on elected
+/// projects that took no more from it (under measure cost, for their cost) than that project would have, that
+/// too little of the share was left. So at least one has enough of the elected among its choices. (Added
+/// projects are no elected ones.)
 pub fn outcomes_are_fair_to_groups()
     ensures run { (m : Measure) (s : SupportView) (share : ℕ) (elected : List ElectedView) (rests : List ℕ)
         → IsRun m s share elected rests → IsFairToGroups m s share elected }

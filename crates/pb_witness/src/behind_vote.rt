@@ -31,6 +31,9 @@ const OF_NO_VOTES: &str =
 /// What a voter writes who makes no further choice.
 const NOTHING: &str = "-|none|nan|null|nil|n/a|na|no|nie|brak";
 
+/// How many values of a column are looked at that name projects, but by which no list shows that it holds votes.
+const MOST_SINGLE: u64 = 1_000;
+
 /// A column that may hold votes.
 #[derive(Clone, Copy)]
 struct FurtherColumn {
@@ -53,6 +56,8 @@ pub(crate) struct BehindVote {
     columns: Vec<FurtherColumn>,
     /// All that stands beyond the column names.
     beyond: FurtherColumn,
+    /// Of each column whether its name says that it holds no votes, and whether only a list is one.
+    no_votes: Vec<(bool, bool)>,
     /// The first row without a vote in which another field seems to be its vote, measured by how many there are.
     stray: Option<Odd>,
 }
@@ -64,11 +69,14 @@ impl BehindVote {
         let vote = column_of(names, Column::Vote.name()).unwrap_or(0);
         let (_, voters) = places_of(names, Column::VoterId);
         let has_voters = voters > 1;
-        for place in vote.saturating_add(1)..names.len() {
+        let mut no_votes = Vec::new(alloc);
+        for place in 0..names.len() {
             let name = text_at(names, place);
-            let is_again = has_voters && name.eq_ignore_ascii_case(Column::Vote.name());
             let is_other = is_one_of(OTHERS, name) || is_one_of(NUMBERS, name);
-            if !is_again && !is_other && !is_of_validity(name) {
+            let holds_none = is_other || is_of_validity(name);
+            no_votes.push((holds_none, is_one_of(OF_VOTERS, name)))?;
+            let is_again = has_voters && name.eq_ignore_ascii_case(Column::Vote.name());
+            if place > vote && !holds_none && !is_again {
                 columns.push(FurtherColumn::of(place, name))?;
             }
         }
@@ -76,13 +84,14 @@ impl BehindVote {
         Ok(BehindVote {
             columns,
             beyond,
+            no_votes,
             stray: None,
         })
     }
 
-    /// Whether no column among those with a place in the row of column names may hold votes.
-    pub(crate) fn is_empty(&self) -> bool {
-        self.columns.is_empty()
+    /// Whether a column among those with a place in the row of column names may hold votes.
+    pub(crate) fn is_open(&self) -> bool {
+        self.columns.iter().any(|column| column.is_open)
     }
 
     /// Takes a row with this ballot, which is odd so where a project's id is behind its vote.
@@ -102,7 +111,7 @@ impl BehindVote {
     /// begins here, if there is such a field.
     pub(crate) fn with_stray(&mut self, row: VoteRow<'_>, odd: Odd, header: Mark) -> Odd {
         let but = (row.columns.voter, row.columns.vote);
-        let Some(place) = stray_vote(row.record, but, row.projects) else {
+        let Some(place) = self.stray_vote(row.record, but, row.projects) else {
             return odd;
         };
         let odd = odd.at(place).in_form(1).named_in(header);
@@ -112,6 +121,30 @@ impl BehindVote {
             self.stray = Some(first.by(first.number.saturating_add(1)));
         }
         odd
+    }
+
+    /// The first field of a row that seems to be its vote: it names projects alone, and is no number, and no name
+    /// says that it is none. The fields at these two places are not meant.
+    fn stray_vote(
+        &self,
+        row: &ByteRecord,
+        but: (usize, usize),
+        projects: &Firsts,
+    ) -> Option<usize> {
+        for place in 0..row.len() {
+            let value = text_at(row, place);
+            let (holds_none, is_of_voters) = self
+                .no_votes
+                .get(place)
+                .copied()
+                .unwrap_or((false, false));
+            let is_meant = place != but.0 && place != but.1 && !is_digits(value) && !holds_none;
+            let may_be = is_meant && (value.contains(',') || !is_of_voters);
+            if may_be && names_other(value, &[], projects).is_some() {
+                return Some(place);
+            }
+        }
+        None
     }
 
     /// Takes the end of the file.
@@ -145,7 +178,7 @@ impl FurtherColumn {
             is_named: !name.is_empty(),
             is_of_voters: is_one_of(OF_VOTERS, name),
             is_open: true,
-            is_shown: name.is_empty() || is_of_votes(name),
+            is_shown: name.is_empty() || (is_of_votes(name) && !is_one_of(OF_VOTERS, name)),
             odd: None,
         }
     }
@@ -168,8 +201,10 @@ impl FurtherColumn {
             return false;
         }
         let first = self.odd.unwrap_or(odd);
-        self.odd = Some(first.by(first.number.saturating_add(1)));
+        let number = first.number.saturating_add(1);
+        self.odd = Some(first.by(number));
         self.is_shown |= value.contains(',') || (is_list(value) && !self.is_of_voters);
+        self.is_open = self.is_shown || number < MOST_SINGLE;
         true
     }
 }
@@ -177,19 +212,6 @@ impl FurtherColumn {
 /// Whether one of these is odd for the value at this place.
 fn has_place(all: &[Odd], place: usize) -> bool {
     all.iter().any(|odd| odd.value_place == place)
-}
-
-/// The first field of a row that seems to be its vote: it names projects alone, and is no number. The fields at
-/// these two places are not meant.
-fn stray_vote(row: &ByteRecord, but: (usize, usize), projects: &Firsts) -> Option<usize> {
-    for place in 0..row.len() {
-        let value = text_at(row, place);
-        let is_meant = place != but.0 && place != but.1 && !is_digits(value);
-        if is_meant && names_other(value, &[], projects).is_some() {
-            return Some(place);
-        }
-    }
-    None
 }
 
 /// Whether a column's name says that it holds votes.

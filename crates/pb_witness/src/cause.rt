@@ -144,7 +144,10 @@ pub(crate) fn cause_of(
         return Ok(of_project(projects, place, Cause::Mentioned));
     }
     match last_cause(id, witness, projects) {
-        (Cause::Unknown, _) if projects.has_form(id, true)? => Ok((Cause::Unknown, None)),
+        (Cause::Unknown, _)
+            if (unknown.is_beside || has_digit(id)) && projects.has_form(id, true)? => {
+            Ok((Cause::Unknown, None))
+        }
         (Cause::Unknown, _) if projects.has_form(id, false)? => Ok((Cause::Near, None)),
         (Cause::Unknown, _) => Ok((Cause::OtherForm, None)),
         other => Ok(other),

@@ -55,8 +55,13 @@ pub(crate) fn is_word(text: &str) -> bool {
 
 /// Whether a text has a word in it, in any case.
 pub(crate) fn has_word(text: &str, word: &str) -> bool {
-    for start in 0..text.len() {
-        match text.as_bytes().get(start..start.saturating_add(word.len())) {
+    let (bytes, first) = (text.as_bytes(), word.as_bytes().first());
+    for start in 0..bytes.len() {
+        let is_first = first.is_some_and(|byte| byte.eq_ignore_ascii_case(&bytes[start]));
+        if !is_first {
+            continue;
+        }
+        match bytes.get(start..start.saturating_add(word.len())) {
             Some(part) if part.eq_ignore_ascii_case(word.as_bytes()) => return true,
             _ => {}
         }
@@ -281,7 +286,7 @@ pub(crate) fn form_of(alloc: Global, id: &str, is_exact: bool) -> Result<String,
     for c in id.chars() {
         let mark = match c {
             '0'..='9' => '9',
-            _ if has_digits => c.to_ascii_lowercase(),
+            _ if has_digits => c,
             _ => 'a',
         };
         let is_marked = c.is_ascii_digit() || !has_digits;

@@ -10,6 +10,7 @@ use crate::oddities::{Odd, Oddities};
 use crate::valid_columns::ValidColumn;
 use csv::ByteRecord;
 use pb_core::election::Election;
+use pb_core::money::Money;
 use pb_read::{Oddity, ProjectColumns};
 use std::alloc::{AllocError, Global};
 
@@ -106,7 +107,8 @@ impl ProjectOddities {
         }
         for place in 0..row.len() {
             let value = text_at(row, place);
-            let is_list = place != columns.id && value.contains(',');
+            let is_other = place != columns.id && place != columns.cost;
+            let is_list = is_other && value.contains(',') && Money::read(value).is_err();
             if is_list && names_other(value, &[], projects).is_some() {
                 found.take(odd.as_a(Oddity::CutName).in_form(1).at(place));
             }
@@ -132,6 +134,7 @@ impl ProjectOddities {
         &self,
         election: &Election,
         has_fault: bool,
+        projects: &Firsts,
         found: &mut Oddities,
     ) -> Result<(), AllocError> {
         if let (Some(first), Some(last)) = (self.accepted.first(), self.accepted.last()) {
@@ -148,8 +151,8 @@ impl ProjectOddities {
             return Ok(());
         }
         let supporters = supporters_of(self.alloc, election)?;
-        let projects = self.accepted.iter().zip(election.projects());
-        for ((row, project), number) in projects.zip(&supporters) {
+        let rows = self.accepted.iter().zip(election.projects());
+        for ((row, project), number) in rows.zip(&supporters) {
             if project.id().contains(',') {
                 found.take(row.odd(Oddity::CommaInId));
             }
@@ -158,7 +161,8 @@ impl ProjectOddities {
             }
             if *number == 0 {
                 let odd = row.odd(Oddity::NoSupporter).at(row.columns.id);
-                let form = usize::from(is_shortened(project.id(), election));
+                let is_told = found.tells(Oddity::NoSupporter);
+                let form = usize::from(is_told && is_shortened(project.id(), projects));
                 found.take(odd.in_form(form));
             }
             match (row.votes, self.votes) {
@@ -202,9 +206,9 @@ fn claimed(row: &ByteRecord, column: Option<usize>) -> Option<Option<u64>> {
 }
 
 /// Whether an id is a number with zeros at its end, and without them that of another project.
-fn is_shortened(id: &str, election: &Election) -> bool {
+fn is_shortened(id: &str, projects: &Firsts) -> bool {
     let short = id.trim_end_matches('0');
-    is_decimal(id) && short.len() < id.len() && election.has_project(short)
+    is_decimal(id) && short.len() < id.len() && projects.has(short)
 }
 
 /// How many ballots approve each project.

@@ -13,10 +13,13 @@ const VALID: &str =
     completed|wazny|ważny|gueltig|gültig|platny|platný|geldig|valide";
 
 /// How names begin of further ones, such as one with the day on which a project was withdrawn.
-const BEGINNINGS: &str = "withdrawn|cancelled|invalid|removed|rejected";
+const BEGINNINGS: &str = "withdrawn|cancelled|invalid|removed|rejected_";
 
 /// What columns are called that have remarks.
 const NOTES: &str = "remark|remarks|comment|comments|note|notes";
+
+/// So many remarks of a column are looked at: more are no exceptions.
+const MOST_REMARKS: u32 = 1_000;
 
 /// What a remark says of a vote that should not count.
 const REMARKS: &str =
@@ -35,6 +38,8 @@ pub(crate) struct ValidColumn {
     /// Whether it has remarks, and whether it may say something else than that.
     has_remarks: bool,
     says_more: bool,
+    /// How many remarks were looked at.
+    looked: u32,
     /// Where the section's first row begins, and what it says.
     first: Option<Mark>,
     value: String,
@@ -65,6 +70,7 @@ impl ValidColumn {
                     place,
                     has_remarks: is_one_of(NOTES, name),
                     says_more: is_one_of("status|accepted|finished|completed", name),
+                    looked: 0,
                     first: None,
                     value: String::new(alloc),
                     differs: false,
@@ -72,6 +78,11 @@ impl ValidColumn {
             }
         }
         Ok(columns)
+    }
+
+    /// Whether more may be said of it.
+    pub(crate) fn is_open(&self) -> bool {
+        !self.differs && self.looked < MOST_REMARKS
     }
 
     /// Takes a row, which is odd so where it is the first that differs from the section's first, or has a remark.
@@ -87,8 +98,11 @@ impl ValidColumn {
             return Ok(());
         }
         if self.has_remarks {
-            let says = REMARKS.split('|').any(|word| has_word(value, word));
-            if says && odd.subject == Subject::Voter {
+            if value.is_empty() || odd.subject != Subject::Voter || self.looked == MOST_REMARKS {
+                return Ok(());
+            }
+            self.looked = self.looked.saturating_add(1);
+            if REMARKS.split('|').any(|word| has_word(value, word)) {
                 self.differs = true;
                 found.take(odd.in_form(2));
             }

@@ -58,8 +58,8 @@ struct NumberColumn {
 /// A voter whose id has a character at an end that can't be seen: the place among the voters, and the row.
 #[derive(Clone, Copy)]
 struct MarkedVoter {
-    place: usize,
-    odd: Odd,
+    place: u32,
+    mark: Mark,
 }
 
 /// What is odd in VOTES, as its rows are read.
@@ -72,9 +72,11 @@ pub(crate) struct VoteOddities {
     numbers: Vec<NumberColumn>,
     valid: Vec<ValidColumn>,
     behind: BehindVote,
-    /// Whether there are columns of these three kinds.
+    /// Whether there are columns of these three kinds of which something may still be said.
     has_further: bool,
+    /// The voters whose ids have such characters, and the places of their columns.
     marked: Vec<MarkedVoter>,
+    columns: Option<VoteColumns>,
     /// How many ballots approve nothing, and how many of them come behind the last that approves something.
     empty: u64,
     last_empty: u64,
@@ -106,7 +108,7 @@ impl VoteOddities {
         }
         let valid = ValidColumn::all_of(alloc, names)?;
         let behind = BehindVote::of(alloc, names)?;
-        let has_further = !numbers.is_empty() || !valid.is_empty() || !behind.is_empty();
+        let has_further = !numbers.is_empty() || !valid.is_empty() || behind.is_open();
         Ok(VoteOddities {
             alloc,
             header,
@@ -116,6 +118,7 @@ impl VoteOddities {
             behind,
             has_further,
             marked: Vec::new(alloc),
+            columns: None,
             empty: 0,
             last_empty: 0,
             first_empty: None,
@@ -134,11 +137,15 @@ impl VoteOddities {
         if names_twice(row.record, row.columns.vote, ballot.len()) {
             found.take(row.odd(Oddity::TwiceInVote));
         }
-        if is_marked(text_at(row.record, row.columns.voter)) {
+        let id = bytes_at(row.record, row.columns.voter);
+        let is_plain = is_plain_end(id.first()) && is_plain_end(id.last());
+        if !is_plain && is_marked(text_at(row.record, row.columns.voter)) {
+            let voters = row.election.voters().len().saturating_sub(1);
             self.marked.push(MarkedVoter {
-                place: row.election.voters().len().saturating_sub(1),
-                odd: row.odd(Oddity::HiddenCharacter),
+                place: u32::try_from(voters).unwrap_or(u32::MAX),
+                mark: row.mark,
             })?;
+            self.columns = Some(row.columns);
         }
         if self.has_further || row.record.len() > self.names {
             self.take_further(row, ballot, found)?;
@@ -168,6 +175,9 @@ impl VoteOddities {
         for column in self.valid.iter_mut() {
             column.take(row.record, odd.as_a(Oddity::ValidColumn).in_form(1), found)?;
         }
+        self.has_further = self.behind.is_open()
+            || self.numbers.iter().any(|column| column.is_open)
+            || self.valid.iter().any(|column| column.is_open());
         Ok(())
     }
 
@@ -249,12 +259,12 @@ impl VoteOddities {
             }
         }
         for marked in &self.marked {
-            let id = match election.voters().get(marked.place) {
+            let id = match election.voters().get(marked.place as usize) {
                 Some(voter) => without_hidden(voter.id.text()),
                 None => "",
             };
-            if ids.insert(self.alloc, id, 0)?.is_some() {
-                found.take(marked.odd);
+            if let (Some(_), Some(columns)) = (ids.insert(self.alloc, id, 0)?, self.columns) {
+                found.take(Odd::of_vote(Oddity::HiddenCharacter, marked.mark, columns));
             }
         }
         drop(ids);
@@ -301,6 +311,14 @@ fn names_twice(row: &ByteRecord, vote: usize, length: usize) -> bool {
     }
     let pieces = text_at(row, vote).split(',');
     pieces.filter(|piece| !piece.trim().is_empty()).count() > length
+}
+
+/// Whether a byte at an end of an id is a letter or a digit of ASCII, if there is one.
+fn is_plain_end(byte: Option<&u8>) -> bool {
+    match byte {
+        Some(byte) => byte.is_ascii_alphanumeric(),
+        None => true,
+    }
 }
 
 /// Whether an id has a character at an end that can't be seen, and is not of ASCII.

@@ -181,7 +181,8 @@ impl Warnings {
         if let Some(projects) = &self.projects {
             let has_districts = projects.has_districts;
             self.meta.end(election, self.rows, has_districts, found);
-            projects.end(election, self.has_fault, found)?;
+            let ids = &self.witness.ids.projects;
+            projects.end(election, self.has_fault, ids, found)?;
         }
         match &self.votes {
             Some(votes) => votes.end(election, found),

@@ -78,7 +78,7 @@ fn remedy_of(cause: Cause) -> &'static str {
         Cause::Name =>
             "This is the name of project {} on line {}. If it is meant, write its id in the vote.\n",
         Cause::Mentioned =>
-            "The name of project {} on line {} has this id in it, so the vote may be meant for that project. Ask whoever made the file.\n",
+            "The name of project {} on line {} mentions this id, so the vote may be meant for that project. Ask whoever made the file.\n",
         Cause::OtherForm =>
             "No id in PROJECTS has this form. Ask whoever made the file what it means.\n",
         Cause::More =>

@@ -28,7 +28,7 @@ If rows are missing, get the whole file again. Correct the number only if you kn
         "{value} is wrong: the number of vote rows in the file is {number}
 `num_votes` is wrong: the number of vote rows in the file is {number}
 If some of them are totals or notes, delete these. Otherwise correct the number.",
-        "{value} is not a whole number in digits; the number of these rows in the file is {number}
+        "{value} is not a whole number in digits; the number of vote rows in the file is {number}
 `num_votes` is wrong: the number of vote rows in the file is {number}
 Write the number in digits.",
     ],
@@ -39,7 +39,7 @@ If rows are missing, get the whole file again. Correct the number only if you kn
         "{value} is wrong: the number of project rows in the file is {number}
 `num_projects` is wrong: the number of project rows in the file is {number}
 If some of them are totals or notes, delete these. Otherwise correct the number.",
-        "{value} is not a whole number in digits; the number of these rows in the file is {number}
+        "{value} is not a whole number in digits; the number of project rows in the file is {number}
 `num_projects` is wrong: the number of project rows in the file is {number}
 Write the number in digits.",
     ],
@@ -49,7 +49,7 @@ the row has too many fields: the number of column names is {number}
 If `;` is between the ids of the vote, write `,` instead: only the ids before the first `;` are counted.",
         "the row has a third field, {value}, which is ignored
 a row of META has a third field, which is ignored
-If the amount there is the right one, write it into the second field, and delete the third.",
+If a `;` has cut the amount, write it in one field. If the amount there is the right one, write it into the second field, and delete the third.",
     ],
     &[TOO_LONG],
     &[TOO_SHORT, STRAY_VOTE],
@@ -180,13 +180,13 @@ If each district or category has a budget of its own, make a file for each: its 
 the row has too many fields: the number of column names is {number}
 If a `;` in the name has cut it, put the name in quotation marks: `\"Park; north\"`. If the decimal comma \
     of an amount has become `;`, write the amount in one field, like `12000,50`. Then check the cost.",
-        "the row has {value} in it, as a vote has
-the row has several ids of projects in it, as a vote has
+        "the row has {value} in it, like a vote
+the row has several ids of projects in it, like a vote
 If it is a vote, move it below VOTES.",
     ],
     &[
-        "an invisible character is beside this id. Without it, it is that of another row, so the voter is counted twice
-an invisible character is beside the voter's id. Without it, it is that of another row, so the voter is counted twice
+        "this id begins or ends with an invisible character. Without it, the id is another row's, so the voter is counted twice
+a voter's id begins or ends with an invisible character. Without it, the id is another row's, so the voter is counted twice
 Delete it, or type the id anew.",
     ],
     &[

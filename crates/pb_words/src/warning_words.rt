@@ -255,21 +255,33 @@ fn put_row<R: Files>(out: &mut WordsWriter, text: &Text<R>, odd: &Odd, what: &'s
     out.put(": ");
     let value = text_at(row, odd.value_place);
     let line = line_of(text, odd.before.unwrap_or(odd.mark));
-    let header = match odd.names {
-        Some(names) => text.record_at(names),
-        None => None,
-    };
-    let column = match &header {
-        Some(records) if !text_at(&records.last, odd.value_place).is_empty() => {
-            Quoted(text_at(&records.last, odd.value_place))
-        }
-        _ => Number((odd.value_place as u64).saturating_add(1)),
-    };
+    let texts = (value, twice_of(text.alloc, odd, value));
+    let numbers = (line, row.len() as u64);
+    let (before, behind) = what.split_once("{column}").unwrap_or((what, ""));
+    put_known(out, before, odd, texts, numbers);
+    if before.len() < what.len() {
+        put_column_name(out, text, odd);
+        put_known(out, behind, odd, texts, numbers);
+    }
+    true
+}
+
+/// Puts this part of what is said of an odd row, with its value, what the vote names twice, a line, and how many
+/// fields it has.
+fn put_known<'t>(
+    out: &mut WordsWriter,
+    part: &'static str,
+    odd: &Odd,
+    texts: (&'t str, &'t str),
+    numbers: (u64, u64),
+) {
+    let (value, twice) = texts;
+    let (line, fields) = numbers;
     out.fill_named(
-        what,
+        part,
         &[
             ("value", Quoted(value)),
-            ("fields", Number(row.len() as u64)),
+            ("fields", Number(fields)),
             ("number", Number(odd.number)),
             ("rows", Count(odd.number, "row")),
             ("projects", Count(odd.number, "project")),
@@ -277,13 +289,26 @@ fn put_row<R: Files>(out: &mut WordsWriter, text: &Text<R>, odd: &Odd, what: &'s
             ("line", Number(line)),
             ("amount", Amount(amount_of(value))),
             ("sum", Amount(odd.number)),
-            ("twice", Quoted(twice_of(text.alloc, odd, value))),
+            ("twice", Quoted(twice)),
             ("short", Quoted(value.trim_end_matches('0'))),
-            ("column", column),
         ],
     );
-    drop(header);
-    true
+}
+
+/// Puts the name of the column that an odd row is spoken of for, or its number.
+fn put_column_name<R: Files>(out: &mut WordsWriter, text: &Text<R>, odd: &Odd) {
+    let number = (odd.value_place as u64).saturating_add(1);
+    let Some(names) = odd.names else {
+        return out.fill("{}", &[Number(number)]);
+    };
+    let Some(records) = text.record_at(names) else {
+        return out.fill("{}", &[Number(number)]);
+    };
+    match text_at(&records.last, odd.value_place) {
+        "" => out.fill("{}", &[Number(number)]),
+        name => out.fill("{}", &[Quoted(name)]),
+    }
+    drop(records);
 }
 
 /// The first id that a vote names twice, if it is odd for that.

@@ -16,7 +16,7 @@ pub fn texts_stay_texts()
     ensures back { (text : List ℕ) → read_from None (written text) ≡ text }
 {}
 
-/// A text, whatever it is, adds no `<`, `>` and quote to a page, and takes none away: each is of the program's own
+/// A text, whatever it is, adds no `<`, `>` or quote to a page, and takes none away: each is of the program's own
 /// markup.
 pub fn texts_add_no_markup()
     ensures { (before after : List Part) (text : List ℕ)
