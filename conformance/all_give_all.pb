@@ -1,0 +1,14 @@
+META
+key;value
+budget;30
+vote_type;approval
+PROJECTS
+project_id;cost
+a;4
+b;5
+c;21
+VOTES
+voter_id;vote
+v1;a,c
+v2;b,c
+v3;c

@@ -1,0 +1,10 @@
+META
+key;value
+budget;0
+vote_type;approval
+PROJECTS
+project_id;cost
+a;0.01
+VOTES
+voter_id;vote
+v1;a

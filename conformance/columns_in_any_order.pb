@@ -1,0 +1,12 @@
+META
+key;value
+budget;10
+vote_type;approval
+PROJECTS
+Name;COST;category;project_id;cost
+Trees;4;green;a;9
+Path;6;;b;1
+VOTES
+age;vote;Voter_ID
+30;a;v1
+41;b,a;v2

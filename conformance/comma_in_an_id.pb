@@ -1,0 +1,13 @@
+META
+key;value
+budget;10
+vote_type;approval
+PROJECTS
+project_id;cost
+a,b;1
+a;4
+b;5
+VOTES
+voter_id;vote
+v1;a,b
+v2;"b,a"

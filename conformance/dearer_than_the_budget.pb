@@ -1,0 +1,13 @@
+META
+key;value
+budget;10
+vote_type;approval
+PROJECTS
+project_id;cost
+dear;11
+c;8
+VOTES
+voter_id;vote
+v1;dear
+v2;dear
+v3;c

@@ -1,0 +1,13 @@
+META
+key;value
+budget;12
+vote_type;approval
+PROJECTS
+project_id;cost
+a;8
+b;2
+VOTES
+voter_id;vote
+v1;a
+v2;a
+v3;

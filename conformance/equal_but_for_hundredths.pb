@@ -1,0 +1,13 @@
+META
+key;value
+budget;10
+vote_type;approval
+PROJECTS
+project_id;cost
+x;7
+y;8
+VOTES
+voter_id;vote
+v1;x,y
+v2;x,y
+v3;x,y

@@ -1,0 +1,10 @@
+META
+key;value
+budget;100
+vote_type;approval
+PROJECTS
+VOTES
+voter_id;vote
+v1;a
+v2;a,b
+v3;b

@@ -1,0 +1,9 @@
+META
+key;value
+budget;100
+vote_type;approval
+VOTES
+voter_id;vote
+v1;a
+v2;a,b
+v3;b

@@ -1,0 +1,13 @@
+META
+key;value
+budget;100
+vote_type;approval
+PROJECTS
+project_id;cost
+a;30
+b;0,00
+VOTES
+voter_id;vote
+v1;a
+v2;a,b
+v3;b

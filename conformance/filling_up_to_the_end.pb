@@ -1,0 +1,15 @@
+META
+key;value
+budget;15
+vote_type;approval
+PROJECTS
+project_id;cost
+a;6
+b;9
+c;10
+VOTES
+voter_id;vote
+v1;a,b
+v2;a,c
+v3;b
+v4;c,b

@@ -1,0 +1,13 @@
+META
+key;value
+budget;0009,50
+vote_type;approval
+PROJECTS
+project_id;cost
+a;1,200
+b;003.5
+c;2.3000
+VOTES
+voter_id;vote
+v1;a,b
+v2;b,c

@@ -1,0 +1,11 @@
+META
+key;value
+budget;10000000000000
+vote_type;approval
+PROJECTS
+project_id;cost
+a;10000000000000
+b;0.01
+VOTES
+voter_id;vote
+v1;a,b

@@ -1,0 +1,17 @@
+META
+key;value
+budget;12
+vote_type;approval
+PROJECTS
+project_id;cost
+a;1
+A;1
+1;2
+01;2
+5;3
+5.0;3
+VOTES
+voter_id;vote
+v;a,01
+V;A,5.0,01
+0;5,1

@@ -1,0 +1,16 @@
+META
+key;value
+budget;12
+vote_type;approval
+PROJECTS
+project_id;cost
+a;9
+b;2
+c;3
+d;4
+VOTES
+voter_id;vote
+v1;a,b
+v2;a,c
+v3;a,d
+v4;b,d

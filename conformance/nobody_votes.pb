@@ -1,0 +1,9 @@
+META
+key;value
+budget;10
+vote_type;approval
+PROJECTS
+project_id;cost
+a;5
+VOTES
+voter_id;vote

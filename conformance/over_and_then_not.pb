@@ -1,0 +1,13 @@
+META
+key;value
+budget;10
+vote_type;approval
+PROJECTS
+project_id;cost
+a;4
+b;9
+c;4
+VOTES
+voter_id;vote
+v1;a,b,c
+v2;b

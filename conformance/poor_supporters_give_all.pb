@@ -1,0 +1,16 @@
+META
+key;value
+budget;40
+vote_type;approval
+PROJECTS
+project_id;cost
+a;4
+b;5
+c;20
+d;10
+VOTES
+voter_id;vote
+v1;a,c
+v2;b,c
+v3;c
+v4;d

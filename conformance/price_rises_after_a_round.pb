@@ -1,0 +1,15 @@
+META
+key;value
+budget;26
+vote_type;approval
+PROJECTS
+project_id;cost
+a;6
+b;12
+c;9
+VOTES
+voter_id;vote
+v1;a,b
+v2;a,b
+v3;b,c
+v4;c

@@ -1,0 +1,13 @@
+META
+key;value
+budget;3000000000000
+vote_type;approval
+PROJECTS
+project_id;cost
+x;1000000000000
+y;1000000000000.03
+VOTES
+voter_id;vote
+v1;x,y
+v2;x,y
+v3;x,y

@@ -1,0 +1,12 @@
+META
+key;value
+budget;13
+vote_type;approval
+PROJECTS
+project_id;cost
+a;8
+b;5
+VOTES
+voter_id;vote
+v1;a,b
+v2;

@@ -1,0 +1,16 @@
+META
+key;value
+budget;11
+vote_type;approval
+PROJECTS
+project_id;cost
+a;1
+b;2
+c;5
+d;2
+VOTES
+voter_id;vote
+v1;a,c
+v2;b,c
+v3;d
+v4;a,d

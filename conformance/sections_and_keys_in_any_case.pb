@@ -1,0 +1,15 @@
+meta
+key;value
+BUDGET;1
+country;Niwokade
+Vote_Type;Approval
+budget;10;99
+max_length;1,0
+Projects
+project_id;cost
+a;4
+b;6
+votes
+voter_id;vote
+v1;a,b
+v2;b

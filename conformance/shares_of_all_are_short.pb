@@ -1,0 +1,13 @@
+META
+key;value
+budget;100
+vote_type;approval
+PROJECTS
+project_id;cost
+all;100
+y;0.50
+VOTES
+voter_id;vote
+v1;all,y
+v2;all
+v3;all

@@ -1,0 +1,12 @@
+META
+key;value
+budget;10
+vote_type;approval
+PROJECTS
+project_id;cost
+b;7
+a;6
+VOTES
+voter_id;vote
+v1;a
+v2;b

@@ -1,0 +1,13 @@
+META
+key;value
+budget;10
+vote_type;approval
+PROJECTS
+project_id;cost
+a;3
+b;6
+VOTES
+voter_id;vote
+v1;a
+v2;a,b
+v3;b

@@ -1,0 +1,14 @@
+META
+key;value
+budget;3
+vote_type;approval
+PROJECTS
+project_id;cost
+a;1
+b;1
+c;1
+VOTES
+voter_id;vote
+v1;a,b,c
+v2;a,b,c
+v3;a,b,c

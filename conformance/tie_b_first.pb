@@ -1,0 +1,12 @@
+META
+key;value
+budget;6
+vote_type;approval
+PROJECTS
+project_id;cost
+b;4
+a;2
+VOTES
+voter_id;vote
+v1;b
+v2;a,b

@@ -1,0 +1,12 @@
+META
+key;value
+budget;2
+vote_type;approval
+PROJECTS
+project_id;cost
+z;2
+a;2
+VOTES
+voter_id;vote
+v1;a,z
+v2;z,a

@@ -1,0 +1,14 @@
+META
+key;value
+budget;7.50
+vote_type;approval
+PROJECTS
+project_id;cost
+x;4
+y;2
+z;2
+VOTES
+voter_id;vote
+v1;x,y
+v2;x,y
+v3;z

@@ -1,0 +1,14 @@
+META
+key;value
+budget;15
+vote_type;approval
+PROJECTS
+project_id;cost
+c;7
+b;6
+a;2.50
+VOTES
+voter_id;vote
+v1;a,b
+v2;b,c
+v3;c

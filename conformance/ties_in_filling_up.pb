@@ -1,0 +1,17 @@
+META
+key;value
+budget;20
+vote_type;approval
+PROJECTS
+project_id;cost
+p;12
+r;11
+q;11
+t;6
+s;6
+VOTES
+voter_id;vote
+v1;p,r
+v2;p,t
+v3;q,r
+v4;q,s

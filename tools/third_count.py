@@ -1,0 +1,126 @@
+#!/usr/bin/env python3
+"""Counts a small `.pb` file as plainly as docs/counting.md says it, and prints the report, or the fault line.
+
+It was written from the docs to check the reports of conformance/, and shares no code with the program or with
+tools/recount.py. It saves no work: it makes each raise's run, and searches each price by its definition. It
+judges no limits of records, projects and voters.
+"""
+import collections, csv, fractions, io, sys
+
+sys.dont_write_bytecode = True
+import arguments
+from third_file import Election, Refused
+
+# Of the completions two raise the shares, and two fill up.
+MEASURES, COMPLETIONS = ('votes', 'cost'), ('none', 'add1', 'utilitarian', 'add1u')
+
+# What is counted by: a measure, a completion, a step in hundredths, and how many raises there may be.
+Rule = collections.namedtuple('Rule', 'measure completion step most')
+
+
+def least_price(cost, rests):
+    """The least price at which these rests cover the cost, or None where they never do."""
+    if sum(rests) < cost:
+        return None
+    low, high = 0, max(rests)
+    while low < high:
+        middle = (low + high) // 2
+        low, high = (low, middle) if sum(min(rest, middle) for rest in rests) >= cost else (middle + 1, high)
+    return low
+
+
+def run(election, measure, share):
+    """What the rounds elect at a share, in their order: each project's price, and what it collected."""
+    elected, rests = {}, dict.fromkeys(election.ballots, share)
+
+    def order(priced):
+        project, price = priced
+        return fractions.Fraction(price, election.costs[project]) if measure == 'cost' else price
+
+    while True:
+        prices = {project: least_price(cost, [rests[voter] for voter in election.supporters[project]])
+                  for project, cost in election.costs.items() if project not in elected}
+        prices = {project: price for project, price in prices.items() if price is not None}
+        if not prices:
+            return elected
+        # Of equals `min` gives the first.
+        best, price = min(prices.items(), key=order)
+        paid = {voter: min(rests[voter], price) for voter in election.supporters[best]}
+        rests.update({voter: rests[voter] - payment for voter, payment in paid.items()})
+        elected[best] = price, sum(paid.values())
+
+
+def decided(election, rule):
+    """How often the share is raised, the share, and what is elected there."""
+    opening, answer = election.budget // len(election.ballots) if election.ballots else 0, None
+    for raises in range(rule.most + 1):
+        share = opening + raises * rule.step
+        elected = run(election, rule.measure, share)
+        left = election.budget - election.cost_of(elected)
+        if left < 0:
+            return answer
+        answer = raises, share, elected
+        if rule.completion in ('none', 'utilitarian') or not election.fitting(elected, left):
+            return answer
+    raise Refused('fault;count;4;RaisesSpent', 1)
+
+
+def filled_up(election, elected):
+    """What most votes first adds to the elected, in its order."""
+    added, left = [], election.budget - election.cost_of(elected)
+    while fitting := election.fitting([*elected, *added], left):
+        added.append(min(fitting, key=lambda it: (-len(election.supporters[it]), election.costs[it])))
+        left -= election.costs[added[-1]]
+    return added
+
+
+def report(election, rule):
+    """The rows of the report."""
+    if not 1 <= rule.step <= 10**9:
+        raise Refused('fault;count;2;StepRange', 2)
+    if not 0 <= rule.most <= 10**6:
+        raise Refused('fault;count;3;RaisesRange', 2)
+    raises, share, elected = decided(election, rule)
+    added = filled_up(election, elected) if rule.completion in ('utilitarian', 'add1u') else []
+    yield 'budget', money(election.budget)
+    yield 'voters', len(election.ballots)
+    yield 'share', money(share)
+    yield 'raises', raises
+    for project, (price, _) in elected.items():
+        yield 'elected', project, money(election.costs[project]), money(price)
+    for project in added:
+        yield 'added', project, money(election.costs[project]), len(election.supporters[project])
+    yield 'spent', money(election.cost_of([*elected, *added]))
+    yield 'surplus', money(sum(collected for _, collected in elected.values()) - election.cost_of(elected))
+
+
+def money(amount):
+    return f'{amount // 100}.{amount % 100:02}'
+
+
+def given_arguments():
+    """The file and the rule that the arguments name."""
+    parser = arguments.Parser('third_count.py', __doc__)
+    parser.add_argument('file', type=arguments.file, metavar='FILE', help='a `.pb` file')
+    parser.add_argument('--measure', choices=MEASURES, default='votes', help='what a project is worth')
+    parser.add_argument('--completion', choices=COMPLETIONS, default='add1', help='what follows a run')
+    parser.add_argument('--step', type=int, default=100, metavar='HUNDREDTHS', help='what a raise adds')
+    parser.add_argument('--raises', type=int, default=10**6, metavar='MOST', help='how many there may be')
+    given = parser.parse_args()
+    return given.file, Rule(given.measure, given.completion, given.step, given.raises)
+
+
+def main():
+    (file, rule), text = given_arguments(), io.StringIO()
+    try:
+        rows = list(report(Election(file.read_bytes()), rule))
+    except Refused as refused:
+        print(refused.args[0])
+        return refused.args[1]
+    csv.writer(text, delimiter=';', lineterminator='\n').writerows(rows)
+    sys.stdout.buffer.write(text.getvalue().encode())
+    return 0
+
+
+if __name__ == '__main__':
+    sys.exit(main())
