@@ -45,14 +45,17 @@ COMPUTING_LAWS = {
     ("pb_rounds", "completion_is_its_rule"),
     ("pb_rounds", "count_is_computed"),
 }
-# Words each of whose values, for every input, a law pins in the words of a rule: whoever names them, the law says what they
-# are, and nobody has to believe what computes them.
+# Words each of whose values a law pins in the words of a rule, for every input, or for each one that a definition gives them
+# (`last_given`: a voter whose ballot a legal journal leaves): whoever names them, the law says what they are, and nobody has to
+# believe what computes them.
 PINNED = {
     ("pb_core", "Money", "money_of"): ("pb_core", "money_is_what_its_text_names"),
     ("pb_read", "Lengths", "max_length_of"): ("pb_read", "max_length_is_what_its_text_names"),
     ("pb_price", "Price", "price_at"): ("pb_price", "price_is_least_payment"),
     ("pb_rounds", "Count", "opening_share"): ("pb_rounds", "opening_share_is_largest"),
     ("pb_rounds", "MostVotes", "most_votes_first"): ("pb_rounds", "most_votes_first_is_its_rule"),
+    ("pb_reasons", "Counted", "is_selected"): ("pb_reasons", "winners_share_the_budget"),
+    ("pb_commands", "Ballots", "last_given"): ("pb_commands", "ballots_name_their_entries"),
 }
 
 

@@ -43,27 +43,25 @@ class Search:
         return str(int(election.places[self.project] in [*added, *(it.place for it in outcome.elected)]))
 
     def halved(self, change, low, high):
-        """Two rows of which one wins and the other loses, halved until they are one step apart."""
+        """Two rows of which one wins and the other does not, halved until they are one step apart."""
         while high[0] - low[0] > 1:
             middle = low[0] + (high[0] - low[0]) // 2
             row = (middle, self.word(change, middle))
-            if row[1] == 'refused':
-                return [low, row] if low[1] == '1' else [row, high]
-            low, high = (row, high) if row[1] == low[1] else (low, row)
+            low, high = (row, high) if (row[1] == '1') == (low[1] == '1') else (low, row)
         return [low, high]
 
     def between(self, change, low, high):
         if low[0] == high[0]:
             return [low]
-        return self.halved(change, low, high) if {low[1], high[1]} == {'0', '1'} else [low, high]
+        return [low, high] if (low[1] == '1') == (high[1] == '1') else self.halved(change, low, high)
 
     def doubled(self, most):
         last = first = (0, '0')
         while last[0] < most:
             row = (min(max(2 * last[0], 1), most), None)
             row = (row[0], self.word('voters', row[0]))
-            if row[1] != '0':
-                return self.halved('voters', last, row) if row[1] == '1' else [last, row]
+            if row[1] == '1':
+                return self.halved('voters', last, row)
             last = row
         return [first, last] if most else [first]
 

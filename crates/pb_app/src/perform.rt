@@ -6,7 +6,7 @@ use crate::notes::Notes;
 use crate::page::page;
 use crate::serve::serve;
 use crate::system::System;
-use crate::tables::{audit, ballots, check, desk, tell};
+use crate::tables::{audit, ballots, check, count, desk, tell};
 use crate::what_if::what_if;
 use crate::words::is_quiet;
 use pb_command_line::{Asked, CompareRun, Task};
@@ -79,8 +79,8 @@ fn do_task<R: System, W: Write>(
     notes: &mut Notes,
 ) -> Result<(), RunRefusal> {
     let done = match &run.asked.task {
-        Task::Count(ballots)
-        | Task::Projects(ballots)
+        Task::Count(asked) => count(run, asked, writer, &mut notes.seen),
+        Task::Projects(ballots)
         | Task::Voters(ballots)
         | Task::Compare(CompareRun { ballots, .. }) => {
             tell(
@@ -103,13 +103,12 @@ fn do_task<R: System, W: Write>(
     Ok(done?)
 }
 
-/// The table that a task writes which writes one.
+/// The table that a task writes which writes one and no report.
 fn table_of(task: &Task<'_>) -> Table {
     match task {
         Task::Voters(_) => Table::Voters,
         Task::Compare(CompareRun { by_project, .. }) if *by_project => Table::RuledProjects,
         Task::Compare(_) => Table::Rules,
-        Task::Projects(_) => Table::Projects,
-        _ => Table::Report,
+        _ => Table::Projects,
     }
 }

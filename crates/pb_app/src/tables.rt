@@ -4,7 +4,7 @@ use crate::admitted::{RowNotice, rules_of};
 use crate::command_run::CommandRun;
 use crate::notes::Notes;
 use crate::system::System;
-use pb_command_line::{AuditRun, Ballots, BallotsRun, CheckRun, DeskRun};
+use pb_command_line::{AuditRun, Ballots, BallotsRun, CheckRun, CountRun, DeskRun};
 use pb_commands::run_audit::{AuditInputs, run_audit_watched};
 use pb_commands::run_ballots::run_ballots;
 use pb_commands::run_check::{run_check, run_check_against};
@@ -30,6 +30,21 @@ pub(crate) fn tell<'a, R: System, W: Write>(
 ) -> Result<(), AppFault> {
     let inputs = run.inputs(ballots)?;
     run_table(&run.counting, inputs, seen, writer, table)
+}
+
+/// Counts ballots: the report, alone or below the digests of what was read.
+pub(crate) fn count<'a, R: System, W: Write>(
+    run: &CommandRun<'a, R>,
+    asked: &CountRun<'a>,
+    writer: &mut W,
+    seen: &mut Warnings,
+) -> Result<(), AppFault> {
+    if !asked.digests {
+        return tell(run, &asked.ballots, Table::Report, writer, seen);
+    }
+    let mut text = Vec::new(run.counting.alloc);
+    let told = tell(run, &asked.ballots, Table::Report, &mut text, seen);
+    put_below_digests(run, told, text, writer)
 }
 
 /// Checks a .pb file, and keeps its faults and warnings.
@@ -88,22 +103,46 @@ pub(crate) fn audit<'a, R: System, W: Write>(
     if !asked.digests {
         return report(run, asked, writer, notes);
     }
-    let alloc = run.counting.alloc;
-    let mut text = Vec::new(alloc);
-    let passed = match report(run, asked, &mut text, notes) {
-        Ok(()) => match (run.kinship.file.get(), run.kinship.journal.get()) {
-            (Some(file), Some(journal)) => {
-                let (file, journal) = (file.text(), journal.text());
-                write_digested(alloc, &Digests { file, journal }, text.as_slice(), writer)
-            }
-            _ => write_out(writer, text.as_slice(), AppFault::Write),
-        },
+    let mut text = Vec::new(run.counting.alloc);
+    let told = report(run, asked, &mut text, notes);
+    put_below_digests(run, told, text, writer)
+}
+
+/// Writes this text, if it was told whole, below the digests of what was read for it.
+fn put_below_digests<R: System, W: Write>(
+    run: &CommandRun<'_, R>,
+    told: Result<(), AppFault>,
+    text: Vec<u8>,
+    writer: &mut W,
+) -> Result<(), AppFault> {
+    let passed = match told {
+        Ok(()) => write_below_digests(run, text.as_slice(), writer),
         // A text in memory is refused for memory alone.
         Err(AppFault::Write) => Err(AppFault::Memory),
         Err(fault) => Err(fault),
     };
     drop(text);
     passed
+}
+
+/// Writes this report below the digests of what was read for it.
+fn write_below_digests<R: System, W: Write>(
+    run: &CommandRun<'_, R>,
+    report: &[u8],
+    writer: &mut W,
+) -> Result<(), AppFault> {
+    let Some(file) = run.kinship.file.get() else {
+        return write_out(writer, report, AppFault::Write);
+    };
+    let journal = run.kinship.journal.get();
+    let digests = Digests {
+        file: file.text(),
+        journal: match &journal {
+            Some(digest) => Some(digest.text()),
+            None => None,
+        },
+    };
+    write_digested(run.counting.alloc, &digests, report, writer)
 }
 
 /// Writes the report of an audit, and notes how many entries have which answer.

@@ -233,6 +233,13 @@ pub(crate) const DIGESTS: Argument = Argument {
     help: "Prints the SHA-256 of FILE and of JOURNAL before the report; others can compare it with that of their copies",
 };
 
+/// Whether the digest of the file stands before a report.
+pub(crate) const DIGEST: Argument = Argument {
+    name: "digests",
+    takes: Takes::Nothing,
+    help: "Prints the SHA-256 of FILE before the report; others can compare it with that of their copies",
+};
+
 /// Whether a comparison has a row for each project.
 pub(crate) const BY_PROJECT: Argument = Argument {
     name: "projects",

@@ -2,8 +2,8 @@
 
 use crate::rule::rule_of;
 use crate::task::{
-    Admits, Asked, AuditRun, Ballots, BallotsRun, CheckRun, CompareRun, DeskRun, OneChange,
-    PageRun, ServeRun, Task, WhatIfRun,
+    Admits, Asked, AuditRun, Ballots, BallotsRun, CheckRun, CompareRun, CountRun, DeskRun,
+    OneChange, PageRun, ServeRun, Task, WhatIfRun,
 };
 use crate::text_source::TextSource;
 use clap::ArgMatches;
@@ -24,9 +24,12 @@ pub(crate) fn asked_by<'a>(matches: &ArgMatches<'a>) -> Asked<'a> {
             keeps_voters: given.get_flag("keep-voters"),
         },
         None => Asked {
-            task: Task::Count(Ballots {
-                file: TextSource::Input,
-                journal: None,
+            task: Task::Count(CountRun {
+                ballots: Ballots {
+                    file: TextSource::Input,
+                    journal: None,
+                },
+                digests: false,
             }),
             rule: Rule {
                 options: CountOptions::standard(),
@@ -53,7 +56,10 @@ fn task_of<'a>(name: &str, given: &ArgMatches<'a>) -> Task<'a> {
 /// What the arguments of a command ask for that counts these ballots; no other command has a task here.
 fn count_of<'a>(name: &str, given: &ArgMatches<'a>, ballots: Ballots<'a>) -> Option<Task<'a>> {
     let task = match name {
-        "count" => Task::Count(ballots),
+        "count" => Task::Count(CountRun {
+            ballots,
+            digests: given.get_flag("digests"),
+        }),
         "projects" => Task::Projects(ballots),
         "voters" => Task::Voters(ballots),
         "compare" => Task::Compare(CompareRun {

@@ -3,8 +3,8 @@
 use crate::argument_group::ArgumentGroup;
 use crate::argument_group::ArgumentGroup::{OfCount, OfResult, Own};
 use crate::arguments::{
-    AGAINST, BY_ID, BY_PROJECT, CLERKS, COMPARE, COST, CURRENCY, DIGESTS, DURABLE, ELECTION,
-    HISTORY, JOURNAL, KEEP_FILE, KEEP_VOTERS, LEAST, LEFT_BY, NO_SHUT, OTHER_FILE, OUTPUT,
+    AGAINST, BY_ID, BY_PROJECT, CLERKS, COMPARE, COST, CURRENCY, DIGEST, DIGESTS, DURABLE,
+    ELECTION, HISTORY, JOURNAL, KEEP_FILE, KEEP_VOTERS, LEAST, LEFT_BY, NO_SHUT, OTHER_FILE, OUTPUT,
     PROGRESS, PROJECT, QUIET, QUIET_BALLOTS, QUIET_DESK, QUIET_SERVE, RECOUNT, REQUIRE_SHUT, ROLL,
     SCRIPT, SERVED, SHUT, STRICT, TITLE, VOTER, VOTERS, WORDS,
 };
@@ -49,7 +49,7 @@ const COUNT: &CommandForm = &CommandForm {
     name: "count",
     notes: "Manual pages: man pb_app-election, man pb_app-report, man pb_app-counting.",
     about: "Counts a .pb file, and prints the report",
-    groups: &[Own(&[ELECTION]), OfCount, OfResult],
+    groups: &[Own(&[ELECTION]), OfCount, Own(&[DIGEST]), OfResult],
 };
 
 /// The command that shows the projects of a count.

@@ -62,6 +62,14 @@ pub struct AuditRun<'a> {
     pub digests: bool,
 }
 
+/// The report of a count.
+#[derive(Clone, Copy)]
+pub struct CountRun<'a> {
+    pub ballots: Ballots<'a>,
+    /// The digests of what was read stand before the report.
+    pub digests: bool,
+}
+
 /// A count beside most votes first.
 #[derive(Clone, Copy)]
 pub struct CompareRun<'a> {
@@ -129,7 +137,7 @@ pub struct WhatIfRun<'a> {
 #[derive(Clone, Copy)]
 pub enum Task<'a> {
     /// The report of a count of a .pb file.
-    Count(Ballots<'a>),
+    Count(CountRun<'a>),
     /// The projects of a count of these ballots: who won and why, who lost and by how much.
     Projects(Ballots<'a>),
     /// The voters of a count of these ballots: who paid.
@@ -159,10 +167,10 @@ impl<'a> Task<'a> {
     pub fn texts(&self) -> (TextSource<'a>, Option<TextSource<'a>>) {
         match *self {
             Task::Check(CheckRun { file, .. }) => (file, None),
-            Task::Count(ballots)
-            | Task::Projects(ballots)
+            Task::Projects(ballots)
             | Task::Voters(ballots)
             | Task::Export(ballots)
+            | Task::Count(CountRun { ballots, .. })
             | Task::Compare(CompareRun { ballots, .. })
             | Task::WhatIf(WhatIfRun { ballots, .. })
             | Task::Page(PageRun { ballots, .. }) => (ballots.file, ballots.journal),
@@ -207,7 +215,9 @@ impl<'a> Task<'a> {
     pub fn shows_digests(&self) -> bool {
         matches!(
             self,
-            Task::Page(_) | Task::Audit(AuditRun { digests: true, .. })
+            Task::Page(_)
+                | Task::Count(CountRun { digests: true, .. })
+                | Task::Audit(AuditRun { digests: true, .. })
         )
     }
 

@@ -15,14 +15,13 @@ use Rattle.pb_read.specs.MetaRows.{meta_of}
 use Rattle.pb_read.specs.Rows.{field, head_of, is_blank, rows_of}
 use Rattle.pb_read.specs.declared.meta.Meta.{Meta}
 use Rattle.pb_export.specs.FileRows.{may_follow}
-use Rattle.pb_export.specs.Inner.Parts.{is_own_key, key_row, key_rows}
-use Rattle.pb_export.specs.Further.{KeyView}
+use Rattle.pb_export.specs.Inner.Parts.{KeyView, is_own_key, key_row, key_rows}
 
 abbrev pub key_fields : KeyView → Fields
-key_fields key = key.name ∷ key.value ∷ []
+key_fields key = key.0 ∷ key.1 ∷ []
 
 abbrev pub follows : KeyView → Bool
-follows key = may_follow (trim key.name)
+follows key = may_follow (trim key.0)
 
 -- a row of META that says nothing of an election, and is no section's head
 pub record IsAside (row : Fields) : Type 0 where
@@ -40,7 +39,7 @@ none_found (Some name) none = cc none
 aside : (k : KeyView) → follows k ≡ true → IsAside (trimmed (key_fields k))
 unfolding head_of
 aside k is =
-    let name = trim k.name in
+    let name = trim k.0 in
     let parts = and_parts (not (is_own_key name)) (not (is_some (head_of (name ∷ [])))) is in
     let own = or_parts (is_some (key_of name)) _ (no_true _ parts.0) in
     record {

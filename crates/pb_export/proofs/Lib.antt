@@ -1,6 +1,7 @@
 -- The lemmas that the proofs of this crate share.
 pub mod Tidy
 pub mod Pieces
+pub mod KeptFields
 pub mod KeysBehind
 pub mod Headers
 pub mod Metas

@@ -17,8 +17,7 @@ use Rattle.pb_read.specs.StandsFor.{IsMeta, meta_for}
 use Rattle.pb_rows.specs.Reading.{Fields}
 use Rattle.pb_read.specs.MetaRows.{meta_of}
 use Rattle.pb_export.specs.FileRows.{amount_text, meta_rows}
-use Rattle.pb_export.specs.Inner.Parts.{key_rows}
-use Rattle.pb_export.specs.Further.{KeyView}
+use Rattle.pb_export.specs.Inner.Parts.{KeyView, key_rows}
 use Rattle.pb_export.proofs.KeysBehind.{asides, heads_of, meta_behind}
 use Rattle.pb_export.proofs.Tidy.{decimal_plain, money_plain, plain_tidy}
 

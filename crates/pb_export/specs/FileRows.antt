@@ -12,7 +12,6 @@ use Rattle.pb_read.specs.MetaKeys.{key_of, key_text}
 use Rattle.pb_read.specs.Rows.{head_of, is_word}
 use Rattle.pb_read.specs.declared.meta_key.MetaKey.TheVariants.{Budget, VoteType, MaxLength}
 use Rattle.pb_rows.specs.Reading.{Fields}
-use Rattle.pb_export.specs.Further.{KeyView}
 use Rattle.pb_export.specs.declared.further.Further.{Further}
 
 -- an amount; a whole one has no decimals
@@ -28,8 +27,8 @@ may_follow name =
     && not (is_some (head_of (name ∷ [])))
 
 -- META: the keys that readers take, one of them where there is a limit on a ballot's length; the rule by its
--- word, and in words as a comment; and the further keys that may follow
-abbrev pub meta_rows : ElectionView → (rule comment : List ℕ) → List KeyView → List Fields
+-- word, and in words as a comment; and the further keys that may follow, each a name and a value
+abbrev pub meta_rows : ElectionView → (rule comment : List ℕ) → (keys : List (List ℕ × List ℕ)) → List Fields
 meta_rows e rule comment keys =
     ((codes "META" ∷ []) ∷ (codes "key" ∷ codes "value" ∷ []) ∷ (key_text Budget ∷ amount_text e.budget ∷ [])
     ∷ (key_text VoteType ∷ codes "approval" ∷ [])
@@ -37,7 +36,7 @@ meta_rows e rule comment keys =
     ++ (codes "num_projects" ∷ decimal (length e.projects) ∷ [])
     ∷ (codes "num_votes" ∷ decimal (length e.voters) ∷ []) ∷ (codes "rule" ∷ rule ∷ [])
     ∷ (codes "comment" ∷ comment ∷ [])
-    ∷ map (λ key. key.name ∷ key.value ∷ []) (filter (λ key. may_follow (trim key.name)) keys)
+    ∷ map (λ key. key.0 ∷ key.1 ∷ []) (filter (λ key. may_follow (trim key.0)) keys)
 
 -- the fields of a row, if there is one, below further columns of these names; one that it lacks is empty
 abbrev pub below : Fields → Option Fields → Fields

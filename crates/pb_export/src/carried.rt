@@ -1,6 +1,10 @@
 //! Who looks on while a .pb file is read, and keeps what the count does not use.
 
-ghost use Rattle.std.specs.Prelude.{◌≡◌, IfOk};
+ghost use Rattle.std.specs.Prelude.{◌≡◌, IfOk, OnOk};
+ghost use Rattle.std.specs.Str.{IsUtf8, trim};
+ghost use Rattle.csv.specs.Records.{AllText, fields_of};
+ghost use Rattle.pb_read.specs.Rows.{field};
+ghost use Rattle.pb_export.specs.Inner.Carried.{texts_at, with_project};
 
 use crate::further::Further;
 use crate::further_keys::FurtherKey;
@@ -135,8 +139,12 @@ impl Carried {
         }
     }
 
-    /// Takes a record of this part.
-    fn keep(&mut self, record: &ByteRecord, part: Part) -> Result<(), NoMemory> {
+    /// Takes a record of this part, which is text.
+    fn keep(&mut self, record: &ByteRecord, part: Part) -> Result<(), NoMemory>
+        ensures { AllText (fields_of record.now) → OnOk result (self.new.further.projects.items
+            ≡ with_project part self.old.further.projects.items
+            (texts_at (fields_of record.now) self.old.of_projects.items)) }
+    {
         match part {
             Part::Other | Part::Head(_) => Ok(()),
             Part::Names(section) => self.keep_names(record, section),
@@ -151,7 +159,9 @@ impl Carried {
     }
 
     /// Takes the row of column names of this section.
-    fn keep_names(&mut self, record: &ByteRecord, section: Section) -> Result<(), NoMemory> {
+    fn keep_names(&mut self, record: &ByteRecord, section: Section) -> Result<(), NoMemory>
+        ensures { self.new.further.projects.items ≡ self.old.further.projects.items }
+    {
         match section {
             Section::Meta => Ok(()),
             Section::Projects => {
@@ -173,7 +183,9 @@ impl Carried {
     }
 
     /// Takes a row of META. Of a repeated key the last value counts.
-    fn keep_key(&mut self, record: &ByteRecord) -> Result<(), NoMemory> {
+    fn keep_key(&mut self, record: &ByteRecord) -> Result<(), NoMemory>
+        ensures { self.new.further.projects.items ≡ self.old.further.projects.items }
+    {
         let (name, value) = (text_at(record, 0), text_at(record, 1));
         if name.eq_ignore_ascii_case("comment") {
             let comment = String::from_str(self.alloc, value)?;
@@ -202,7 +214,9 @@ impl Carried {
     }
 
     /// Takes a row of VOTES.
-    fn keep_voter(&mut self, record: &ByteRecord, columns: VoteColumns) -> Result<(), NoMemory> {
+    fn keep_voter(&mut self, record: &ByteRecord, columns: VoteColumns) -> Result<(), NoMemory>
+        ensures { self.new.further.projects.items ≡ self.old.further.projects.items }
+    {
         if self.of_votes.is_empty() {
             return Ok(());
         }
@@ -251,11 +265,14 @@ fn new_places(
 }
 
 /// The fields of a record at these places, which rise: as many of them as the record has.
-fn fields_at(alloc: Global, record: &ByteRecord, places: &[usize]) -> Result<TextRow, NoMemory> {
+fn fields_at(alloc: Global, record: &ByteRecord, places: &[usize]) -> Result<TextRow, NoMemory>
+    ensures { AllText (fields_of record.now)
+        → IfOk result (λ row. row ≡ texts_at (fields_of record.now) places.now) }
+{
     let mut fields = TextRow::new(alloc);
     for place in places {
         if *place >= record.len() {
-            break;
+            return Ok(fields);
         }
         fields.push(alloc, text_at(record, *place))?;
     }
@@ -263,13 +280,22 @@ fn fields_at(alloc: Global, record: &ByteRecord, places: &[usize]) -> Result<Tex
 }
 
 /// The text of a field without the white space at its ends; the empty text where the record ends before it.
-fn text_at(record: &ByteRecord, place: usize) -> &str {
-    let bytes: &[u8] = match record.get(place) {
-        Some(field) => field,
-        None => b"",
-    };
-    match str::from_utf8(bytes) {
+fn text_at(record: &ByteRecord, place: usize) -> &str
+    ensures { IsUtf8 (field (fields_of record.now) place)
+        → result.now ≡ trim (field (fields_of record.now) place) }
+{
+    match str::from_utf8(bytes_at(record, place)) {
         Ok(text) => text.trim(),
         Err(_) => "",
+    }
+}
+
+/// The bytes of a field; none where the record ends before it.
+fn bytes_at(record: &ByteRecord, place: usize) -> &[u8]
+    ensures { result.now ≡ field (fields_of record.now) place }
+{
+    match record.get(place) {
+        Some(field) => field,
+        None => b"",
     }
 }

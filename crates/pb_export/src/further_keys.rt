@@ -10,7 +10,7 @@ use std::mem;
 /// The most further keys of META that are kept.
 const MOST_KEYS: usize = 900_000;
 
-/// A further key of META, and its value.
+/// A further key of META. A contract sees its name and its value.
 #[derive(Drop)]
 pub struct FurtherKey {
     pub name: String,
@@ -18,12 +18,11 @@ pub struct FurtherKey {
 }
 
 impl Model for FurtherKey {
-    ghost use Rattle.std.specs.Prelude.{string_bytes};
-    ghost use Rattle.pb_export.specs.Further.{KeyView};
+    ghost use Rattle.std.specs.Prelude.{ℕ, List, string_bytes};
 
-    ghost Value = { KeyView };
+    ghost Value = { List ℕ × List ℕ };
 
-    ghost view = { λ key. record { name = string_bytes key.name; value = string_bytes key.value } };
+    ghost view = { λ key. (string_bytes key.name, string_bytes key.value) };
 }
 
 /// Further keys of META, in their order: 900,000 at most.
@@ -33,10 +32,9 @@ pub struct FurtherKeys {
 }
 
 impl Model for FurtherKeys {
-    ghost use Rattle.std.specs.Prelude.{◌≤◌, List, length};
-    ghost use Rattle.pb_export.specs.Further.{KeyView};
+    ghost use Rattle.std.specs.Prelude.{◌≤◌, ℕ, List, length};
 
-    ghost Value = { List KeyView };
+    ghost Value = { List (List ℕ × List ℕ) };
 
     ghost view = { λ k. k.keys.items };
 

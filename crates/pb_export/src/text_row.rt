@@ -1,6 +1,6 @@
 //! The fields of a row, as texts.
 
-ghost use Rattle.std.specs.Prelude.{◌≡◌, [], map, string_bytes};
+ghost use Rattle.std.specs.Prelude.{◌≡◌, ◌∷◌, ◌++◌, [], map, string_bytes, OnOk};
 
 use pb_core::no_memory::NoMemory;
 use std::alloc::Global;
@@ -39,7 +39,9 @@ impl TextRow {
     }
 
     /// Puts this field behind the others.
-    pub(crate) fn push(&mut self, alloc: Global, text: &str) -> Result<(), NoMemory> {
+    pub(crate) fn push(&mut self, alloc: Global, text: &str) -> Result<(), NoMemory>
+        ensures { OnOk result (self.new ≡ self.old ++ text.now ∷ []) }
+    {
         let text = String::from_str(alloc, text)?;
         self.texts.push(text)?;
         Ok(())

@@ -6,7 +6,7 @@ use Rattle.pb_core.specs.Election.{ElectionView, ProjectView, VoterView, most_vo
 use Rattle.pb_core.specs.Money.{largest_money}
 use Rattle.pb_price.specs.Supporters.{cost_at, support_of}
 use Rattle.pb_rounds.specs.declared.count_fault.CountFault.{CountFault}
-use Rattle.pb_reasons.specs.WhatIf.{AreDoubled, IsFound, IsWhatIf, Says, Seen, seen}
+use Rattle.pb_reasons.specs.WhatIf.{IsFound, IsWhatIf, NoneWins, Says, Seen, seen}
 use Rattle.pb_reasons.specs.declared.changes.change.Change.TheVariants.{Cost, Voters}
 use Rattle.pb_reasons.specs.declared.changes.change.Verdict.TheVariants.{Lost, Won}
 use Rattle.pb_reasons.specs.declared.changes.found.WhatIf.{WhatIf}
@@ -30,7 +30,7 @@ won_found e q s cost own (Ok w) read is says costs voters =
 pub lost_found : (e : ElectionView) (q : Question) (s : Seen) (cost own : ℕ) (r : Result WhatIf CountFault) → s ≡ seen e → cost ≡ own → Says e q Lost
     → IfOk r (λ w. IsFound s q Cost 1 cost w.cost.first w.cost.second)
     → IfOk r (λ w. IsFound s q Voters 0 (min (length s.ballots) (most_voters - length s.ballots)) w.voters.first w.voters.second)
-    → IfOk r (λ w. AreDoubled s q w.voters.first w.voters.second) → IfOk r (IsWhatIf e q own)
+    → IfOk r (λ w. NoneWins s q w.voters.second.value) → IfOk r (IsWhatIf e q own)
 lost_found e q s cost own (Err fault) read is says costs voters doubled = tt
 lost_found e q s cost own (Ok w) read is says costs voters doubled =
     inr (
@@ -39,5 +39,5 @@ lost_found e q s cost own (Ok w) read is says costs voters doubled =
           (subst (λ (t : Seen). IsFound t q Cost 1 cost w.cost.first w.cost.second) read costs),
       subst (λ (n : ℕ). IsFound (seen e) q Voters 0 (min n (most_voters - n)) w.voters.first w.voters.second) (length-map e.voters (λ (v : VoterView). v.ballot))
           (subst (λ (t : Seen). IsFound t q Voters 0 (min (length t.ballots) (most_voters - length t.ballots)) w.voters.first w.voters.second) read voters),
-      subst (λ (t : Seen). AreDoubled t q w.voters.first w.voters.second) read doubled,
+      subst (λ (t : Seen). NoneWins t q w.voters.second.value) read doubled,
     )

@@ -4,30 +4,14 @@ use Rattle.pb_core.specs.Election.{ElectionView, IsElection, ProjectView}
 use Rattle.pb_rounds.specs.Counted.{IsCountFault}
 use Rattle.pb_rounds.specs.declared.count_fault.CountFault.{CountFault}
 use Rattle.pb_rounds.specs.declared.count_fault.CountFault.TheVariants.{WorkerCount, StepRange, RaisesRange, RaisesSpent, NoMemory}
-use Rattle.pb_reasons.specs.WhatIf.{CanBe, IsFound, IsTrue, Says, Seen}
-use Rattle.pb_reasons.specs.Inner.Searching.{AreEnds, AreNear, AreOpposed, HasWon, IsSaid, IsStop, wins}
+use Rattle.pb_reasons.specs.WhatIf.{CanBe, IsFound, IsTrue, Says, Seen, wins}
+use Rattle.pb_reasons.specs.Inner.Searching.{AreEnds, AreNear, AreOpposed, HasWon, IsSaid, IsStop}
 use Rattle.pb_reasons.specs.declared.changes.change.Change.{Change}
 use Rattle.pb_reasons.specs.declared.changes.change.Change.TheVariants.{Cost, Voters}
 use Rattle.pb_reasons.specs.declared.changes.change.Row.{Row}
-use Rattle.pb_reasons.specs.declared.changes.change.Verdict.{Verdict}
-use Rattle.pb_reasons.specs.declared.changes.change.Verdict.TheVariants.{Lost, Won, Refused}
+use Rattle.pb_reasons.specs.declared.changes.change.Verdict.TheVariants.{Lost, Won}
 use Rattle.pb_reasons.specs.declared.changes.question.Question.{Question}
 use Rattle.pb_reasons.proofs.Changed.{known}
-
-lost_refused : Lost ≢ Refused
-lost_refused same = cc
-
--- verdicts that are alike, and yet not the same: one is refused
-alike_apart : (x y : Verdict) → wins x ≡ wins y → x ≢ y → x ≢ Refused → y ≢ Refused → ⊥
-alike_apart Won Won alike apart x y = apart refl
-alike_apart Won Lost alike apart x y = cc
-alike_apart Won Refused alike apart x y = y refl
-alike_apart Lost Won alike apart x y = cc
-alike_apart Lost Lost alike apart x y = apart refl
-alike_apart Lost Refused alike apart x y = y refl
-alike_apart Refused Won alike apart x y = x refl
-alike_apart Refused Lost alike apart x y = x refl
-alike_apart Refused Refused alike apart x y = apart refl
 
 -- a value between two that a change can have
 pub can_be_between : (s : Seen) (change : Change) (low value high : ℕ) → CanBe s change low → CanBe s change high → low ≤ value → value ≤ high
@@ -76,9 +60,8 @@ found_near s q change low from to high a b are below above =
     record {
       first_is = o.ends.low_is;
       second_is = o.ends.high_is;
-      agree = λ same. absurd (o.one_wins (ap wins same));
-      differ = λ apart. (omega (arith, below, o.from), o.ends.ordered, omega (arith, o.to, above));
-      step = λ apart first second. omega (arith, are.near first second, o.ends.ordered);
+      agree = λ same. absurd (o.one_wins same);
+      differ = λ apart. (omega (arith, below, o.from), omega (arith, are.near, o.ends.ordered), omega (arith, o.to, above));
     }
 
 -- the ends of a range, which are alike
@@ -88,30 +71,17 @@ found_ends s q change a b ends alike = record {
   first_is = ends.low_is;
   second_is = ends.high_is;
   agree = λ same. (refl, refl);
-  differ = λ apart. (omega arith, ends.ordered, omega arith);
-  step = λ apart first second. absurd (alike_apart a.verdict b.verdict alike apart first second);
+  differ = λ apart. absurd (apart alike);
 }
 
--- two rows that say the same, at both ends of a range, also of one value
+-- two rows of which both win, or neither does, at both ends of a range, also of one value
 pub found_same : (s : Seen) (q : Question) (change : Change) (low high : ℕ) (a b : Row) → IsTrue s q change a → IsTrue s q change b → a.value ≡ low
-    → b.value ≡ high → a.verdict ≡ b.verdict → IsFound s q change low high a b
+    → b.value ≡ high → wins a.verdict ≡ wins b.verdict → IsFound s q change low high a b
 found_same s q change low high a b a_is b_is a_at b_at same = record {
   first_is = a_is;
   second_is = b_is;
   agree = λ alike. (a_at, b_at);
   differ = λ apart. absurd (apart same);
-  step = λ apart first second. absurd (apart same);
-}
-
--- a row that loses, and one that is refused
-pub found_refused : (s : Seen) (q : Question) (change : Change) (low high : ℕ) (a b : Row) → IsTrue s q change a → IsTrue s q change b → low ≤ a.value
-    → a.value < b.value → b.value ≤ high → a.verdict ≡ Lost → b.verdict ≡ Refused → IsFound s q change low high a b
-found_refused s q change low high a b a_is b_is from ordered to lost refused = record {
-  first_is = a_is;
-  second_is = b_is;
-  agree = λ same. absurd (lost_refused (sym lost ∙ same ∙ refused));
-  differ = λ apart. (from, ordered, to);
-  step = λ apart first second. absurd (second refused);
 }
 
 -- a count's fault ends a search, but for raises that are spent; and what ends one is a count's fault

@@ -1,6 +1,6 @@
 -- What the counts of a changed election say of a project, and what a search of such changes finds.
-use Rattle.std.specs.Prelude.{◌≡◌, ◌≢◌, ℕ, ◌+◌, ◌-◌, ◌*◌, ◌^◌, ◌<◌, ◌≤◌, ◌⊎◌, List, [], ◌∷◌, ◌++◌, if◌then◌else◌}
-use Rattle.std.specs.Prelude.{length, map, max, min, replicate, slice_set}
+use Rattle.std.specs.Prelude.{◌≡◌, ◌≢◌, ℕ, ◌+◌, ◌-◌, ◌*◌, ◌^◌, ◌<◌, ◌≤◌, ◌⊎◌, Bool, true, false, List, [], ◌∷◌, ◌++◌, if◌then◌else◌}
+use Rattle.std.specs.Prelude.{length, map, min, replicate, slice_set}
 use Rattle.pb_core.specs.Election.{ElectionView, IsElection, most_voters}
 use Rattle.pb_core.specs.Money.{largest_money}
 use Rattle.pb_reasons.specs.Counted.{counted, is_selected}
@@ -45,27 +45,32 @@ unfoldable pub IsTrue : Seen → Question → Change → Row → Type 0
 IsTrue s q change row =
     (e : ElectionView) × IsElection e × (seen e ≡ changed change q.place row.value s) × Says e q row.verdict
 
--- What a search of a change from one value to another finds: two true rows, which say the same at its two
--- ends, or of which one wins and one loses, one step apart, or one is refused.
+-- whether a verdict is that the project wins
+abbrev pub wins : Verdict → Bool
+wins Won = true
+wins Lost = false
+wins Refused = false
+
+-- What a search of a change from one value to another finds: two true rows. If both win, or neither wins, they
+-- are its two ends; if one wins and the other does not, they are one step apart.
 pub record IsFound (s : Seen) (q : Question) (change : Change) (low high : ℕ) (a b : Row) : Type 0 where
   pub first_is : IsTrue s q change a
   pub second_is : IsTrue s q change b
-  pub agree : a.verdict ≡ b.verdict → (a.value ≡ low) × (b.value ≡ high)
-  pub differ : a.verdict ≢ b.verdict → (low ≤ a.value) × (a.value < b.value) × (b.value ≤ high)
-  pub step : a.verdict ≢ b.verdict → a.verdict ≢ Refused → b.verdict ≢ Refused → b.value ≡ a.value + 1
+  pub agree : wins a.verdict ≡ wins b.verdict → (a.value ≡ low) × (b.value ≡ high)
+  pub differ : wins a.verdict ≢ wins b.verdict → (low ≤ a.value) × (b.value ≡ a.value + 1) × (b.value ≤ high)
 
--- with 1, 2, 4, 8 and so on further voters, below the second row, the project loses; and unless it loses there
--- too, that is at most twice the first row, or 1
-pub record AreDoubled (s : Seen) (q : Question) (a b : Row) : Type 0 where
-  pub lose : (k : ℕ) → 2 ^ k < b.value → IsTrue s q Voters (record { value = 2 ^ k; verdict = Lost })
-  pub near : b.verdict ≢ Lost → b.value ≤ max (2 * a.value) 1
+-- with 1, 2, 4, 8 and so on further voters, below this number, the project loses, or the count is refused
+abbrev pub NoneWins : Seen → Question → ℕ → Type 0
+NoneWins s q value = (k : ℕ) → 2 ^ k < value
+    → (v : Verdict) × (wins v ≡ false) × IsTrue s q Voters (record { value = 2 ^ k; verdict = v })
 
--- What is found for a project of this cost: for a winner a higher cost, up to ten times it, and for a loser a
--- lower one, or further voters, up to as many again; with 1, 2, 4 and so on up to there it loses.
+-- What is found for a project of this cost: for a winner, costs from its own to ten times that, at most the
+-- largest, and no further voters; for a loser, costs from 0.01 to its own, and further voters from none to as many
+-- as there are, fewer if there would be more than 1,000,000, found by doubling.
 abbrev pub IsWhatIf : ElectionView → Question → (cost : ℕ) → WhatIf → Type 0
 IsWhatIf e q cost w =
     Says e q Won × IsFound (seen e) q Cost cost (min (10 * cost) largest_money) w.cost.first w.cost.second
     × IsFound (seen e) q Voters 0 0 w.voters.first w.voters.second
     ⊎ Says e q Lost × IsFound (seen e) q Cost 1 cost w.cost.first w.cost.second × IsFound (seen e) q Voters 0
     (min (length e.voters) (most_voters - length e.voters)) w.voters.first w.voters.second
-    × AreDoubled (seen e) q w.voters.first w.voters.second
+    × NoneWins (seen e) q w.voters.second.value

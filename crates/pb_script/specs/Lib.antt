@@ -4,7 +4,6 @@ pub mod Admission
 pub mod Scripts
 pub mod ScriptFault
 pub mod ScriptReading
-pub mod RequestRows
 pub mod RowsView
 pub mod Serving
 pub mod Served

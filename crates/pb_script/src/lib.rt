@@ -17,8 +17,9 @@ pub mod serve_script;
 
 pub use admission::{Admission, NoNotice, Notice, RowRefusal};
 pub use file_voters::voters_of;
-pub use request_rows::{RequestRow, RequestRows, RowsFault};
+pub use request_rows::{RequestRows, RowsFault};
 pub use roll::{RollFault, read_roll};
+pub use script::ScriptRow;
 pub use script_fault::ScriptFault;
 pub use script_run::ScriptRun;
 pub use serve_fault::ServeFault;

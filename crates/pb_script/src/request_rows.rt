@@ -4,14 +4,14 @@ ghost use Rattle.std.specs.Prelude.{◌≡◌, [], None, option_map, true, IfOk,
 ghost use Rattle.std.specs.Prelude.{OnErr, OnOk};
 ghost use Rattle.csv.specs.Records.{AllText, fields_of};
 ghost use Rattle.pb_rows.specs.Reading.{records_of, Fields, IsNext};
-ghost use Rattle.pb_script.specs.RequestRows.{IsRequestRow};
+ghost use Rattle.pb_desk.specs.Replay.{most_clerks};
+ghost use Rattle.pb_script.specs.Admission.{Judges};
 ghost use Rattle.pb_script.specs.RowsView.{HasFailed, HasGiven};
 
 use crate::admission::{Admission, Notice, RowRefusal};
-use crate::script::read_row;
+use crate::script::{ScriptRow, read_row};
 use csv::{ByteRecord, StringRecord};
 use pb_core::no_memory::NoMemory;
-use pb_core::request::Request;
 use pb_desk::desk::MOST_CLERKS;
 use pb_rows::{Records, RecordsFault};
 use std::alloc::Global;
@@ -19,15 +19,6 @@ use std::io::Read;
 use std::marker::Model;
 use std::mem;
 use thiserror::Error;
-
-/// A row of requests.
-#[derive(Drop)]
-pub enum RequestRow {
-    /// This clerk, below 64, asks this.
-    Asks(u32, Request),
-    /// The row is refused for this.
-    Refused(RowRefusal),
-}
 
 /// Why there is no next row.
 #[derive(Clone, Copy, Debug, PartialEq, Eq, Error)]
@@ -91,7 +82,7 @@ fn text_of(alloc: Global, raw: &mut ByteRecord) -> Option<StringRecord>
     }
 }
 
-/// What this row, which is text, asks, or why it is refused. Who hears of that is told the row's number, from
+/// What this row, which is text, says, or why it is refused. Who hears of that is told the row's number, from
 /// 1.
 fn judge<N: Notice>(
     alloc: Global,
@@ -99,16 +90,16 @@ fn judge<N: Notice>(
     places: &mut Vec<u32>,
     admission: &Admission,
     told: (u64, &N),
-) -> Result<RequestRow, NoMemory>
+) -> Result<Result<ScriptRow, RowRefusal>, NoMemory>
     requires { AllText (fields_of row.now) }
-    ensures { IfOk result (IsRequestRow admission.now (fields_of row.now)) }
+    ensures { IfOk result (Judges admission.now most_clerks (fields_of row.now)) }
 {
     match read_row(alloc, row, places, MOST_CLERKS, admission)? {
-        Ok(said) => Ok(RequestRow::Asks(said.clerk, said.request)),
+        Ok(said) => Ok(Ok(said)),
         Err(why) => {
             let (number, notice) = told;
             notice.refused(number, why, admission.unknown_in(row, places));
-            Ok(RequestRow::Refused(why))
+            Ok(Err(why))
         }
     }
 }
@@ -128,16 +119,16 @@ impl<R: Read> RequestRows<R> {
         }
     }
 
-    /// The next row, if there is one. Stop at the first fault: no row is given with it.
+    /// What the next row says, or why it is refused, if there is one. Stop at the first fault: no row is given with it.
     pub fn next<N: Notice>(
         &mut self,
         alloc: Global,
         admission: &Admission,
         notice: &N,
-    ) -> Result<Option<RequestRow>, RowsFault>
+    ) -> Result<Option<Result<ScriptRow, RowRefusal>>, RowsFault>
         ensures next { IfOk result (λ next. MatchOption next (IfSome self.old.left (λ left. left ≡ []))
             (λ row. (fields : Fields) × IsNext self.old.left self.new.left true fields
-            × IsRequestRow admission.now fields row)) }
+            × Judges admission.now most_clerks fields row)) }
         ensures given { IfOk result (λ next. MatchOption next (self.new.count ≡ self.old.count)
             (λ _. HasGiven self.old self.new 1)) }
         ensures none_given { OnErr result (self.new.count ≡ self.old.count) }
@@ -158,7 +149,7 @@ impl<R: Read> RequestRows<R> {
             self.count = count;
             // A field is no text.
             notice.refused(count, RowRefusal::Bad, "");
-            return Ok(Some(RequestRow::Refused(RowRefusal::Bad)));
+            return Ok(Some(Err(RowRefusal::Bad)));
         };
         let judged = judge(alloc, &row, &mut self.places, admission, (count, notice));
         // The next row is read into the same memory.

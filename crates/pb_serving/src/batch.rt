@@ -7,7 +7,7 @@ ghost use Rattle.pb_serving.specs.Inner.Batch.{refused, IsBatch, IsNextAsk};
 use crate::rows_at_hand::RowsAtHand;
 use crate::session::Session;
 use pb_durable::ClerkRequest;
-use pb_script::{Admission, Notice, RequestRow, RequestRows, RowRefusal, RowsFault};
+use pb_script::{Admission, Notice, RequestRows, RowRefusal, RowsFault, ScriptRow};
 use std::alloc::Global;
 use std::io::Read;
 
@@ -72,8 +72,8 @@ fn next_ask<R: Read, N: Notice>(
     ensures { IsNextAsk admission.now rows.old rows.new result }
 {
     match rows.next(alloc, admission, notice) {
-        Ok(Some(RequestRow::Asks(clerk, request))) => Ok(ClerkRequest { clerk, request }),
-        Ok(Some(RequestRow::Refused(why))) => Err(BatchEnd::Refused(why)),
+        Ok(Some(Ok(ScriptRow { clerk, request }))) => Ok(ClerkRequest { clerk, request }),
+        Ok(Some(Err(why))) => Err(BatchEnd::Refused(why)),
         Ok(None) => Err(BatchEnd::Over),
         Err(RowsFault::ReadFailed) => Err(BatchEnd::ReadFailed),
         Err(RowsFault::NoMemory) => Err(BatchEnd::NoMemory),

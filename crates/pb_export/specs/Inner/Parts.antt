@@ -7,11 +7,14 @@ use Rattle.std.specs.Str.{bytes_eq, trim}
 use Rattle.pb_core.specs.Election.{ProjectView, VoterView, most_projects}
 use Rattle.pb_core.specs.declared.terms.Terms.{Terms}
 use Rattle.pb_export.specs.FileRows.{amount_text, may_follow}
-use Rattle.pb_export.specs.Further.{KeyView}
 use Rattle.pb_read.specs.MetaKeys.{key_of, key_text}
 use Rattle.pb_read.specs.Rows.{head_of, is_word}
 use Rattle.pb_read.specs.declared.meta_key.MetaKey.TheVariants.{Budget, VoteType, MaxLength}
 use Rattle.pb_rows.specs.Reading.{Fields}
+
+-- a further key: its name, and its value
+abbrev pub KeyView : Type 0
+KeyView = List ℕ × List ℕ
 
 -- an id has a comma
 abbrev pub has_comma : List ℕ → Bool
@@ -26,7 +29,7 @@ is_own_key name =
 
 -- the rows of further keys
 abbrev pub key_rows : List KeyView → List Fields
-key_rows keys = map (λ key. key.name ∷ key.value ∷ []) (filter (λ key. may_follow (trim key.name)) keys)
+key_rows keys = map (λ key. key.0 ∷ key.1 ∷ []) (filter (λ key. may_follow (trim key.0)) keys)
 
 -- the rows of the keys that readers take
 abbrev pub terms_rows : Terms → List Fields
@@ -75,4 +78,4 @@ vote_row ids of_voter v = v.id ∷ vote_text ids v.ballot ∷ of_voter v.id
 
 -- the row of a further key, if it may follow
 abbrev pub key_row : KeyView → List Fields
-key_row key = if may_follow (trim key.name) then (key.name ∷ key.value ∷ []) ∷ [] else []
+key_row key = if may_follow (trim key.0) then (key.0 ∷ key.1 ∷ []) ∷ [] else []

@@ -8,12 +8,12 @@ use Rattle.pb_rounds.specs.Outcome.{OutcomeView}
 use Rattle.pb_rounds.specs.declared.count_fault.CountFault.{CountFault}
 use Rattle.pb_rounds.specs.declared.count_fault.CountFault.TheVariants.{NoMemory, RaisesSpent}
 use Rattle.pb_reasons.specs.Inner.Numbered.{AreNumbered}
-use Rattle.pb_reasons.specs.WhatIf.{CanBe, IsTrue, Says, Seen, changed, seen}
+use Rattle.pb_reasons.specs.WhatIf.{CanBe, IsTrue, Says, Seen, changed, seen, wins}
 use Rattle.pb_reasons.specs.declared.changes.change.Change.{Change}
 use Rattle.pb_reasons.specs.declared.changes.change.Change.TheVariants.{Cost, Voters}
 use Rattle.pb_reasons.specs.declared.changes.change.Row.{Row}
 use Rattle.pb_reasons.specs.declared.changes.change.Verdict.{Verdict}
-use Rattle.pb_reasons.specs.declared.changes.change.Verdict.TheVariants.{Lost, Won, Refused}
+use Rattle.pb_reasons.specs.declared.changes.change.Verdict.TheVariants.{Lost, Won}
 use Rattle.pb_reasons.specs.declared.changes.question.Question.{Question}
 
 -- whether the count of an election elects or adds the project that is asked about
@@ -36,12 +36,6 @@ pub record IsStop (q : Question) (fault : CountFault) : Type 0 where
   pub out_of_range : fault ≢ NoMemory → refusal_of q.rule.options ≡ Some fault
   pub not_spent : fault ≢ RaisesSpent
 
--- whether a verdict is that the project wins
-abbrev pub wins : Verdict → Bool
-wins Won = true
-wins Lost = false
-wins Refused = false
-
 -- two true rows of one change, the smaller value first
 pub record AreEnds (s : Seen) (q : Question) (change : Change) (low high : Row) : Type 0 where
   pub low_is : IsTrue s q change low
@@ -57,10 +51,10 @@ pub record AreOpposed (s : Seen) (q : Question) (change : Change) (least most : 
   pub from : least ≤ low.value
   pub to : high.value ≤ most
 
--- the same, one step apart where neither is refused
+-- the same, one step apart
 pub record AreNear (s : Seen) (q : Question) (change : Change) (least most : ℕ) (a b : Row) : Type 0 where
   pub opposed : AreOpposed s q change least most a b
-  pub near : a.verdict ≢ Refused → b.verdict ≢ Refused → b.value ≤ a.value + 1
+  pub near : b.value ≤ a.value + 1
 
 -- what is known of the election as it is, and of its project with its own cost
 pub record AreKnown (s : Seen) (q : Question) (cost : ℕ) (verdict : Verdict) : Type 0 where

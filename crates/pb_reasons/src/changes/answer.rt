@@ -9,7 +9,7 @@ ghost use Rattle.pb_rounds.specs.Counted.{IsCountFault};
 ghost use Rattle.pb_rounds.specs.declared.count_fault.CountFault.TheVariants.{NoMemory};
 ghost use Rattle.pb_reasons.specs.declared.changes.change.Change.TheVariants.{Cost, Voters};
 ghost use Rattle.pb_reasons.specs.declared.changes.change.Verdict.TheVariants.{Lost, Won};
-ghost use Rattle.pb_reasons.specs.WhatIf.{AreDoubled, CanBe, IsFound, IsTrue, IsWhatIf, seen};
+ghost use Rattle.pb_reasons.specs.WhatIf.{CanBe, IsFound, IsTrue, IsWhatIf, NoneWins, seen};
 ghost use Rattle.pb_reasons.specs.Inner.Searching.{AreKnown, IsSaid, IsStop};
 
 use crate::changes::change::{Change, Row, Verdict};
@@ -28,8 +28,8 @@ use std::thread::Threads;
 /// from its own cost to ten times it, or to the largest cost of a file.
 ///
 /// Each row is of a whole count. Nothing is claimed of changes between the rows, nor beyond them. RaisesSpent
-/// is answered where the election's own count is refused; a changed election whose count is refused has a
-/// row.
+/// is answered where the election's own count is refused; a changed election whose count is refused is taken for
+/// one that the project does not win, and the search goes on past it.
 pub fn what_if<T: Threads + Sync, G: Gate>(
     recount: &Recount<T, G>,
     election: Election,
@@ -152,7 +152,7 @@ fn loser<T: Threads + Sync, G: Gate>(
         (min (length changing.old.ballots) (most_voters - length changing.old.ballots))
         found.voters.first found.voters.second) }
     ensures doubled { IfOk result (λ found.
-        AreDoubled changing.old recount.now.question found.voters.first found.voters.second) }
+        NoneWins changing.old recount.now.question found.voters.second.value) }
     ensures fault { IfErr result (IsStop recount.now.question) }
 {
     let found = cheaper(recount, changing, cost)?;

@@ -3,8 +3,8 @@
 use crate::changes::change::Row;
 
 /// What a search of one kind of change finds: two rows, the smaller value first, or the same one twice where
-/// its range is one value. Of the two one wins and one loses, and they are one step apart; or they are the
-/// ends of the range, and agree; or one of them is of a count that was refused, which ended the search.
+/// its range is one value. If only one of the two wins, they are one step apart; if both win, or neither does, they
+/// are the ends of the range. A count that is refused does not win.
 #[derive(Clone, Copy)]
 pub struct Found {
     pub first: Row,

@@ -3,9 +3,9 @@
 ghost use Rattle.std.specs.Prelude.{◌≡◌, ◌≢◌, ◌+◌, ◌*◌, ◌<◌, ◌≤◌, IfErr, IfOk, false, length, max, min, true};
 ghost use Rattle.pb_core.specs.Election.{most_voters};
 ghost use Rattle.pb_reasons.specs.declared.changes.change.Change.TheVariants.{Voters};
-ghost use Rattle.pb_reasons.specs.declared.changes.change.Verdict.TheVariants.{Lost, Refused};
-ghost use Rattle.pb_reasons.specs.WhatIf.{AreDoubled, CanBe, IsFound, IsTrue};
-ghost use Rattle.pb_reasons.specs.Inner.Searching.{AreEnds, AreNear, IsStop, wins};
+ghost use Rattle.pb_reasons.specs.declared.changes.change.Verdict.TheVariants.{Lost};
+ghost use Rattle.pb_reasons.specs.WhatIf.{CanBe, IsFound, IsTrue, NoneWins, wins};
+ghost use Rattle.pb_reasons.specs.Inner.Searching.{AreEnds, AreNear, IsStop};
 
 use crate::changes::change::{Change, Row, Verdict};
 use crate::changes::changing::Changing;
@@ -39,8 +39,8 @@ pub(crate) fn between<T: Threads + Sync, G: Gate>(
     halved(recount, changing, change, low, high)
 }
 
-/// Halves a range of which one end wins and the other does not, until its ends are one step apart, or one is
-/// refused. The end that wins stays one that wins.
+/// Halves a range of which one end wins and the other does not, until its ends are one step apart. The end that
+/// wins stays one that wins. A count that is refused is taken for one that does not win.
 fn halved<T: Threads + Sync, G: Gate>(
     recount: &Recount<T, G>,
     changing: &mut Changing,
@@ -58,7 +58,7 @@ fn halved<T: Threads + Sync, G: Gate>(
     ensures fault { IfErr result (IsStop recount.now.question) }
 {
     let (mut low, mut high) = (low, high);
-    'halving: while is_open(low, high) {
+    'halving: while low.value + 1 < high.value {
         let row = changing.row(recount, change, middle(low.value, high.value))?;
         if is_alike(low.verdict, row.verdict) {
             low = row;
@@ -73,7 +73,7 @@ fn halved<T: Threads + Sync, G: Gate>(
 }
 
 /// Doubles the number of further voters until the project wins, up to so many, and halves between the last
-/// two numbers. A count that is refused ends the search: its row is found, and the last one that loses.
+/// two numbers. It goes on past a count that is refused.
 pub(crate) fn doubled<T: Threads + Sync, G: Gate>(
     recount: &Recount<T, G>,
     changing: &mut Changing,
@@ -84,8 +84,7 @@ pub(crate) fn doubled<T: Threads + Sync, G: Gate>(
     requires can_be { CanBe changing.old Voters most }
     ensures found { IfOk result (λ found.
         IsFound changing.old recount.now.question Voters 0 most found.first found.second) }
-    ensures doubled { IfOk result (λ found.
-        AreDoubled changing.old recount.now.question found.first found.second) }
+    ensures doubled { IfOk result (λ found. NoneWins changing.old recount.now.question found.second.value) }
     ensures fault { IfErr result (IsStop recount.now.question) }
 {
     let nobody = Row {
@@ -95,16 +94,10 @@ pub(crate) fn doubled<T: Threads + Sync, G: Gate>(
     let mut last = nobody;
     'doubling: while last.value < most {
         let row = changing.row(recount, Change::Voters, next_value(last.value, most))?;
-        match row.verdict {
-            Verdict::Won => return halved(recount, changing, Change::Voters, last, row),
-            Verdict::Refused => {
-                return Ok(Found {
-                    first: last,
-                    second: row,
-                });
-            }
-            Verdict::Lost => last = row,
+        if is_won(row.verdict) {
+            return halved(recount, changing, Change::Voters, last, row);
         }
+        last = row;
     }
     Ok(Found {
         first: nobody,
@@ -130,26 +123,6 @@ fn is_won(verdict: Verdict) -> bool
     match verdict {
         Verdict::Won => true,
         _ => false,
-    }
-}
-
-/// Whether there are values between two rows, of which neither is refused.
-fn is_open(low: Row, high: Row) -> bool
-    requires ordered { low.value < high.value }
-    ensures open { result ≡ true → low.value + 1 < high.value }
-    ensures shut { result ≡ false → low.verdict ≢ Refused → high.verdict ≢ Refused → high.value
-        ≤ low.value + 1 }
-{
-    low.value + 1 < high.value && is_counted(low.verdict) && is_counted(high.verdict)
-}
-
-/// Whether a count is not refused.
-fn is_counted(verdict: Verdict) -> bool
-    ensures refused { result ≡ false → verdict ≡ Refused }
-{
-    match verdict {
-        Verdict::Refused => false,
-        _ => true,
     }
 }
 

@@ -1,8 +1,6 @@
-use Rattle.std.proofs.Common.{◌≡◌, ◌∙◌, ◌*◌, max, subst, sym, arith, rules}
-use Rattle.pb_reasons.specs.WhatIf.{IsTrue, Seen}
-use Rattle.pb_reasons.specs.declared.changes.change.Change.TheVariants.{Voters}
-use Rattle.pb_reasons.specs.declared.changes.change.Verdict.{Verdict}
-use Rattle.pb_reasons.proofs.Doubling.{IsGap, Loses, gap_next, loses_next}
+use Rattle.std.proofs.Common.{◌≡◌, ◌∙◌, ◌*◌, max, subst, sym, false, arith, rules}
+use Rattle.pb_reasons.specs.WhatIf.{Seen, wins}
+use Rattle.pb_reasons.proofs.Doubling.{Fails, IsGap, Loses, gap_next, loses_next}
 use Rattle.pb_reasons.proofs.changes.search.doubled.Goals as goal
 
 pub doubling-preserved : goal.doubling-preserved
@@ -12,12 +10,13 @@ doubling-preserved g c =
     let row = c.in_ok-row.row in
     let last = c.doubling.last.value in
     let value_is = c.in_ok-row.ensures.value ∙ c.next_value.ensures.doubled in
-    let here = subst (λ (v : Verdict). IsTrue s q Voters (record { value = row.value; verdict = v })) c.in-Lost.is c.in_ok-row.ensures.is_true in
+    let lost : wins row.verdict ≡ false = search rules in
+    let here : Fails s q row.value = (row.verdict, lost, c.in_ok-row.ensures.is_true) in
     let gap = c.doubling.invariant.gap c.doubling-test.true in
     record {
       same = search rules;
       is_true = search rules;
-      verdict = search rules;
+      verdict = lost;
       within = search rules;
       loses = subst (λ (t : Seen). Loses t q row.value) (sym c.in_ok-row.ensures.kept) (loses_next s q last row.value c.args.most gap c.doubling.invariant.loses value_is here);
       gap = λ below. let twice : max (2 * last) 1 ≡ row.value = omega (arith, value_is, below) in subst IsGap twice (gap_next last gap);

@@ -1,7 +1,6 @@
-use Rattle.std.proofs.Common.{◌≡◌, ◌<◌, ◌≤◌, ◌-◌}
+use Rattle.std.proofs.Common.{◌≡◌, ◌<◌, ◌≤◌, ◌-◌, false}
 use Rattle.pb_reasons.specs.declared.changes.change.Change.TheVariants.{Voters}
-use Rattle.pb_reasons.specs.declared.changes.change.Verdict.TheVariants.{Lost}
-use Rattle.pb_reasons.specs.WhatIf.{IsTrue}
+use Rattle.pb_reasons.specs.WhatIf.{IsTrue, wins}
 use Rattle.pb_reasons.proofs.Doubling.{IsGap, Loses}
 use Rattle.pb_reasons.proofs.changes.search.doubled.Given as goal
 
@@ -9,7 +8,7 @@ abbrev pub invariant-doubling : goal.invariant-doubling
 invariant-doubling g l = record {
   same : l.changing ≡ l.initial.changing;
   is_true : IsTrue l.changing l.recount.question Voters l.last;
-  verdict : l.last.verdict ≡ Lost;
+  verdict : wins l.last.verdict ≡ false;
   within : l.last.value ≤ l.most;
   loses : Loses l.changing l.recount.question l.last.value;
   gap : l.last.value < l.most → IsGap l.last.value;

@@ -1,5 +1,6 @@
 use Rattle.std.proofs.Common.{◌≡◌, ◌-◌}
-use Rattle.pb_reasons.specs.Inner.Searching.{AreOpposed, wins}
+use Rattle.pb_reasons.specs.WhatIf.{wins}
+use Rattle.pb_reasons.specs.Inner.Searching.{AreOpposed}
 use Rattle.pb_reasons.proofs.changes.search.halved.Given as goal
 
 abbrev pub invariant-halving : goal.invariant-halving

@@ -1,0 +1,13 @@
+META
+key;value
+budget;12
+vote_type;approval
+PROJECTS
+project_id;cost
+a;12
+b;12
+VOTES
+voter_id;vote
+v1;b
+v2;a
+v3;a
