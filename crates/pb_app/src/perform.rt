@@ -82,6 +82,7 @@ fn do_task<R: System, W: Write>(
         Task::Count(asked) => count(run, asked, writer, &mut notes.seen),
         Task::Projects(ballots)
         | Task::Voters(ballots)
+        | Task::Fairness(ballots)
         | Task::Compare(CompareRun { ballots, .. }) => {
             tell(
                 run,
@@ -107,6 +108,7 @@ fn do_task<R: System, W: Write>(
 fn table_of(task: &Task<'_>) -> Table {
     match task {
         Task::Voters(_) => Table::Voters,
+        Task::Fairness(_) => Table::Fairness,
         Task::Compare(CompareRun { by_project, .. }) if *by_project => Table::RuledProjects,
         Task::Compare(_) => Table::Rules,
         _ => Table::Projects,

@@ -86,6 +86,7 @@ fn say_counts<R: System>(rt: &R, task: &Task<'_>, notes: &Notes) {
         Task::Count(_)
         | Task::Projects(_)
         | Task::Voters(_)
+        | Task::Fairness(_)
         | Task::Compare(_)
         | Task::WhatIf(..)
         | Task::Page(..)

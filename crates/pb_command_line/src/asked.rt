@@ -62,6 +62,7 @@ fn count_of<'a>(name: &str, given: &ArgMatches<'a>, ballots: Ballots<'a>) -> Opt
         }),
         "projects" => Task::Projects(ballots),
         "voters" => Task::Voters(ballots),
+        "fairness" => Task::Fairness(ballots),
         "compare" => Task::Compare(CompareRun {
             ballots,
             by_project: given.get_flag("projects"),

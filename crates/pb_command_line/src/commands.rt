@@ -23,11 +23,12 @@ pub(crate) struct CommandForm {
 
 /// The forms of all commands, in the order in which the help lists them. A function that names a form is
 /// checked with all its texts, so a function of its own names each.
-pub(crate) fn forms() -> [&'static CommandForm; 12] {
+pub(crate) fn forms() -> [&'static CommandForm; 13] {
     [
         count(),
         projects(),
         voters(),
+        fairness(),
         compare(),
         what_if(),
         page(),
@@ -73,6 +74,18 @@ const VOTERS_PAID: &CommandForm = &CommandForm {
     name: "voters",
     notes: "Manual pages: man pb_app-election, man 5 pb_app-voters, man pb_app-counting.",
     about: "Counts a .pb file, and prints what each voter paid, and for what",
+    groups: &[Own(&[ELECTION, LEFT_BY, OTHER_FILE]), OfCount, OfResult],
+};
+
+/// The command that shows how fair a count is.
+fn fairness() -> &'static CommandForm {
+    FAIRNESS
+}
+
+const FAIRNESS: &CommandForm = &CommandForm {
+    name: "fairness",
+    notes: "Manual pages: man pb_app-election, man 5 pb_app-fairness, man pb_app-counting.",
+    about: "Counts a .pb file, and prints for each project that lost how much one of its supporters had already spent",
     groups: &[Own(&[ELECTION, LEFT_BY, OTHER_FILE]), OfCount, OfResult],
 };
 

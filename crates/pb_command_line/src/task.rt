@@ -142,6 +142,8 @@ pub enum Task<'a> {
     Projects(Ballots<'a>),
     /// The voters of a count of these ballots: who paid.
     Voters(Ballots<'a>),
+    /// How fair a count of these ballots is to the supporters of the projects that lost.
+    Fairness(Ballots<'a>),
     /// A count of these ballots beside most votes first.
     Compare(CompareRun<'a>),
     /// Counts of changed elections.
@@ -169,6 +171,7 @@ impl<'a> Task<'a> {
             Task::Check(CheckRun { file, .. }) => (file, None),
             Task::Projects(ballots)
             | Task::Voters(ballots)
+            | Task::Fairness(ballots)
             | Task::Export(ballots)
             | Task::Count(CountRun { ballots, .. })
             | Task::Compare(CompareRun { ballots, .. })
@@ -202,6 +205,7 @@ impl<'a> Task<'a> {
             Task::Desk(_) | Task::Voters(_) | Task::Export(_) | Task::Ballots(_) => true,
             Task::Count(_)
             | Task::Projects(_)
+            | Task::Fairness(_)
             | Task::Compare(_)
             | Task::WhatIf(..)
             | Task::Page(..)

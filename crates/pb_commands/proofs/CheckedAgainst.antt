@@ -1,5 +1,5 @@
 -- A check against a count: what it hands out is the election of the file, and how it fails.
-use Rattle.std.proofs.Common.{◌≡◌, ◌≢◌, ◌⊎◌, inl, inr, ℕ, List, [], ◌∷◌, Option, Some, None, Ok, Err, refl, subst, sym}
+use Rattle.std.proofs.Common.{◌≡◌, ◌≢◌, ◌⊎◌, inl, inr, ℕ, List, [], Option, Some, None, Ok, Err, refl, subst, sym}
 use Rattle.std.specs.Prelude.{IfErr, IfSome, IsErrAnd, Result}
 use Rattle.pb_core.specs.Election.{ElectionView}
 use Rattle.pb_read.specs.Listed.{IsHandedOut}

@@ -2,14 +2,14 @@
 use Rattle.std.proofs.Common.{◌≡◌, ◌≢◌, ◌∙◌, ℕ, List, Option, Some, None, Ok, Err, false, true, refl, sym, ap, subst}
 use Rattle.std.proofs.lemmas.Bool.{true≢false}
 use Rattle.std.specs.Prelude.{IfErr, IfSome, IsErrAnd, Result}
-use Rattle.pb_core.specs.Election.{ElectionView, IsElection}
+use Rattle.pb_core.specs.Election.{ElectionView}
 use Rattle.pb_desk.specs.Desk.{DeskView, closed_election, standing_of}
 use Rattle.pb_export.specs.declared.export_fault.ExportFault.TheVariants as export
 use Rattle.pb_export.specs.declared.further.Further.{Further}
 use Rattle.pb_read.specs.declared.warning.Warning.{Warning}
 use Rattle.pb_reasons.proofs.Results.{result_of}
 use Rattle.pb_reasons.proofs.Tellable.{count_can_be_told}
-use Rattle.pb_reasons.specs.Counted.{CountedView, IsCountBy}
+use Rattle.pb_reasons.specs.Counted.{IsCountBy}
 use Rattle.pb_reasons.specs.CountedElection.{CountedElectionView, IsCountedElection}
 use Rattle.pb_rounds.specs.Counted.{IsCountOf}
 use Rattle.pb_rounds.specs.Outcome.{OutcomeView}
@@ -61,12 +61,17 @@ is_count_by x rule is same = subst (λ (rule : Rule). IsCountBy rule x.election 
 pub table_counts : (table : Table) (rule : Rule) (e : ElectionView) (text : List ℕ) → IsTableOf table rule e text → (o : OutcomeView) × IsCountOf e rule.options o
 table_counts table rule e text told = let count = told.1 in (count.0, count.1)
 
-pub is_table : (table : Table) (rule : Rule) (e : ElectionView) (c : CountedView) (text : List ℕ) → IsElection e → IsCountBy rule e c → text ≡ table_of table e c
-    → IsTableOf table rule e text
-is_table table rule e c text is_election count is =
-    let counted = result_of rule e c count in
-    let told = count_can_be_told e counted.0 c.outcome is_election counted.1 in
-    (c, count, told.price_system, is)
+pub counted_table : (table : Table) (x : CountedElectionView) (rule : Rule) → IsCountedElection x → x.rule ≡ rule → (text : List ℕ)
+    → text ≡ table_of table x → IsTableOf table rule x.election text
+counted_table table x rule is same text put =
+    let count = is_count_by x rule is same in
+    let counted = result_of rule x.election x.counted count in
+    let told = count_can_be_told x.election counted.0 x.counted.outcome is.is_election counted.1 in (
+      x.counted,
+      count,
+      told.price_system,
+      put ∙ ap (λ (r : Rule). table_of table (record { election = x.election; rule = r; counted = x.counted })) same,
+    )
 
 -- an export
 module _ (rule : Rule) (files : Option (List ℕ)) (journals : Option (Option (List ℕ))) (warning : Option Warning) where

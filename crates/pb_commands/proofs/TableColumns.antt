@@ -1,15 +1,19 @@
 -- Tables by their columns.
-use Rattle.std.proofs.Common.{◌≡◌, ◌∙◌, ◌+◌, ◌++◌, ◌<◌, ℕ, List, [], ◌∷◌, ap, arith, decimal, drop, get_or, length, map, refl, sym, take}
-use Rattle.std.specs.Prelude.{if◌then◌else◌, slice_index_or}
+use Rattle.std.proofs.Common.{◌≡◌, ◌∙◌, ◌+◌, ◌++◌, ◌<◌, ℕ, List, [], ◌∷◌, ap, append-nil, arith, Bool, cond, decimal, drop, false, get_or, length, map, refl, sym, take, true}
+use Rattle.std.specs.Prelude.{filter, if◌then◌else◌, slice_index_or}
 use Rattle.std.specs.List.{range_with_len}
 use Rattle.std.proofs.lemmas.List.FromFn.{map-range_with_len_more}
 use Rattle.std.proofs.lemmas.List.{get_or-map, map-append}
+use Rattle.std.proofs.lemmas.List.Elements.{filter-append}
+use Rattle.pb_price.proofs.BuiltLists.{range_with_len_more}
 use Rattle.pb_core.specs.Election.{ElectionView, ProjectView, VoterView}
 use Rattle.pb_core.specs.MoneyText.{money_text}
 use Rattle.pb_price.specs.Supporters.{support_of}
 use Rattle.pb_reasons.proofs.WinnerSums.{cost_at-known}
 use Rattle.pb_reasons.specs.BesideVotes.{elected_by_votes}
 use Rattle.pb_reasons.specs.Counted.{CountedView, winners_of}
+use Rattle.pb_reasons.specs.CountedElection.{CountedElectionView}
+use Rattle.pb_reasons.specs.Fairness.{needed, spent}
 use Rattle.pb_reasons.specs.Reasons.{project_reason, voter_payments, voter_reason}
 use Rattle.pb_reasons.specs.declared.payment.Payment.{Payment}
 use Rattle.pb_reasons.specs.declared.voter_reason.VoterReason.{VoterReason}
@@ -25,7 +29,7 @@ use Rattle.pb_rows.specs.Writing.{text_of_row, text_of_rows}
 use Rattle.pb_commands.proofs.ReportSums.{id_at-known}
 use Rattle.pb_commands.proofs.RowsGrown.{none_grown, row_grown, rows_grown}
 use Rattle.pb_commands.specs.Inner.Tables.{all_columns, payments_text, row_of}
-use Rattle.pb_commands.specs.Tables.{project_columns, ruled_columns, voter_columns}
+use Rattle.pb_commands.specs.Tables.{fairness_columns, project_columns, ruled_columns, voter_columns}
 
 module _ {X : Type 0} (columns : List (Column X)) where
   -- the names of the columns
@@ -55,6 +59,24 @@ unfolding table_text
 place_put columns n old before after so_far put =
     row_grown (map (λ c. c.0) columns ∷ map (row_of columns) (range_with_len 0 n)) (row_of columns n) old before after so_far put
     ∙ ap (λ (rows : List Fields). old ++ text_of_rows (map (λ c. c.0) columns ∷ rows)) (sym (map-range_with_len_more (row_of columns) 0 n n (omega arith)))
+
+-- the row of one place more, where it passes a test
+module _ (columns : List (Column ℕ)) (test : ℕ → Bool) (n : ℕ) (old before : List ℕ)
+    (so_far : before ≡ old ++ table_text columns (filter test (range_with_len 0 n))) where
+  one_more : filter test (range_with_len 0 (n + 1)) ≡ filter test (range_with_len 0 n) ++ cond (test n) (n ∷ []) []
+  one_more = ap (filter test) (range_with_len_more n) ∙ filter-append test (range_with_len 0 n) (n ∷ [])
+
+  pub passing_put : test n ≡ true → (after : List ℕ) → after ≡ before ++ text_of_row (row_of columns n)
+      → after ≡ old ++ table_text columns (filter test (range_with_len 0 (n + 1)))
+  passing_put passes after put =
+      row_put columns (filter test (range_with_len 0 n)) n old before after so_far put
+      ∙ ap (λ xs. old ++ table_text columns xs) (sym (one_more ∙ ap (λ b. filter test (range_with_len 0 n) ++ cond b (n ∷ []) []) passes))
+
+  pub failing_kept : test n ≡ false → before ≡ old ++ table_text columns (filter test (range_with_len 0 (n + 1)))
+  failing_kept fails =
+      so_far
+      ∙ ap (λ xs. old ++ table_text columns xs)
+      (sym (one_more ∙ ap (λ b. filter test (range_with_len 0 n) ++ cond b (n ∷ []) []) fails ∙ append-nil (filter test (range_with_len 0 n))))
 
 pub name_at-known : (e : ElectionView) (place : ℕ) (p : ProjectView) → place < length e.projects → p ≡ get_or e.projects place p
     → slice_index_or (map (λ q. q.name) e.projects) place [] ≡ p.name
@@ -95,6 +117,15 @@ pub ruled_row_read : (e : ElectionView) (c : CountedView) (place : ℕ) (p : Pro
     → field_text number ∷ id ∷ name ∷ field_text cost ∷ decimal votes ∷ field_text wins ∷ field_text otherwise ∷ [] ≡ row_of (ruled_columns e c) place
 ruled_row_read e c place p known is number cost wins otherwise number_is cost_is wins_is otherwise_is id name id_is name_is votes votes_is =
     rw (number_is, cost_is, wins_is, otherwise_is, id_is, name_is, votes_is, ← id_at-known e place p known is, ← name_at-known e place p known is, ← cost_at-known e place p known is) refl
+
+-- the row of a project that lost, as it is written
+pub loser_row_read : (x : CountedElectionView) (place : ℕ) (p : ProjectView) → place < length x.election.projects → p ≡ get_or x.election.projects place p
+    → (id : List ℕ) → id ≡ p.id → (votes : ℕ) → votes ≡ votes_at (support_of x.election) place
+    → (share need : Field) → share ≡ Amount x.counted.outcome.share → need ≡ Amount (needed (support_of x.election) place)
+    → (most : ℕ) → most ≡ spent x.rule.options.measure (support_of x.election) x.counted.outcome place
+    → id ∷ decimal votes ∷ field_text share ∷ field_text need ∷ money_text most ∷ [] ≡ row_of (fairness_columns x) place
+loser_row_read x place p known is id id_is votes votes_is share need share_is need_is most most_is =
+    rw (id_is, votes_is, share_is, need_is, most_is, ← id_at-known x.election place p known is) refl
 
 -- the row of a voter, as it is written
 pub voter_row_read : (e : ElectionView) (c : CountedView) (voter : ℕ) (v : VoterView) → voter < length e.voters → v ≡ get_or e.voters voter v

@@ -1,5 +1,5 @@
--- What is written of a count: its report, or a table by its columns, of projects, of voters, or beside most
--- votes first.
+-- What is written of a count: its report, or a table by its columns, of projects, of voters, of how fair it
+-- is, or beside most votes first.
 use Rattle.std.specs.Prelude.{◌≡◌, ℕ, List, [], ◌∷◌, ◌++◌, codes, decimal, if◌then◌else◌, length, map}
 use Rattle.std.specs.Prelude.{slice_index_or}
 use Rattle.std.specs.List.{join_with_byte, range_with_len}
@@ -8,6 +8,8 @@ use Rattle.pb_core.specs.MoneyText.{money_text}
 use Rattle.pb_price.specs.Supporters.{cost_at, support_of}
 use Rattle.pb_reasons.specs.BesideVotes.{beside_votes, elected_by_votes}
 use Rattle.pb_reasons.specs.Counted.{CountedView, IsCountBy, winners_of}
+use Rattle.pb_reasons.specs.CountedElection.{CountedElectionView}
+use Rattle.pb_reasons.specs.Fairness.{losers, needed, spent}
 use Rattle.pb_reasons.specs.Reasons.{all_payments, project_reason, voter_payments, voter_reason}
 use Rattle.pb_reasons.specs.declared.payment.Payment.{Payment}
 use Rattle.pb_reasons.specs.declared.project_reason.Ending.{Ending}
@@ -23,7 +25,7 @@ use Rattle.pb_rounds.specs.declared.rule.Rule.{Rule}
 use Rattle.pb_rows.specs.Tables.{Column, table_text}
 use Rattle.pb_commands.specs.Report.{report_of}
 use Rattle.pb_commands.specs.declared.table.Table.{Table}
-use Rattle.pb_commands.specs.declared.table.Table.TheVariants.{Projects, Report, RuledProjects, Rules, Voters}
+use Rattle.pb_commands.specs.declared.table.Table.TheVariants.{Fairness, Projects, Report, RuledProjects, Rules, Voters}
 
 -- the columns that begin each table of projects, each by its place
 abbrev pub project_head : ElectionView → List (Column ℕ)
@@ -77,18 +79,32 @@ ruled_columns e c = project_head e
     ++ (codes "equal_shares", λ place. decimal (if is_taken (winners_of c) place then 1 else 0))
     ∷ (codes "most_votes", λ place. decimal (if is_taken (elected_by_votes e) place then 1 else 0)) ∷ []
 
+-- the columns of fairness, each by the place of a project that lost
+abbrev pub fairness_columns : CountedElectionView → List (Column ℕ)
+fairness_columns x = let s = support_of x.election in
+    (codes "project_id", λ place. slice_index_or (project_ids x.election) place [])
+    ∷ (codes "votes", λ place. decimal (votes_at s place))
+    ∷ (codes "share", λ place. money_text x.counted.outcome.share)
+    ∷ (codes "needed", λ place. money_text (needed s place))
+    ∷ (codes "spent", λ place. money_text (spent x.rule.options.measure s x.counted.outcome place)) ∷ []
+
 -- a report or a table of a count, as text: rows in the order of the file; of rules the count's comes before
 -- the other
-unfoldable pub table_of : Table → ElectionView → CountedView → List ℕ
-table_of Report e c = report_of e c
-table_of Projects e c = table_text (project_columns e c) (range_with_len 0 (length e.projects))
-table_of Voters e c = table_text (voter_columns e c) (range_with_len 0 (length e.voters))
-table_of Rules e c = table_text rule_columns
-    ((codes "equal shares", (beside_votes e c).own) ∷ (codes "most votes", (beside_votes e c).other) ∷ [])
-table_of RuledProjects e c = table_text (ruled_columns e c) (range_with_len 0 (length e.projects))
+unfoldable pub table_of : Table → CountedElectionView → List ℕ
+table_of Report x = report_of x.election x.counted
+table_of Projects x =
+    table_text (project_columns x.election x.counted) (range_with_len 0 (length x.election.projects))
+table_of Voters x = table_text (voter_columns x.election x.counted) (range_with_len 0 (length x.election.voters))
+table_of Fairness x = table_text (fairness_columns x) (losers x.election x.counted)
+table_of Rules x =
+    let beside = beside_votes x.election x.counted in
+    table_text rule_columns ((codes "equal shares", beside.own) ∷ (codes "most votes", beside.other) ∷ [])
+table_of RuledProjects x =
+    table_text (ruled_columns x.election x.counted) (range_with_len 0 (length x.election.projects))
 
 -- the text is this report or table of a count of the election by this rule; the payments of the count are a
 -- price system of the elected
 abbrev pub IsTableOf : Table → Rule → ElectionView → List ℕ → Type 0
 IsTableOf table rule e text = (c : CountedView) × IsCountBy rule e c × IsPriceSystem (support_of e) c.outcome.share
-    c.outcome.elected c.outcome.rests (all_payments e c.outcome) × (text ≡ table_of table e c)
+    c.outcome.elected c.outcome.rests (all_payments e c.outcome)
+    × (text ≡ table_of table (record { election = e; rule = rule; counted = c }))

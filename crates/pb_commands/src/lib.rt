@@ -1,5 +1,5 @@
-//! The commands `count`, `projects`, `voters`, `compare`, `export`, `desk`, `audit`, `ballots` and `check`,
-//! from bytes to bytes.
+//! The commands `count`, `projects`, `voters`, `fairness`, `compare`, `export`, `desk`, `audit`, `ballots` and
+//! `check`, from bytes to bytes.
 //!
 //! A run reads its inputs in their order, makes its whole text in memory, and then writes it: so a run that
 //! is refused has written nothing. Each refusal has one line and one status.
@@ -10,6 +10,7 @@ mod counting;
 pub mod demand;
 mod digested;
 mod export_text;
+mod fairness_table;
 mod history_table;
 mod inputs;
 pub mod laws;

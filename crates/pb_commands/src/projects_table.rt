@@ -17,8 +17,7 @@ use pb_rows::{Field, RowsWriter};
 
 /// Writes the columns, and a row for each project in file order.
 pub(crate) fn put_projects(rows: &mut RowsWriter, count: &CountedElection) -> Result<(), NoMemory>
-    ensures { OnOk result (rows.new.text
-        ≡ rows.old.text ++ table_of Projects count.now.election count.now.counted) }
+    ensures { OnOk result (rows.new.text ≡ rows.old.text ++ table_of Projects count.now) }
 {
     let names = [
         "place",

@@ -17,8 +17,7 @@ pub(crate) fn put_ruled_projects(
     alloc: Global,
     count: &CountedElection,
 ) -> Result<(), NoMemory>
-    ensures { OnOk result (rows.new.text
-        ≡ rows.old.text ++ table_of RuledProjects count.now.election count.now.counted) }
+    ensures { OnOk result (rows.new.text ≡ rows.old.text ++ table_of RuledProjects count.now) }
 {
     rows.put_row(&[
         "place",

@@ -17,8 +17,7 @@ pub(crate) fn put_rules(
     alloc: Global,
     count: &CountedElection,
 ) -> Result<(), NoMemory>
-    ensures { OnOk result (rows.new.text
-        ≡ rows.old.text ++ table_of Rules count.now.election count.now.counted) }
+    ensures { OnOk result (rows.new.text ≡ rows.old.text ++ table_of Rules count.now) }
 {
     let rules = compare_with_votes(alloc, count)?;
     rows.put_row(&[

@@ -1,5 +1,5 @@
 //! Runs that write the report of a count, or a table: who won and why, who lost and by how much, who paid,
-//! and what another rule elects.
+//! how fair that is, and what another rule elects.
 
 ghost use Rattle.std.specs.Prelude.{◌≡◌, ◌++◌, IfOk, OnOk};
 ghost use Rattle.pb_commands.specs.Closed.{CountRefuses, Gives};
@@ -7,6 +7,7 @@ ghost use Rattle.pb_commands.specs.Ends.{Runs, known};
 ghost use Rattle.pb_commands.specs.Tables.{IsTableOf, table_of};
 
 use crate::counting::{Counting, count_inputs};
+use crate::fairness_table::put_fairness;
 use crate::inputs::Inputs;
 use crate::projects_table::put_projects;
 use crate::report::{put_report, whole};
@@ -54,7 +55,7 @@ pub fn run_table<T: Threads + Sync, P: Read + Drop, J: Read + Drop, G: Gate, H: 
 
 /// This table of a count.
 fn table_text(alloc: Global, count: &CountedElection, table: Table) -> Result<Vec<u8>, NoMemory>
-    ensures { IfOk result (λ text. text.items ≡ table_of table count.now.election count.now.counted) }
+    ensures { IfOk result (λ text. text.items ≡ table_of table count.now) }
 {
     let mut rows = RowsWriter::start(alloc);
     match put_outcome(&mut rows, alloc, count, table) {
@@ -73,13 +74,13 @@ fn put_outcome(
     count: &CountedElection,
     table: Table,
 ) -> Result<(), NoMemory>
-    ensures { OnOk result (rows.new.text
-        ≡ rows.old.text ++ table_of table count.now.election count.now.counted) }
+    ensures { OnOk result (rows.new.text ≡ rows.old.text ++ table_of table count.now) }
 {
     match table {
         Table::Report => put_report(rows, count),
         Table::Projects => put_projects(rows, count),
         Table::Voters => put_voters(rows, alloc, count),
+        Table::Fairness => put_fairness(rows, alloc, count),
         Table::Rules => put_rules(rows, alloc, count),
         Table::RuledProjects => put_ruled_projects(rows, alloc, count),
     }

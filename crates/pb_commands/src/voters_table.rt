@@ -20,8 +20,7 @@ pub(crate) fn put_voters(
     alloc: Global,
     count: &CountedElection,
 ) -> Result<(), NoMemory>
-    ensures { OnOk result (rows.new.text
-        ≡ rows.old.text ++ table_of Voters count.now.election count.now.counted) }
+    ensures { OnOk result (rows.new.text ≡ rows.old.text ++ table_of Voters count.now) }
 {
     rows.put_row(&["voter_id", "votes", "elected", "paid", "left", "payments"])?;
     let voters = count.election().voters();

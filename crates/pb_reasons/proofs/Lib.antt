@@ -23,6 +23,8 @@ pub mod TiedRounds
 pub mod AllTies
 pub mod TieOrder
 pub mod Rooms
+pub mod Spendings
+pub mod FairRows
 pub mod Changed
 pub mod ChoicesWon
 pub mod Copies

@@ -33,7 +33,7 @@ listed_as_passes p n v below = elim (cases_Bool (p v)) [
 ]
 
 -- a voter supports what the ballot approves
-supports : (e : ElectionView) (voter place : ℕ) → voter < length e.voters → place < length e.projects
+pub supports : (e : ElectionView) (voter place : ℕ) → voter < length e.voters → place < length e.projects
     → is_listed (supporters_at (support_of e) place) voter ≡ approves (ballot_at e voter) place
 unfolding supporters_of
 supports e voter place is_voter known =

@@ -13,3 +13,4 @@ pub mod Told
 pub mod Turns
 pub mod Numbered
 pub mod Searching
+pub mod Spending

@@ -3,6 +3,7 @@ pub mod BesideVotes
 pub mod Comparison
 pub mod Counted
 pub mod CountedElection
+pub mod Fairness
 pub mod RaiseEnd
 pub mod RaiseLimit
 pub mod Reasons

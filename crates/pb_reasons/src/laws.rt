@@ -1,11 +1,12 @@
 //! Laws over what a count comes to, each as the contract of a function that does nothing.
 
-ghost use Rattle.std.specs.Prelude.{◌≡◌, ◌≢◌, ◌-◌, ◌<◌, ◌≤◌, ℕ, All, AllPairs, false};
+ghost use Rattle.std.specs.Prelude.{◌≡◌, ◌≢◌, ◌+◌, ◌-◌, ◌<◌, ◌≤◌, ℕ, All, AllPairs, false};
 ghost use Rattle.pb_core.specs.Election.{ElectionView};
 ghost use Rattle.pb_rounds.specs.MostVotes.{fits, is_taken};
 ghost use Rattle.pb_price.specs.Supporters.{support_of};
 ghost use Rattle.pb_reasons.specs.Counted.{CountedView, is_selected, winners_of};
 ghost use Rattle.pb_reasons.specs.CountedElection.{CountedElectionView, IsCountedElection};
+ghost use Rattle.pb_reasons.specs.Fairness.{losers, needed, spent};
 ghost use Rattle.pb_reasons.specs.Ties.{ties_of};
 ghost use Rattle.pb_reasons.specs.Totals.{totals_of};
 ghost use Rattle.pb_reasons.specs.declared.tie.Tie.{Tie};
@@ -32,4 +33,14 @@ pub fn winners_share_the_budget()
 pub fn ties_are_decided_by_place()
     ensures { (e : ElectionView) (options : CountOptions) (o : OutcomeView) → IsCountOf e options o
         → All (λ (t : Tie). t.winner < t.other) (ties_of options.measure e o) }
+{}
+
+/// Each row of a table of fairness shows it: of all supporters of a project that lost, one had already spent
+/// so much, on elected projects that took no more from it (under measure cost, for their cost) than the
+/// project would have, that what the project needed of it was more than was left of the share.
+pub fn rows_are_fair()
+    ensures { (c : CountedElectionView) → IsCountedElection c
+        → All (λ place. c.counted.outcome.share
+        < spent c.rule.options.measure (support_of c.election) c.counted.outcome place
+        + needed (support_of c.election) place) (losers c.election c.counted) }
 {}

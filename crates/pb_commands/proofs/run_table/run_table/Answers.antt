@@ -1,5 +1,5 @@
 use Rattle.pb_commands.proofs.Endings.{memory_end, run_ended, run_given, run_written}
-use Rattle.pb_commands.proofs.RunEnds.{counts_pass, is_count_by, is_table, table_counts, writes_of}
+use Rattle.pb_commands.proofs.RunEnds.{counted_table, counts_pass, table_counts, writes_of}
 use Rattle.pb_commands.specs.Closed.{CountRefuses, Gives}
 use Rattle.pb_commands.specs.Ends.{known}
 use Rattle.pb_commands.specs.Tables.{IsTableOf}
@@ -33,4 +33,4 @@ returns g c =
     run_written (Gives (IsTableOf c.args.table rule)) (CountRefuses rule.options) (g.P.Read.remaining c.args.inputs.file) journals _ g.W.Write.contents _ _ text _
     (rw c.as_slice.ensures.value at c.write_out.ensures.ok) c.write_out.ensures.fault file.1 file.0
     (writes_of (IsTableOf c.args.table rule) (g.P.Read.remaining c.args.inputs.file) journals x.election text c.in-Ok.ensures.left
-    (is_table c.args.table rule x.election x.counted text counted.0.is_election (is_count_by x rule counted.0 counted.1) c.in_ok-text.ensures))
+    (counted_table c.args.table x rule counted.0 counted.1 text c.in_ok-text.ensures))

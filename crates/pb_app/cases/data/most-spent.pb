@@ -1,0 +1,15 @@
+META
+key;value
+budget;24
+vote_type;approval
+PROJECTS
+project_id;cost
+a;1
+b;4
+c;4
+d;27
+VOTES
+voter_id;vote
+v1;b,d
+v2;b,c,d
+v3;c,d
