@@ -46,6 +46,8 @@ DIGITS = str.maketrans('oilzsgb', '0112568')
 OTHER = {*'against rejected veto contra comment remark note'.split()}
 POINTS = {*'points point score scores rank ranks ranking weight weights votes count'.split()}
 NOTHING = {*'nan none null nil na n/a - 0 \\n'.split()}
+DONE = {*'insert inserted update updated delete deleted remove removed cancel canceled cancelled revoke revoked '
+        'withdraw withdrawn'.split()}
 NO = {*'0 no n false f non nein nie ne nej não nao'.split()}
 # What a count reads of META, and such a key together with its value.
 NEEDED = 'budget', 'vote_type', 'max_length'
@@ -64,12 +66,12 @@ WORDS = {
     'MissingKey': 'META needs budget;AMOUNT and vote_type;approval',
     'VoteType': 'only approval ballots are counted; if each voter picks one project, name `--single-choice`',
     'BadMoney': 'an amount is digits, with at most one point or comma: no currency, no minus, no letters, no '
-        'footnotes; write it in full (`12k` may be 12000)',
+        'footnotes; write it in full (`12k` may be 12000, `12$50` may be 12.50)',
     'MoneyTooFine': 'more than two decimals: if that is meant, name `--round half-up`, `down` or `up`',
     'MoneyTooLarge': 'the amount has too many digits',
     'ZeroCost': 'the cost is 0: write it, or drop the project and the votes for it by `--drop-zero-cost`',
     'EmptyId': 'the id is empty: fill it in; if the row is a total or a note, delete it',
-    'RepeatedProject': 'an earlier row has the same project id: give one of the two projects another id',
+    'RepeatedProject': 'an earlier row has the same project id: two projects need two ids, also in the votes',
     'RepeatedVoter': 'an earlier row has the same voter id: if they are different people, name '
         '`--repeated-voters distinct`; if one row is valid, `first` or `last`; if it is one ballot, `merge`',
     'BadLength': 'max_length is a number without decimals, or empty',
@@ -96,11 +98,14 @@ WORDS = {
     'points': 'the votes have points or ranks, or numbers of votes, which are no approvals, so no count',
     'says no': 'rows are joined, and a column says {} in one of them: if such rows are no votes, delete '
         'them; if it says something else, delete the column',
+    'log': 'a row says {}, so the rows may be a log of what was done to votes: get the votes as they are at its end',
     'other way': 'the rows have one project each, and become one ballot: leave `--repeated-voters` out',
     'not choose-1': 'the vote names several projects, so the file is not choose-1',
     'beside': '{} in the field {} names projects, where it is not counted: write each field below its '
         'column name, the ids of a vote into one field, with `,` between, and joined rows apart',
     'unknown': 'the vote names {}, which no project has{}: {}',
+    'series': 'the numbers of unknown ids follow each other from row to row, from {} on: a spreadsheet may have '
+        'continued a series; get the votes again',
     'many': 'the votes name {} ids that no project has, this one first: {}',
     # why no option drops an id that no project has
     'lines': 'it goes over several lines: a quotation mark is not closed, or is too many; if its ids are on '
@@ -475,6 +480,9 @@ class Cleaner:
     def clean_repeated(self, name, rows, voters, voter, vote):
         """Joins the rows of a voter, keeps one of them, or makes different voters of them."""
         (first, *more), what, way = rows, '--repeated-voters', self.given.repeated_voters
+        done = (it for row in rows for it in map(seen, row.fields) if it.lower() in DONE)
+        for it in itertools.islice(done, 1):
+            self.refuse(first, 'log', shown(it))
         if self.is_long:
             what, way = 'rows joined', 'merge'
         elif way and len(name) > 15 and name.isdigit() and not name[15:].strip('0'):
@@ -542,6 +550,15 @@ class Cleaner:
             piece = next(iter(unknown))
             self.refuse(unknown[piece][0], 'many', len(unknown), shown(piece))
             return
+        run, after = [], None
+        at = {row: place for place, row in enumerate(rows)} if len(unknown) > 2 else {}
+        for piece, (row, *_) in unknown.items() if at else ():
+            number = re.search('[0-9]*$', piece)[0]
+            here = (int(number), at[row]) if number else None
+            run = [*run, piece] if here and here == after else [piece]
+            after = here and (here[0] + 1, here[1] + 1)
+            if len(run) == 3:
+                self.refuse(unknown[run[0]][0], 'series', shown(run[0]))
         # A date that a vote names is an id on purpose.
         dates = {*filter(MADE_DATE.fullmatch, self.ids)} if unknown else set()
         if dates:

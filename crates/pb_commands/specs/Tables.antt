@@ -25,7 +25,8 @@ use Rattle.pb_rounds.specs.declared.rule.Rule.{Rule}
 use Rattle.pb_rows.specs.Tables.{Column, table_text}
 use Rattle.pb_commands.specs.Report.{report_of}
 use Rattle.pb_commands.specs.declared.table.Table.{Table}
-use Rattle.pb_commands.specs.declared.table.Table.TheVariants.{Fairness, Projects, Report, RuledProjects, Rules, Voters}
+use Rattle.pb_commands.specs.declared.table.Table.TheVariants.{Fairness, Projects, Report, RuledProjects, Rules}
+use Rattle.pb_commands.specs.declared.table.Table.TheVariants.{Voters}
 
 -- the columns that begin each table of projects, each by its place
 abbrev pub project_head : ElectionView → List (Column ℕ)

@@ -26,7 +26,7 @@ use Rattle.pb_rounds.specs.declared.measure.Measure.{Measure}
 use Rattle.pb_reasons.specs.Counted.{winners_of}
 use Rattle.pb_reasons.specs.CountedElection.{CountedElectionView}
 use Rattle.pb_reasons.specs.Fairness.{needed, spent}
-use Rattle.pb_reasons.specs.Inner.Spending.{AreMost, RaisesMost, counts_within, most_of, within_need}
+use Rattle.pb_reasons.specs.Inner.Spending.{AreMost, NotesSpent, counts_within, most_of, within_need}
 use Rattle.pb_reasons.specs.Inner.Told.{AreApart, CanBeTold}
 use Rattle.pb_reasons.specs.Reasons.{paid_for, round_of, voter_payments}
 use Rattle.pb_reasons.specs.declared.payment.Payment.{Payment}
@@ -196,37 +196,42 @@ or_true true = refl
 or_true false = refl
 
 module _ (winners : List ℕ) (spent_by : ℕ → ℕ) (ballot old most : List ℕ) (i place : ℕ) (below : i < length ballot) (here : place ≡ get_or ballot i 0)
-    (so_far : RaisesMost winners spent_by (take i ballot) old most) where
+    (so_far : NotesSpent winners spent_by (take i ballot) old most) where
   approves_more : (k : ℕ) → approves (take (i + 1) ballot) k ≡ (approves (take i ballot) k || (place == k))
   approves_more k = list_any_more (λ p. p == k) ballot i 0 below ∙ ap (λ p. approves (take i ballot) k || (p == k)) (sym here)
 
   not_here : (k : ℕ) → place ≢ k → approves (take (i + 1) ballot) k ≡ approves (take i ballot) k
   not_here k other = approves_more k ∙ ap (λ b. approves (take i ballot) k || b) (ne_eqb place k other) ∙ or_false (approves (take i ballot) k)
 
-  pub most_raised : (new : List ℕ) → place < length most → new ≡ set most place (max (slice_index most place) (spent_by place))
-      → RaisesMost winners spent_by (take (i + 1) ballot) old new
-  most_raised new known is = record {
+  pub most_noted : (new : List ℕ) → place < length most → is_taken winners place ≡ false → new ≡ set most place (max (slice_index most place) (spent_by place))
+      → NotesSpent winners spent_by (take (i + 1) ballot) old new
+  most_noted new known lost is = record {
     same_length = ap length is ∙ length-set most place _ ∙ so_far.same_length;
-    raised = λ k inside free. elim (cases_eq place k) [
+    noted = λ k inside free. elim (cases_eq place k) [
       | inl same ↦
           let approved : approves (take (i + 1) ballot) k ≡ true =
           approves_more k ∙ ap (λ b. approves (take i ballot) k || b) (eq-eqb place k same) ∙ or_true (approves (take i ballot) k) in
           let put : slice_index new k ≡ max (slice_index most k) (spent_by k) = rw (is, ← same) (get_or-set_same most place _ 0 known) in
-          put ∙ ap (λ n. max n (spent_by k)) (so_far.raised k inside free)
+          put ∙ ap (λ n. max n (spent_by k)) (so_far.noted k inside free)
           ∙ most_again (approves (take i ballot) k) (slice_index old k) (spent_by k)
           ∙ sym (cond-true _ _ _ approved)
       | inr other ↦
           let kept : slice_index new k ≡ slice_index most k = rw is (get_or-set_other most place k _ 0 (λ e. other (sym e))) in
-          kept ∙ so_far.raised k inside free ∙ ap (λ b. cond b (max (slice_index old k) (spent_by k)) (slice_index old k)) (sym (not_here k other))
+          kept ∙ so_far.noted k inside free ∙ ap (λ b. cond b (max (slice_index old k) (spent_by k)) (slice_index old k)) (sym (not_here k other))
     ];
+    others = λ k inside won.
+        let kept : slice_index new k ≡ slice_index most k =
+        rw is (get_or-set_other most place k _ 0 (λ e. true≢false (sym won ∙ ap (is_taken winners) e ∙ lost))) in
+        kept ∙ so_far.others k inside won;
   }
 
-  pub most_kept : is_taken winners place ≡ true → RaisesMost winners spent_by (take (i + 1) ballot) old most
+  pub most_kept : is_taken winners place ≡ true → NotesSpent winners spent_by (take (i + 1) ballot) old most
   most_kept won = record {
     same_length = so_far.same_length;
-    raised = λ k inside free.
+    noted = λ k inside free.
         let other : place ≢ k = λ e. true≢false (sym won ∙ ap (is_taken winners) e ∙ free) in
-        so_far.raised k inside free ∙ ap (λ b. cond b (max (slice_index old k) (spent_by k)) (slice_index old k)) (sym (not_here k other));
+        so_far.noted k inside free ∙ ap (λ b. cond b (max (slice_index old k) (spent_by k)) (slice_index old k)) (sym (not_here k other));
+    others = so_far.others;
   }
 
 module _ (c : CountedElectionView) where
@@ -234,6 +239,7 @@ module _ (c : CountedElectionView) where
   most_none most is = record {
     one_each = ap length is ∙ length-replicate (length c.election.projects) 0;
     each = λ place known free. ap (λ (l : List ℕ). slice_index l place) is ∙ get_or-replicate (length c.election.projects) place 0 0 known;
+    winners = λ place known won. ap (λ (l : List ℕ). slice_index l place) is ∙ get_or-replicate (length c.election.projects) place 0 0 known;
   }
 
   most_step : (place n : ℕ) (voters : List ℕ) (b : Bool) → most_of c place (voters ++ cond b (n ∷ []) [])
@@ -242,19 +248,20 @@ module _ (c : CountedElectionView) where
   most_step place n voters false = ap (most_of c place) (append-nil voters)
 
   -- one voter more
-  pub most_more : (n : ℕ) (ballot most new : List ℕ) (spent_by : ℕ → ℕ) → AreMost c n most → RaisesMost (winners_of c.counted) spent_by ballot most new
+  pub most_more : (n : ℕ) (ballot most new : List ℕ) (spent_by : ℕ → ℕ) → AreMost c n most → NotesSpent (winners_of c.counted) spent_by ballot most new
       → ballot ≡ ballot_at c.election n → ((place : ℕ) → spent_by place ≡ most_of c place (n ∷ [])) → AreMost c (n + 1) new
-  most_more n ballot most new spent_by so_far raises own same = record {
-    one_each = raises.same_length ∙ so_far.one_each;
+  most_more n ballot most new spent_by so_far notes own same = record {
+    one_each = notes.same_length ∙ so_far.one_each;
     each = λ place known free.
         let test : ℕ → Bool = λ v. approves (ballot_at c.election v) place in
         let before = filter test (range_with_len 0 n) in
         let more : filter test (range_with_len 0 (n + 1)) ≡ before ++ cond (test n) (n ∷ []) [] = ap (filter test) (range_with_len_more n) ∙ filter-append test (range_with_len 0 n) (n ∷ []) in
-        raises.raised place (omega (arith, known, so_far.one_each)) free
+        notes.noted place (omega (arith, known, so_far.one_each)) free
         ∙ ap (λ b. cond b (max (slice_index most place) (spent_by place)) (slice_index most place)) (ap (λ l. approves l place) own)
         ∙ ap (λ k. cond (test n) (max k (spent_by place)) k) (so_far.each place known free)
         ∙ ap (λ k. cond (test n) (max (most_of c place before) k) (most_of c place before)) (same place)
         ∙ sym (ap (most_of c place) more ∙ most_step place n before (test n));
+    winners = λ place known won. notes.others place (omega (arith, known, so_far.one_each)) won ∙ so_far.winners place known won;
   }
 
   -- all voters

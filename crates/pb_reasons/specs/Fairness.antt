@@ -19,7 +19,8 @@ losers e c = filter (λ place. nat_lt 0 (votes_at (support_of e) place) && not (
 abbrev pub needed : SupportView → ℕ → ℕ
 needed s place = div_ceil (cost_at s place) (votes_at s place)
 
--- the most that one of them paid for elected projects that each took at most that from it (so understood)
+-- the most that one of them paid for elected projects that each took at most that from it, as `paid_within`
+-- understands it
 abbrev pub spent : Measure → SupportView → OutcomeView → ℕ → ℕ
 spent m s o place = fold
     (λ most voter. max most (paid_within m s o.share o.elected place (needed s place) voter)) 0

@@ -1,12 +1,12 @@
 //! How fair a count is to all supporters of each project that lost.
 
 ghost use Rattle.std.specs.Prelude.{◌≡◌, ◌*◌, ℕ, ◌<◌, All, IfOk, false, if◌then◌else◌, length, nat_le};
-ghost use Rattle.std.specs.Prelude.{slice_index};
+ghost use Rattle.std.specs.Prelude.{slice_index, true};
 ghost use Rattle.pb_price.specs.Supporters.{support_of};
 ghost use Rattle.pb_rounds.specs.MostVotes.{is_taken, votes_at};
 ghost use Rattle.pb_reasons.specs.Counted.{winners_of};
 ghost use Rattle.pb_reasons.specs.Fairness.{needed, spent};
-ghost use Rattle.pb_reasons.specs.Inner.Spending.{RaisesMost, within_need};
+ghost use Rattle.pb_reasons.specs.Inner.Spending.{NotesSpent, within_need};
 
 use crate::counted_election::CountedElection;
 use crate::payment::Payment;
@@ -30,7 +30,7 @@ pub fn needed(supporters: &Supporters, place: u32) -> Money
 
 /// For each project that is neither elected nor added, in the order of the file, the most that one of its
 /// supporters paid for elected projects that each took at most what this one would have cost each supporter
-/// (under measure cost, for their cost), in hundredths. Of a winner it says nothing.
+/// (under measure cost, for their cost), in hundredths; 0 for each winner.
 ///
 /// Each voter's payments are looked at once for each of the voter's choices that lost.
 pub fn most_spent(alloc: Global, count: &CountedElection) -> Result<Vec<u128>, NoMemory>
@@ -39,6 +39,8 @@ pub fn most_spent(alloc: Global, count: &CountedElection) -> Result<Vec<u128>, N
         → is_taken (winners_of count.now.counted) place ≡ false → slice_index most.items place
         ≡ spent count.now.rule.options.measure (support_of count.now.election) count.now.counted.outcome
         place) }
+    ensures winners { IfOk result (λ most. (place : ℕ) → place < length count.now.election.projects
+        → is_taken (winners_of count.now.counted) place ≡ true → slice_index most.items place ≡ 0) }
 {
     let projects = count.election().projects();
     let voters = count.election().voters();
@@ -48,18 +50,19 @@ pub fn most_spent(alloc: Global, count: &CountedElection) -> Result<Vec<u128>, N
     for position in 0..voters.len() {
         teller.tell(position as u32, &mut payments)?;
         let voter = &voters[position];
-        raise(count, voter.ballot.places(), payments.as_slice(), &mut most);
+        note_spent(count, voter.ballot.places(), payments.as_slice(), &mut most);
     }
     Ok(most)
 }
 
-/// Raises the most of each of the ballot's projects that lost to what these payments of its voter come to.
-fn raise(count: &CountedElection, ballot: &[u32], payments: &[Payment], most: &mut Vec<u128>)
+/// Notes for each of the ballot's projects that lost what these payments of its voter come to, if that is the
+/// most so far.
+fn note_spent(count: &CountedElection, ballot: &[u32], payments: &[Payment], most: &mut Vec<u128>)
     requires ballot { All (λ place. place < length count.now.election.projects) ballot.now }
     requires supported { All (λ place. 0 < votes_at (support_of count.now.election) place) ballot.now }
     requires payments { All (λ p. p.place < length count.now.election.projects) payments.now }
     requires one_each { length most.old.items ≡ length count.now.election.projects }
-    ensures { RaisesMost (winners_of count.now.counted)
+    ensures { NotesSpent (winners_of count.now.counted)
         (λ place. within_need count.now.rule.options.measure (support_of count.now.election) place payments.now)
         ballot.now most.old.items most.new.items }
 {

@@ -42,6 +42,8 @@ struct FurtherColumn {
     is_named: bool,
     /// Whether only a list of projects shows that it holds votes.
     is_of_voters: bool,
+    /// The place of the project with whose id its name ends: a 1 says that the vote names it.
+    ticks: Option<u32>,
     /// Whether it may hold votes, by all that was read.
     is_open: bool,
     /// Whether something shows that it holds votes: its name, or an id that is no number, or several ids.
@@ -64,7 +66,11 @@ pub(crate) struct BehindVote {
 
 impl BehindVote {
     /// Those among the columns with these names.
-    pub(crate) fn of(alloc: Global, names: &ByteRecord) -> Result<BehindVote, AllocError> {
+    pub(crate) fn of(
+        alloc: Global,
+        names: &ByteRecord,
+        projects: &Firsts,
+    ) -> Result<BehindVote, AllocError> {
         let mut columns = Vec::new(alloc);
         let vote = column_of(names, Column::Vote.name()).unwrap_or(0);
         let (_, voters) = places_of(names, Column::VoterId);
@@ -77,7 +83,14 @@ impl BehindVote {
             no_votes.push((holds_none, is_one_of(OF_VOTERS, name)))?;
             let is_again = has_voters && name.eq_ignore_ascii_case(Column::Vote.name());
             if place > vote && !holds_none && !is_again {
-                columns.push(FurtherColumn::of(place, name))?;
+                let ticks = name
+                    .rsplit(|c: char| !c.is_alphanumeric())
+                    .find(|word| !word.is_empty())
+                    .and_then(|word| projects.place(word));
+                columns.push(FurtherColumn {
+                    ticks,
+                    ..FurtherColumn::of(place, name)
+                })?;
             }
         }
         let beyond = FurtherColumn::of(names.len(), "");
@@ -116,7 +129,7 @@ impl BehindVote {
         };
         let odd = odd.at(place).in_form(1).named_in(header);
         let value = text_at(row.record, place);
-        if is_list(value) && row.min_length.unwrap_or(0) == 0 {
+        if is_list(value) && row.limits.min_length.unwrap_or(0) == 0 {
             let first = self.stray.unwrap_or(odd.as_a(Oddity::IdBehindVote));
             self.stray = Some(first.by(first.number.saturating_add(1)));
         }
@@ -177,6 +190,7 @@ impl FurtherColumn {
             place,
             is_named: !name.is_empty(),
             is_of_voters: is_one_of(OF_VOTERS, name),
+            ticks: None,
             is_open: true,
             is_shown: name.is_empty() || (is_of_votes(name) && !is_one_of(OF_VOTERS, name)),
             odd: None,
@@ -190,7 +204,8 @@ impl FurtherColumn {
             return false;
         }
         let value = text_at(row, odd.value_place);
-        if value.is_empty() {
+        let is_tick = |place: u32| value == "1" && ballot.binary_search(&place).is_ok();
+        if value.is_empty() || self.ticks.is_some_and(is_tick) {
             return false;
         }
         let Some(has_other) = names_other(value, ballot, projects) else {

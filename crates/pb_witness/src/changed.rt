@@ -90,6 +90,11 @@ pub fn is_calculation(text: &str) -> bool {
     is_number_on_both_sides(text.split_once(|c: char| "-+*/xX\u{d7}\u{2212}\u{2013}".contains(c)))
 }
 
+/// Whether a text has a time of day, such as `08:15`.
+pub(crate) fn has_time(text: &str) -> bool {
+    is_number_on_both_sides(text.split_once(':'))
+}
+
 /// Whether a text is a number with a power of ten, such as `1e5`.
 pub fn has_power(text: &str) -> bool {
     is_number_on_both_sides(text.split_once(|c: char| c == 'e' || c == 'E'))

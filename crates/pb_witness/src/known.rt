@@ -1,9 +1,9 @@
 //! What is known of a file in which a record was refused.
 
 use crate::cause::{Cause, cause_of};
-use crate::changed::{is_nothing, is_shortened};
+use crate::changed::{has_time, is_nothing, is_one_of, is_shortened};
 use crate::faulty_record::FaultyRecord;
-use crate::fields::bytes_at;
+use crate::fields::{bytes_at, text_at};
 use crate::mark::Mark;
 use crate::projects::Projects;
 use crate::text::Text;
@@ -13,6 +13,11 @@ use crate::witness::Witness;
 use pb_read::{ReadKind, Refusal};
 use std::alloc::AllocError;
 use std::rt::Files;
+
+/// What a log says was done to a vote.
+const DONE: &str =
+    "insert|inserted|update|updated|delete|deleted|remove|removed|cancel|canceled|cancelled|revoke|revoked|\
+    withdraw|withdrawn";
 
 /// What is found in a file when it is read again.
 #[derive(Drop)]
@@ -57,16 +62,23 @@ pub enum Repeat {
     OneId,
     /// The rows are the same.
     Copy,
+    /// The rows of a voter say what was done to the vote, as a log does.
+    Log,
+    /// The rows of a voter have different times.
+    Times,
     Unknown,
 }
 
 impl Repeat {
     /// How many reasons there are.
-    pub const COUNT: usize = 7;
+    pub const COUNT: usize = 9;
 
     /// Whether the reason is one for all rows of VOTES, and not for each of them.
     pub fn is_shared(&self) -> bool {
-        !matches!(self, Repeat::Copy | Repeat::Unknown)
+        !matches!(
+            self,
+            Repeat::Copy | Repeat::Log | Repeat::Times | Repeat::Unknown
+        )
     }
 }
 
@@ -119,10 +131,8 @@ impl Known<'_> {
             Repeat::OtherPeople
         } else if is_voter && rows.voters_repeated == 1 && rows.rows_repeated > 2 {
             Repeat::OneId
-        } else if self.is_copy(text, faulty) {
-            Repeat::Copy
         } else {
-            Repeat::Unknown
+            self.beside_earlier(text, faulty)
         }
     }
 
@@ -138,20 +148,31 @@ impl Known<'_> {
         votes
     }
 
-    /// Whether a row is the same as the earlier one with its id.
-    fn is_copy<R: Files>(&self, text: &Text<'_, R>, faulty: &FaultyRecord) -> bool {
+    /// Why a row has the id of an earlier one, by what stands in both.
+    fn beside_earlier<R: Files>(&self, text: &Text<'_, R>, faulty: &FaultyRecord) -> Repeat {
         let Some(mark) = self.earlier(&faulty.refusal) else {
-            return false;
+            return Repeat::Unknown;
         };
         let Some(records) = text.record_at(mark) else {
-            return false;
+            return Repeat::Unknown;
         };
-        let mut is_same = records.last.len() == faulty.record.len();
-        for place in 0..faulty.record.len() {
-            is_same &= bytes_at(&records.last, place) == bytes_at(&faulty.record, place);
+        let (row, earlier) = (&faulty.record, &records.last);
+        let mut is_same = earlier.len() == row.len();
+        let (mut has_times, mut is_log) = (false, false);
+        for place in 0..row.len() {
+            let differs = bytes_at(earlier, place) != bytes_at(row, place);
+            is_same &= !differs;
+            let are_times = has_time(text_at(earlier, place)) && has_time(text_at(row, place));
+            has_times |= differs && are_times;
+            is_log |= is_one_of(DONE, text_at(row, place));
         }
         drop(records);
-        is_same
+        match faulty.kind() {
+            ReadKind::RepeatedVoter if is_log => Repeat::Log,
+            _ if is_same => Repeat::Copy,
+            ReadKind::RepeatedVoter if has_times => Repeat::Times,
+            _ => Repeat::Unknown,
+        }
     }
 }
 

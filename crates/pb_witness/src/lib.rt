@@ -9,6 +9,7 @@
 
 pub mod audited;
 pub mod behind_vote;
+mod cards;
 pub mod cause;
 pub mod changed;
 pub mod desk_answer;
@@ -22,13 +23,16 @@ pub mod ids;
 pub mod keys;
 pub mod known;
 pub mod last_rows;
+mod last_vote;
 pub mod mark;
 mod meta_oddities;
 pub mod oddities;
+mod other_ids;
 pub mod page_notes;
 mod project_oddities;
 pub mod projects;
 pub mod quote;
+mod rankings;
 pub mod records;
 pub mod rows;
 pub mod rule_counts;

@@ -19,6 +19,13 @@ const NO_DISTRICT: &str =
     leftover|remaining|rest|reserve|available|previous|last|next|year|final|id|phase|code|number|no|\
     version|share|edition";
 
+/// The fewest projects of which most should not cost more than the budget.
+const MANY: usize = 5;
+
+/// What META's third column is called if it has values of keys.
+const VALUES: &str =
+    "value|values|new|new value|new_value|corrected|correction|changed|amended|final|budget|amount";
+
 /// A number of rows that a row of META says.
 #[derive(Clone, Copy)]
 struct ClaimedNumber {
@@ -28,13 +35,27 @@ struct ClaimedNumber {
     number: Option<u64>,
 }
 
+/// What META asks of ballots, beside the most projects that one may name.
+#[derive(Clone, Copy)]
+pub(crate) struct Limits {
+    /// The fewest projects.
+    pub(crate) min_length: Option<u64>,
+    /// The least and the most that its projects may cost together, in hundredths.
+    pub(crate) min_cost: Option<u64>,
+    pub(crate) max_cost: Option<u64>,
+}
+
 /// What META says; of a repeated key the last value counts.
 #[derive(Drop)]
 pub(crate) struct MetaOddities {
     alloc: Global,
     votes: Option<ClaimedNumber>,
     projects: Option<ClaimedNumber>,
-    pub(crate) min_length: Option<u64>,
+    pub(crate) limits: Limits,
+    /// Whether the third column has a name by which it holds no values of keys.
+    third_is_other: bool,
+    /// The fewest ballots that have to approve a project, where META says so.
+    pub(crate) fewest: Option<u64>,
     /// The value of `rule`; empty if there is none.
     rule: String,
     rule_mark: Mark,
@@ -54,7 +75,13 @@ impl MetaOddities {
             alloc,
             votes: None,
             projects: None,
-            min_length: None,
+            limits: Limits {
+                min_length: None,
+                min_cost: None,
+                max_cost: None,
+            },
+            third_is_other: false,
+            fewest: None,
             rule: String::new(alloc),
             rule_mark: Mark::start(),
             budget: Mark::start(),
@@ -74,6 +101,12 @@ impl MetaOddities {
         Some((rule, self.rule_mark))
     }
 
+    /// Takes META's row of column names.
+    pub(crate) fn take_names(&mut self, names: &ByteRecord) {
+        let third = text_at(names, 2);
+        self.third_is_other = !third.is_empty() && !is_one_of(VALUES, third);
+    }
+
     /// Takes a row of META, which begins here; the rows before it gave these keys.
     pub(crate) fn take(
         &mut self,
@@ -91,7 +124,8 @@ impl MetaOddities {
                 });
             }
             if used == MetaKey::Budget {
-                if row.len() > 2 && Money::read(text_at(row, 2)).is_ok() {
+                let has_third = row.len() > 2 && !self.third_is_other;
+                if has_third && Money::read(text_at(row, 2)).is_ok() {
                     found.take(Odd::of_key(Oddity::SurplusFields, mark).in_form(1).at(2));
                 }
                 self.budget = mark;
@@ -99,7 +133,13 @@ impl MetaOddities {
                 found.has_decimals |= has_decimals(value);
             }
         } else if key.eq_ignore_ascii_case("min_length") {
-            self.min_length = whole_number(value);
+            self.limits.min_length = whole_number(value);
+        } else if key.eq_ignore_ascii_case("min_sum_cost") {
+            self.limits.min_cost = hundredths(value);
+        } else if key.eq_ignore_ascii_case("max_sum_cost") {
+            self.limits.max_cost = hundredths(value);
+        } else if key.eq_ignore_ascii_case("min_project_score_threshold") {
+            self.fewest = whole_number(value);
         } else if key.eq_ignore_ascii_case("num_votes") {
             self.votes = claim_of(value, mark);
         } else if key.eq_ignore_ascii_case("num_projects") {
@@ -147,6 +187,8 @@ impl MetaOddities {
         let below = Odd::of_key(Oddity::BudgetBelowCosts, self.budget);
         if is_below_costs(election) {
             found.take(below);
+        } else if is_below_most(election) {
+            found.take(below.in_form(1));
         } else if let Some(sum) = sum_below_budget(election) {
             found.take(below.as_a(Oddity::BudgetAboveCosts).by(sum));
         }
@@ -185,6 +227,16 @@ fn is_below_costs(election: &Election) -> bool {
         }
     }
     !election.projects().is_empty()
+}
+
+/// Whether there are five projects or more, and the budget is less than what more than half of them cost.
+fn is_below_most(election: &Election) -> bool {
+    let mut above = 0usize;
+    for project in election.projects() {
+        above = above.saturating_add(usize::from(project.cost().0 > election.budget().0));
+    }
+    let count = election.projects().len();
+    count >= MANY && above.saturating_mul(2) > count
 }
 
 /// What all projects cost together, if there are any and it is less than a hundredth of the budget.
@@ -243,6 +295,14 @@ fn claim_of(value: &str, mark: Mark) -> Option<ClaimedNumber> {
         _ => whole_number(value),
     };
     Some(ClaimedNumber { mark, number })
+}
+
+/// The hundredths of the amount that a value is; none if it is no amount or 0, which sets no limit.
+fn hundredths(value: &str) -> Option<u64> {
+    match Money::read(value) {
+        Ok(Money(hundredths)) if hundredths > 0 => Some(hundredths),
+        _ => None,
+    }
 }
 
 /// The whole number that a value names, perhaps with zeros as decimals.

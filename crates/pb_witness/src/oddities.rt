@@ -8,7 +8,7 @@ use std::alloc::Global;
 /// The kinds in the order in which a check lists them. Where no record is named behind a kind, its record is
 /// the row of the project or the voter that it is about.
 const LISTED: [Oddity; 27] = [
-    Oddity::VotesMissing, // META's row
+    Oddity::VotesMissing, // META's row, or the last one
     Oddity::ProjectsMissing, // META's row
     Oddity::SurplusFields,
     Oddity::TooLongBallot,
@@ -18,7 +18,7 @@ const LISTED: [Oddity; 27] = [
     Oddity::OverBudget,
     Oddity::CommaInId,
     Oddity::ThousandsMark, // the project's row, or META's
-    Oddity::RepeatedKey, // META's row
+    Oddity::RepeatedKey, // META's row, or the project's
     Oddity::FooterRow,
     Oddity::VotesOf,
     Oddity::SelectedOf,
@@ -34,7 +34,7 @@ const LISTED: [Oddity; 27] = [
     Oddity::CutName,
     Oddity::HiddenCharacter,
     Oddity::BudgetAboveCosts, // META's row
-    Oddity::SeveralBallots, // the row of column names
+    Oddity::SeveralBallots, // the row of column names, or once a column the first row that repeats a number
 ];
 
 /// The kinds that can change a result, in the order in which a count tells them; `--strict` refuses the first.
@@ -210,6 +210,8 @@ pub struct Oddities {
     pub has_no_length: bool,
     /// How many voters the file has.
     pub voters: u64,
+    /// How many ballots are too long or too short by what their projects cost together, and not by their number.
+    pub costly: u64,
     is_whole: bool,
 }
 
@@ -236,6 +238,7 @@ impl Oddities {
             has_decimals: false,
             has_no_length: false,
             voters: 0,
+            costly: 0,
             is_whole: true,
         }
     }

@@ -7,6 +7,7 @@ use crate::firsts::Firsts;
 use crate::mark::Mark;
 use crate::meta_oddities::{has_decimals, has_thousands_mark, whole_number};
 use crate::oddities::{Odd, Oddities};
+use crate::other_ids::{IdColumns, Twins};
 use crate::valid_columns::ValidColumn;
 use csv::ByteRecord;
 use pb_core::election::Election;
@@ -64,7 +65,11 @@ pub(crate) struct ProjectOddities {
     selected: Option<usize>,
     /// Whether a column names a part of the city.
     pub(crate) has_districts: bool,
+    /// The fewest ballots that have to approve a project, where META says so.
+    fewest: Option<u64>,
     valid: Vec<ValidColumn>,
+    twins: Twins,
+    id_columns: IdColumns,
     accepted: Vec<CheckedProject>,
 }
 
@@ -74,6 +79,7 @@ impl ProjectOddities {
         alloc: Global,
         names: &ByteRecord,
         header: Mark,
+        fewest: Option<u64>,
     ) -> Result<ProjectOddities, AllocError> {
         Ok(ProjectOddities {
             alloc,
@@ -84,7 +90,10 @@ impl ProjectOddities {
             has_districts: "district|subdistrict|neighborhood|subunit"
                 .split('|')
                 .any(|word| column_of(names, word).is_some()),
+            fewest,
             valid: ValidColumn::all_of(alloc, names)?,
+            twins: Twins::new(alloc),
+            id_columns: IdColumns::of(alloc, names)?,
             accepted: Vec::new(alloc),
         })
     }
@@ -113,6 +122,8 @@ impl ProjectOddities {
                 found.take(odd.as_a(Oddity::CutName).in_form(1).at(place));
             }
         }
+        self.twins.take(row, mark, columns, found)?;
+        self.id_columns.take(row, columns.id)?;
         for column in self.valid.iter_mut() {
             let odd = odd.as_a(Oddity::ValidColumn).named_in(self.header);
             column.take(row, odd, found)?;
@@ -127,6 +138,11 @@ impl ProjectOddities {
             is_winner: false,
         })?;
         Ok(())
+    }
+
+    /// Takes the end of PROJECTS, whose accepted rows give this election.
+    pub(crate) fn end_rows(&self, election: &Election, found: &mut Oddities) {
+        self.id_columns.end(election, self.header, found);
     }
 
     /// Takes the end of a file that has a fault or not, whose accepted rows give this election.
@@ -144,10 +160,12 @@ impl ProjectOddities {
                 found.take(last.odd(Oddity::FooterRow));
             } else if place >= 2 && first.is_total && is_sum(election, 0) {
                 found.take(first.odd(Oddity::FooterRow).in_form(2));
+            } else if place >= 2 && is_total(election) {
+                found.take(last.odd(Oddity::FooterRow).in_form(4));
             }
         }
         let compares = self.votes.is_some() && !has_fault;
-        if !compares && !found.tells(Oddity::NoSupporter) {
+        if !compares && self.fewest.is_none() && !found.tells(Oddity::NoSupporter) {
             return Ok(());
         }
         let supporters = supporters_of(self.alloc, election)?;
@@ -169,6 +187,10 @@ impl ProjectOddities {
                 (Some(votes), Some(place)) if compares && votes != Some(*number) => {
                     found.take(row.odd(Oddity::VotesOf).at(place).by(*number))
                 }
+                _ if *number < self.fewest.unwrap_or(0) && !has_fault => found.take(Odd {
+                    limit: self.fewest,
+                    ..row.odd(Oddity::VotesOf).in_form(1).by(*number)
+                }),
                 _ => {}
             }
         }
@@ -246,6 +268,18 @@ fn is_sum(election: &Election, place: usize) -> bool {
         None => 0,
     };
     cost == sum.saturating_sub(cost) && !is_named(election, place)
+}
+
+/// Whether the last project's id alone says that it is a total, and no ballot approves it.
+fn is_total(election: &Election) -> bool {
+    let projects = election.projects();
+    let above = projects.len().saturating_sub(1);
+    for (place, project) in projects.iter().enumerate() {
+        if has_total(project.id()) != (place == above) {
+            return false;
+        }
+    }
+    !is_named(election, above)
 }
 
 /// Whether a ballot approves the project at this place.

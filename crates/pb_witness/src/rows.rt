@@ -9,6 +9,9 @@ pub struct VoteRows {
     /// How many rows are accepted, and how many are refused.
     pub accepted: u64,
     pub refused: u64,
+    /// How many of these name no project, and something else than words for nothing: without their unknown ids
+    /// they are empty.
+    pub(crate) emptied: u64,
     /// Whether a vote names a project that the file has.
     pub names_project: bool,
     /// The places of the voters to whom each further row belongs.
@@ -28,6 +31,7 @@ impl VoteRows {
         VoteRows {
             accepted: 0,
             refused: 0,
+            emptied: 0,
             names_project: false,
             repeated: Vec::new(alloc),
             rows_repeated: 0,
@@ -83,6 +87,11 @@ impl VoteRows {
         for voter in election.voters() {
             self.has_long |= voter.ballot.places().len() > 1;
         }
+    }
+
+    /// Whether several ballots, and more than a tenth of all, would be empty without their unknown ids.
+    pub fn would_empty(&self) -> bool {
+        self.emptied > 1 && self.emptied.saturating_mul(10) > self.count()
     }
 
     /// How many rows there are.

@@ -2,12 +2,16 @@
 
 use crate::changed::is_in_brackets;
 use crate::mark::Mark;
+use crate::meta_oddities::whole_number;
 use pb_ids::IdTable;
 use pb_read::MOST_FAULTS;
 use std::alloc::{AllocError, Global};
 
 /// So many of the refused votes are shown.
 const SHOWN: usize = 3;
+
+/// The fewest ids that are a series.
+const SERIES: u64 = 3;
 
 /// Votes that are refused for one reason.
 #[derive(Clone, Copy)]
@@ -131,6 +135,29 @@ impl UnknownIds {
             })?;
         }
         Ok(())
+    }
+
+    /// Whether the numbers of three of them, or more, follow each other from row to row, as a spreadsheet continues a
+    /// series.
+    pub fn are_series(&self) -> bool {
+        let (mut before, mut run) = (None, 0u64);
+        for unknown in &self.found {
+            let id = unknown.id.as_str();
+            let number = id.trim_start_matches(|c: char| !c.is_ascii_digit());
+            let at = unknown.votes.first[0].map_or(0, |mark| mark.at);
+            let place = whole_number(number).map(|number| (number, at));
+            let next = place.map(|(number, at)| (number.saturating_add(1), at.saturating_add(1)));
+            run = if place.is_some() && place == before {
+                run.saturating_add(1)
+            } else {
+                1
+            };
+            if run >= SERIES {
+                return true;
+            }
+            before = next;
+        }
+        false
     }
 
     /// The place of this id among those that were found.

@@ -1,6 +1,6 @@
-//! Columns that say which rows are valid, and that no count reads.
+//! Columns that say which rows are valid, or in which currency a cost is, and that no count reads.
 
-use crate::changed::{has_word, is_one_of};
+use crate::changed::{has_word, is_digits, is_one_of};
 use crate::fields::text_at;
 use crate::mark::Mark;
 use crate::oddities::{Odd, Oddities, Subject};
@@ -18,6 +18,10 @@ const BEGINNINGS: &str = "withdrawn|cancelled|invalid|removed|rejected_";
 /// What columns are called that have remarks.
 const NOTES: &str = "remark|remarks|comment|comments|note|notes";
 
+/// What columns are called that have currencies.
+const CURRENCIES: &str =
+    "currency|currencies|waluta|waehrung|währung|devise|moneda|valuta|mena|měna";
+
 /// So many remarks of a column are looked at: more are no exceptions.
 const MOST_REMARKS: u32 = 1_000;
 
@@ -31,16 +35,24 @@ const STATES: &str =
     canceled|deleted|removed|counted|not counted|void|ok|eligible|ineligible|disqualified|duplicate|\
     blank|spoiled|spoilt|tak|nie|ja|nein|oui|non|si|ano|ne|nee|y|n|t|f|x";
 
-/// A column that says which rows are valid.
+/// What a column has that no count reads.
+#[derive(Clone, Copy, PartialEq, Eq)]
+enum Has {
+    /// Which rows are valid; or something else under a name that may mean that.
+    Valid,
+    ValidOrMore,
+    Remarks,
+    Currencies,
+}
+
+/// A column that says which rows are valid, or in which currency a cost is.
 #[derive(Drop)]
 pub(crate) struct ValidColumn {
     place: usize,
-    /// Whether it has remarks, and whether it may say something else than that.
-    has_remarks: bool,
-    says_more: bool,
+    has: Has,
     /// How many remarks were looked at.
     looked: u32,
-    /// Where the section's first row begins, and what it says.
+    /// Where the section's first row begins, or the first that says something, and what it says.
     first: Option<Mark>,
     value: String,
     /// Whether a row differs from it, or has a remark.
@@ -56,6 +68,23 @@ pub(crate) fn is_of_validity(name: &str) -> bool {
     is_one_of(VALID, name) || is_one_of(NOTES, name) || BEGINNINGS.split('|').any(begins)
 }
 
+impl Has {
+    /// What a column of this name has, if it is one of these.
+    fn by(name: &str) -> Option<Has> {
+        if is_one_of(NOTES, name) {
+            Some(Has::Remarks)
+        } else if is_one_of("status|accepted|finished|completed", name) {
+            Some(Has::ValidOrMore)
+        } else if is_of_validity(name) {
+            Some(Has::Valid)
+        } else if is_one_of(CURRENCIES, name) {
+            Some(Has::Currencies)
+        } else {
+            None
+        }
+    }
+}
+
 impl ValidColumn {
     /// Those among these column names.
     pub(crate) fn all_of(
@@ -65,11 +94,10 @@ impl ValidColumn {
         let mut columns = Vec::new(alloc);
         for place in 0..names.len() {
             let name = text_at(names, place);
-            if is_of_validity(name) {
+            if let Some(has) = Has::by(name) {
                 columns.push(ValidColumn {
                     place,
-                    has_remarks: is_one_of(NOTES, name),
-                    says_more: is_one_of("status|accepted|finished|completed", name),
+                    has,
                     looked: 0,
                     first: None,
                     value: String::new(alloc),
@@ -97,7 +125,10 @@ impl ValidColumn {
         if self.differs {
             return Ok(());
         }
-        if self.has_remarks {
+        if self.has == Has::Currencies && (value.is_empty() || odd.subject != Subject::Project) {
+            return Ok(());
+        }
+        if self.has == Has::Remarks {
             if value.is_empty() || odd.subject != Subject::Voter || self.looked == MOST_REMARKS {
                 return Ok(());
             }
@@ -111,8 +142,14 @@ impl ValidColumn {
             self.value.push_str(value)?;
         } else if self.is_other(value) {
             self.differs = true;
+            let form = if self.has == Has::Currencies {
+                3
+            } else {
+                odd.form
+            };
             found.take(Odd {
                 before: self.first,
+                form,
                 ..odd
             });
         }
@@ -125,7 +162,14 @@ impl ValidColumn {
         if value.eq_ignore_ascii_case(first) {
             return false;
         }
-        let is_mark = !self.says_more && value.is_empty() != first.is_empty();
+        let is_number = |text: &str| is_digits(text) && !is_one_of("0|1", text);
+        if self.has == Has::Currencies {
+            return true;
+        }
+        if self.has == Has::ValidOrMore && (is_number(value) || is_number(first)) {
+            return false;
+        }
+        let is_mark = self.has == Has::Valid && value.is_empty() != first.is_empty();
         is_mark || is_one_of(STATES, value) || is_one_of(STATES, first)
     }
 }

@@ -1,12 +1,16 @@
 //! What is odd in VOTES.
 
 use crate::behind_vote::BehindVote;
+use crate::cards::Cards;
 use crate::changed::without_hidden;
 use crate::fields::{bytes_at, column_of, text_at};
 use crate::firsts::Firsts;
+use crate::last_vote::LastVote;
 use crate::mark::Mark;
+use crate::meta_oddities::Limits;
 use crate::oddities::{Odd, Oddities};
 use crate::project_oddities::has_total;
+use crate::rankings::Rankings;
 use crate::valid_columns::ValidColumn;
 use csv::ByteRecord;
 use pb_core::election::Election;
@@ -35,8 +39,8 @@ pub(crate) struct VoteRow<'a> {
     pub(crate) election: &'a Election,
     /// The ids of the projects, each with its place.
     pub(crate) projects: &'a Firsts,
-    /// The fewest projects that a ballot should approve, where META says so.
-    pub(crate) min_length: Option<u64>,
+    /// What META asks of it.
+    pub(crate) limits: Limits,
 }
 
 impl VoteRow<'_> {
@@ -71,8 +75,9 @@ pub(crate) struct VoteOddities {
     pub(crate) names: usize,
     numbers: Vec<NumberColumn>,
     valid: Vec<ValidColumn>,
+    cards: Cards,
     behind: BehindVote,
-    /// Whether there are columns of these three kinds of which something may still be said.
+    /// Whether there are others of these columns of which something may still be said.
     has_further: bool,
     /// The voters whose ids have such characters, and the places of their columns.
     marked: Vec<MarkedVoter>,
@@ -82,7 +87,13 @@ pub(crate) struct VoteOddities {
     last_empty: u64,
     /// The first of these last ones, and the first whose id looks like a note, with how many there are.
     first_empty: Option<Odd>,
+    /// Whether it has a text beside its id.
+    first_has_more: bool,
     first_note: Option<Odd>,
+    /// The first row whose id begins as what programs leave out, measured by how many there are.
+    left_out: Option<Odd>,
+    rankings: Rankings,
+    last: LastVote,
 }
 
 impl VoteOddities {
@@ -91,6 +102,7 @@ impl VoteOddities {
         alloc: Global,
         names: &ByteRecord,
         header: Mark,
+        projects: &Firsts,
     ) -> Result<VoteOddities, AllocError> {
         let mut numbers = Vec::new(alloc);
         for (kind, name) in NUMBERS.split('|').enumerate() {
@@ -107,14 +119,17 @@ impl VoteOddities {
             }
         }
         let valid = ValidColumn::all_of(alloc, names)?;
-        let behind = BehindVote::of(alloc, names)?;
-        let has_further = !numbers.is_empty() || !valid.is_empty() || behind.is_open();
+        let cards = Cards::of(alloc, names)?;
+        let behind = BehindVote::of(alloc, names, projects)?;
+        let has_columns = !numbers.is_empty() || !valid.is_empty();
+        let has_further = has_columns || behind.is_open();
         Ok(VoteOddities {
             alloc,
             header,
             names: names.len(),
             numbers,
             valid,
+            cards,
             behind,
             has_further,
             marked: Vec::new(alloc),
@@ -122,7 +137,11 @@ impl VoteOddities {
             empty: 0,
             last_empty: 0,
             first_empty: None,
+            first_has_more: false,
             first_note: None,
+            left_out: None,
+            rankings: Rankings::new(alloc),
+            last: LastVote::none(),
         })
     }
 
@@ -134,9 +153,15 @@ impl VoteOddities {
     ) -> Result<(), AllocError> {
         let ballot = last_ballot(row.election);
         self.take_length(row, ballot.len() as u64, found);
+        self.last.take(row);
+        let projects = row.election.projects().len();
+        if self.rankings.asks(ballot.len(), projects) {
+            self.rankings.take(text_at(row.record, row.columns.vote))?;
+        }
         if names_twice(row.record, row.columns.vote, ballot.len()) {
             found.take(row.odd(Oddity::TwiceInVote));
         }
+        self.columns = Some(row.columns);
         let id = bytes_at(row.record, row.columns.voter);
         let is_plain = is_plain_end(id.first()) && is_plain_end(id.last());
         if !is_plain && is_marked(text_at(row.record, row.columns.voter)) {
@@ -145,7 +170,14 @@ impl VoteOddities {
                 place: u32::try_from(voters).unwrap_or(u32::MAX),
                 mark: row.mark,
             })?;
-            self.columns = Some(row.columns);
+        }
+        if id.starts_with(b"#") || id.starts_with(b"//") {
+            let odd = row.odd(Oddity::NoteRows).in_form(2);
+            let first = self.left_out.unwrap_or(odd);
+            self.left_out = Some(first.by(first.number.saturating_add(1)));
+        }
+        if self.cards.is_open() {
+            self.cards.take(row.record, row.mark)?;
         }
         if self.has_further || row.record.len() > self.names {
             self.take_further(row, ballot, found)?;
@@ -184,12 +216,13 @@ impl VoteOddities {
     /// Takes a ballot of this length, which may be none, more than META allows, or less than it asks for.
     fn take_length(&mut self, row: VoteRow<'_>, length: u64, found: &mut Oddities) {
         let limit = row.election.max_length().map(u64::from);
-        found.has_no_length = row.min_length.unwrap_or(0) > limit.unwrap_or(u64::MAX);
-        if length > limit.unwrap_or(u64::MAX) {
+        found.has_no_length = row.limits.min_length.unwrap_or(0) > limit.unwrap_or(u64::MAX);
+        let is_long = length > limit.unwrap_or(u64::MAX);
+        if is_long {
             let odd = row.odd(Oddity::TooLongBallot).by(length);
             found.take(Odd { limit, ..odd });
         }
-        let limit = row.min_length;
+        let limit = row.limits.min_length;
         let mut odd = row.odd(Oddity::EmptyBallot).by(length);
         if length == 0 {
             odd = self.behind.with_stray(row, odd, self.header);
@@ -199,6 +232,8 @@ impl VoteOddities {
                 limit,
                 ..odd.as_a(Oddity::TooShortBallot)
             });
+        } else if !is_long && odd.form == 0 {
+            take_cost(row, found);
         }
         if length == 0 {
             found.take(odd);
@@ -213,13 +248,15 @@ impl VoteOddities {
         let id = text_at(row.record, row.columns.voter);
         self.empty = self.empty.saturating_add(1);
         let is_note = has_space(id) || has_total(id);
-        if odd.form > 0 || (!is_note && has_beside(row.record, row.columns.voter)) {
+        let has_more = has_beside(row.record, row.columns.voter);
+        if odd.form > 0 || (!is_note && has_more) {
             self.last_empty = 0;
             return;
         }
         self.last_empty = self.last_empty.saturating_add(1);
         if self.last_empty == 1 {
             self.first_empty = Some(odd);
+            self.first_has_more = has_more;
         }
         if is_note {
             let first = self.first_note.unwrap_or(odd);
@@ -228,10 +265,19 @@ impl VoteOddities {
     }
 
     /// Takes the end of the file, whose accepted rows give this election.
-    pub(crate) fn end(&self, election: &Election, found: &mut Oddities) -> Result<(), AllocError> {
+    pub(crate) fn end(
+        &mut self,
+        election: &Election,
+        found: &mut Oddities,
+    ) -> Result<(), AllocError> {
         let voters = election.voters().len() as u64;
+        match self.left_out {
+            Some(odd) if odd.number.saturating_mul(2) <= voters => found.take(odd),
+            _ => {}
+        }
         let are_last = self.last_empty == self.empty;
-        if let (Some(odd), true) = (self.first_empty, are_last) {
+        let is_voter = self.first_has_more && have_spaces(election);
+        if let (Some(odd), true) = (self.first_empty, are_last && !is_voter) {
             if self.empty == 1 {
                 found.take(odd.as_a(Oddity::FooterRow).in_form(1));
             } else if self.empty < voters {
@@ -242,6 +288,16 @@ impl VoteOddities {
             if !have_spaces(election) {
                 found.take(odd.as_a(Oddity::NoteRows).in_form(1));
             }
+        }
+        self.last.end(election, found);
+        let projects = election.projects().len() as u64;
+        if let (Some(columns), true) = (self.columns, self.rankings.are_rankings(projects)) {
+            let odd = Odd::of_column(Oddity::VotesWithPoints, self.header, columns.vote);
+            found.take(odd.in_form(1).by(projects));
+        }
+        if let Some(columns) = self.columns {
+            let odd = Odd::of_vote(Oddity::SeveralBallots, self.header, columns);
+            self.cards.end(odd.named_in(self.header).in_form(1), found)?;
         }
         self.behind.end(self.alloc, found)?;
         self.take_marked(election, found)
@@ -298,6 +354,32 @@ fn last_ballot(election: &Election) -> &[u32] {
     }
 }
 
+/// Takes a row whose projects cost more together than META allows, or less than it asks for.
+fn take_cost(row: VoteRow<'_>, found: &mut Oddities) {
+    let (least, most) = (row.limits.min_cost, row.limits.max_cost);
+    if least.is_none() && most.is_none() {
+        return;
+    }
+    let mut cost = 0u64;
+    for place in last_ballot(row.election) {
+        if let Some(project) = row.election.projects().get(*place as usize) {
+            cost = cost.saturating_add(project.cost().0);
+        }
+    }
+    let (odd, limit) = if cost > most.unwrap_or(u64::MAX) {
+        (row.odd(Oddity::TooLongBallot).in_form(1), most)
+    } else if cost < least.unwrap_or(0) {
+        (row.odd(Oddity::TooShortBallot).in_form(2), least)
+    } else {
+        return;
+    };
+    found.costly = found.costly.saturating_add(1);
+    found.take(Odd {
+        limit,
+        ..odd.by(cost)
+    });
+}
+
 /// Whether a row whose vote approves so many projects names more.
 fn names_twice(row: &ByteRecord, vote: usize, length: usize) -> bool {
     let mut commas = 0usize;
@@ -335,7 +417,7 @@ fn has_beside(row: &ByteRecord, place: usize) -> bool {
 }
 
 /// Whether a text has white space in it.
-fn has_space(text: &str) -> bool {
+pub(crate) fn has_space(text: &str) -> bool {
     text.contains(|c: char| c.is_whitespace())
 }
 

@@ -102,7 +102,7 @@ impl Warnings {
         }
         match part {
             Part::Other | Part::Head(_) => Ok(()),
-            Part::Names(section) => self.take_names(row, mark, section),
+            Part::Names(section) => self.take_names(row, mark, section, election),
             Part::Key => self.meta.take(row, mark, self.witness.keys(), found),
             Part::Project(columns) => {
                 self.rows.1 = self.rows.1.saturating_add(1);
@@ -127,7 +127,7 @@ impl Warnings {
                     columns,
                     election,
                     projects: &self.witness.ids.projects,
-                    min_length: self.meta.min_length,
+                    limits: self.meta.limits,
                 };
                 match &mut self.votes {
                     Some(votes) => votes.take(row, found),
@@ -152,10 +152,12 @@ impl Warnings {
         names: &ByteRecord,
         mark: Mark,
         section: Section,
+        election: &Election,
     ) -> Result<(), AllocError> {
         let found = &mut self.found;
         match section {
             Section::Meta => {
+                self.meta.take_names(names);
                 if MetaKey::of(text_at(names, 0)).is_some() {
                     found.take(Odd::of_key(Oddity::SwallowedRows, mark).in_form(1));
                 }
@@ -163,11 +165,16 @@ impl Warnings {
             Section::Projects => {
                 self.meta.end_meta(found);
                 take_repeated(names, mark, [Column::ProjectId, Column::Cost], found);
-                self.projects = Some(ProjectOddities::of(self.alloc, names, mark)?);
+                let fewest = self.meta.fewest;
+                self.projects = Some(ProjectOddities::of(self.alloc, names, mark, fewest)?);
             }
             Section::Votes => {
+                if let Some(projects) = &self.projects {
+                    projects.end_rows(election, found);
+                }
                 take_repeated(names, mark, [Column::VoterId, Column::Vote], found);
-                self.votes = Some(VoteOddities::of(self.alloc, names, mark)?);
+                let projects = &self.witness.ids.projects;
+                self.votes = Some(VoteOddities::of(self.alloc, names, mark, projects)?);
             }
         }
         Ok(())
@@ -184,7 +191,7 @@ impl Warnings {
             let ids = &self.witness.ids.projects;
             projects.end(election, self.has_fault, ids, found)?;
         }
-        match &self.votes {
+        match &mut self.votes {
             Some(votes) => votes.end(election, found),
             None => Ok(()),
         }

@@ -1,5 +1,6 @@
 //! Who looks on while a .pb file is read, and keeps what words need of what the reader refuses.
 
+use crate::changed::is_nothing;
 use crate::faulty_record::{FaultyRecord, piece_of};
 use crate::fields::text_at;
 use crate::ids::Ids;
@@ -111,12 +112,18 @@ impl Witness {
         let vote = text_at(record, columns.vote);
         match (refusal.fault.kind, refusal.piece, refusal.earlier) {
             (ReadKind::UnknownProject, Some(piece), _) => {
+                let (mut is_kept, mut is_none) = (false, true);
                 for piece in vote.split(',') {
-                    if let Some(place) = self.ids.projects.place(piece.trim()) {
+                    let piece = piece.trim();
+                    is_none &= piece.is_empty() || is_nothing(piece);
+                    if let Some(place) = self.ids.projects.place(piece) {
+                        is_kept = true;
                         self.rows.names_project = true;
                         self.rows.name(place)?;
                     }
                 }
+                let is_emptied = !is_kept && !is_none;
+                self.rows.emptied = self.rows.emptied.saturating_add(u64::from(is_emptied));
                 let id = piece_of(vote, piece);
                 let mark = Mark::of(record, u64::from(refusal.fault.at));
                 self.unknown.take(self.alloc, id, vote, mark)

@@ -31,6 +31,19 @@ const NO_VALUE: &str =
 const FOOTNOTE: &str =
     "If a mark of a footnote is behind the amount, leave it out. Write the amount with digits only, like `1200` or `1200.50`.\n";
 
+const CENTS: &str =
+    "If the two digits behind the sign are decimals, write a point in place of it, like `1200.50`. If not, ask whoever made the file which amount is meant.\n";
+
+/// Whether a value is digits, one sign, and two digits.
+fn has_cents(value: &str) -> bool {
+    let is_digit = |c: char| c.is_ascii_digit();
+    let behind = value.trim_start_matches(is_digit);
+    let cents = behind.trim_start_matches(|c: char| !c.is_ascii_digit());
+    let is_sign = !behind.starts_with(|c: char| c.is_whitespace()) && behind.chars().count() == 3;
+    let are_two = cents.len() == 2 && cents.trim_start_matches(is_digit).is_empty();
+    behind.len() < value.len() && is_sign && are_two
+}
+
 /// What to do about an amount, where more is known than that it is refused.
 pub(crate) fn amount_remedy(value: &str) -> Option<&'static str> {
     let unit = value.trim_start_matches(|c: char| c.is_ascii_digit() || " .,".contains(c));
@@ -42,6 +55,8 @@ pub(crate) fn amount_remedy(value: &str) -> Option<&'static str> {
         Some(CALCULATION)
     } else if has_power(value) {
         Some(POWER)
+    } else if has_cents(value) {
+        Some(CENTS)
     } else if is_one_of(SHORT_WORDS, unit) {
         Some(SHORT_WORD)
     } else if is_noted {

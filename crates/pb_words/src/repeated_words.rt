@@ -80,6 +80,14 @@ fn put_remedy<R>(out: &mut WordsWriter, text: &Text<R>, repeat: Repeat, kind: Re
             );
             put_clean(out, text, " --repeated-voters distinct")
         }
+        Repeat::Log => out.put(
+            "The rows seem to be a log, which says what was done to each vote. Get the votes as they are at its end: a row may take a vote away.\n",
+        ),
+        Repeat::Times => out.fill(
+            "The rows have different times. If a later vote replaces an earlier one, keep the later row. If not, find out whether they are one ballot, or those of different people.
+`pb_clean {} -o NEW.pb --repeated-voters last` keeps the last row of each voter, `merge` makes one ballot of the rows, `distinct` makes different voters.\n",
+            &[Name(text.path)],
+        ),
         Repeat::Copy => out.put("The two rows are the same. Delete one of them.\n"),
         Repeat::Unknown => {
             out.put(words_of(kind).1);

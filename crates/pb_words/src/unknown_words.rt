@@ -32,6 +32,9 @@ pub(crate) fn is_cut_code(text: &str) -> bool {
 /// Options of `pb_clean` by which it takes something out.
 const DROP_UNKNOWN: &str = " --drop-unknown";
 
+const SERIES: &str =
+    "The numbers of unknown ids follow each other from row to row. A spreadsheet may have continued a series: then get the votes again.\n";
+
 pub(crate) const DROP_ZERO_COST: &str = " --drop-zero-cost";
 
 /// What is said where an id is unknown, with the id and the line of what the cause is about in place of `{}`.
@@ -259,8 +262,11 @@ fn put_remedy<R: Files>(
         }
         _ => out.fill(remedy, &[Quoted(place.project), Number(line)]),
     }
-    if let Some(options) = clean_of(&place) {
-        put_clean(out, text, options);
+    match clean_of(&place) {
+        Some(DROP_UNKNOWN) if known.witness.rows.would_empty() => {}
+        Some(DROP_UNKNOWN) if known.witness.unknown.are_series() => out.put(SERIES),
+        Some(options) => put_clean(out, text, options),
+        None => {}
     }
 }
 
@@ -287,8 +293,14 @@ fn put_row_cause<R: Files>(
             "The row on line {}, below the heading VOTES, looks like this project. Correct that line first.\n",
             &[Number(line_of(text, mark))],
         )
-    } else if let Some(place) = faulty.moved(&known.witness.ids) {
-        put_moved(out, text, faulty, place)
+    } else if let Some((moved, place)) = moved_of(known, faulty) {
+        put_moved(out, text, moved, place);
+        let is_same = moved.mark.at == faulty.mark.at;
+        let rows = if is_same { "this row" } else { "these rows" };
+        out.fill(
+            " names projects: the fields of {} may be in another order. If so, put them below their column names. If not, ask whoever made the file.\n",
+            &[Own(rows)],
+        )
     } else {
         return false;
     }
@@ -305,16 +317,35 @@ fn late_row<R: Files>(text: &Text<R>, known: &Known, id: &str) -> Option<Mark> {
     None
 }
 
-/// Puts that the field at this place names projects, and what to do.
+/// The vote, or else another one that is refused for the same cause, in whose row another field names projects, and
+/// the place of that field.
+fn moved_of<'k>(known: &Known<'k>, faulty: &'k FaultyRecord) -> Option<(&'k FaultyRecord, usize)> {
+    let ids = &known.witness.ids;
+    if let Some(place) = faulty.moved(ids) {
+        return Some((faulty, place));
+    }
+    let cause = known.cause_of(faulty.piece())?.cause;
+    if !cause.is_shared() {
+        return None;
+    }
+    for other in known.witness.refused.as_slice() {
+        let found = known.cause_of(other.piece());
+        if other.kind() == ReadKind::UnknownProject && found.map(|it| it.cause) == Some(cause) {
+            if let Some(place) = other.moved(ids) {
+                return Some((other, place));
+            }
+        }
+    }
+    None
+}
+
+/// Puts which field of a row, the one at this place, names projects.
 fn put_moved<R: Files>(out: &mut WordsWriter, text: &Text<R>, faulty: &FaultyRecord, place: usize) {
     out.fill("{}", &[Quoted(text_at(&faulty.record, place))]);
     if let Some(records) = text.record_at(faulty.seen.names) {
         out.fill(" in column {}", &[Quoted(text_at(&records.last, place))]);
         drop(records);
     }
-    out.put(
-        " names projects: the fields of this row may be in another order. If so, put them below their column names. If not, ask whoever made the file.\n",
-    )
 }
 
 /// Puts which character of this id no project's id has, and what to do.

@@ -12,6 +12,16 @@ const STRAY_VOTE: &str = "the vote is empty, but {value} stands in column {colum
 the vote is empty, but another field of the row names projects
 If the voter chose these projects, write their ids into the column `vote`.";
 
+const TOO_COSTLY: &str =
+    "the projects of the vote {value} cost {sum} together, and `max_sum_cost` allows {most}
+the projects of the vote cost more together than `max_sum_cost` allows
+This ballot is counted. Check this key and the costs. If your rules do not allow the ballot, delete the row.";
+
+const TOO_CHEAP: &str =
+    "the projects of the vote {value} cost {sum} together, and `min_sum_cost` asks for {most}
+the projects of the vote cost less together than `min_sum_cost` asks for
+This ballot is counted. Check this key and the costs. If your rules do not allow the ballot, delete the row.";
+
 const TOO_LONG: &str = "the vote {value} names {projects}, and `max_length` allows {limit}
 the vote names {projects}, and `max_length` allows {limit}
 This ballot is counted. If your rules do not allow it, delete the row.";
@@ -31,6 +41,9 @@ If some of them are totals or notes, delete these. Otherwise correct the number.
         "{value} is not a whole number in digits; the number of vote rows in the file is {number}
 `num_votes` is wrong: the number of vote rows in the file is {number}
 Write the number in digits.",
+        "the file ends behind a comma, so it may be cut off
+the file ends behind a comma, so it may be cut off
+If it is, get the whole file again. If not, delete the comma.",
     ],
     &[
         "{value} is wrong: the number of project rows in the file is {number}
@@ -51,8 +64,8 @@ If `;` is between the ids of the vote, write `,` instead: only the ids before th
 a row of META has a third field, which is ignored
 If a `;` has cut the amount, write it in one field. If the amount there is the right one, write it into the second field, and delete the third.",
     ],
-    &[TOO_LONG],
-    &[TOO_SHORT, STRAY_VOTE],
+    &[TOO_LONG, TOO_COSTLY],
+    &[TOO_SHORT, STRAY_VOTE, TOO_CHEAP],
     &[
         "the ballot is empty
 the ballot is empty
@@ -87,6 +100,10 @@ If the point or comma separates thousands, delete it in all amounts, or run `pb_
         "this value, {value}, is used, and the one on line {line} is ignored
 a key is repeated; only the last row of a key counts
 The last row of a key counts. Delete the wrong row.",
+        "its id differs from that on line {line} only by zeros, spaces or capital letters; cost and name are the same
+two projects have ids that differ only by zeros, spaces or capital letters, with the same cost and name
+If they are one project, delete one row, and write the id of the other in all votes. If not, give them different \
+    names.",
     ],
     &[
         "its cost, {value}, is the sum of all costs above
@@ -98,11 +115,20 @@ It is counted as a voter. If it is a total or a note, delete the row.",
         "its cost, {value}, is the sum of all other costs
 the cost in the first row of PROJECTS is the sum of all other costs
 It is counted as a project. If it is a total, delete the row.",
+        "the id of this last row looks like a total or a note, but its vote names a project
+the id of the last row looks like a total or a note, but its vote names a project
+It is counted as a voter. If it is a total or a note, delete the row.",
+        "its id looks like a total, and no vote names it
+the id in the last row of PROJECTS looks like a total, and no vote names it
+It is counted as a project. If it is a total, delete the row.",
     ],
     &[
         "the column `votes` says {value}, but the number of vote rows that name the project is {number}
 the column `votes` is wrong: the number of vote rows that name the project is {number}
 If rows are missing, get the whole file again. Correct the number only if you know that every row is here.",
+        "the number of ballots for it is {number}, and `min_project_score_threshold` asks for {limit}. The key is ignored
+a project has fewer ballots than `min_project_score_threshold` asks for. The key is ignored
+If your rules do not allow the project to win, take its row out, and its id out of the votes.",
     ],
     &[
         "the column `selected` says {value}, but by this count it is {number}
@@ -113,6 +139,9 @@ Check whether the published count had other options, and whether ballots or cost
         "{value} is less than every cost, so no project can win
 the budget is less than every cost, so no project can win
 Check whether the budget lacks digits, or is in another unit than the costs (thousands, for example).",
+        "{value} is less than most costs, so most projects can't win
+the budget is less than most costs, so most projects can't win
+Check whether the budget lacks digits, or is in another unit than the costs (thousands, for example).",
     ],
     &[
         "the last {number} rows, from here on, have no vote; every row above has one
@@ -121,6 +150,9 @@ They are counted as voters. If they are totals or notes, delete these rows.",
         "the vote is empty, and the id looks like a note. This concerns {rows}
 the vote is empty, and the id looks like a note. This concerns {rows}
 It is counted as a voter. If it is a heading, a total or a note, delete the row.",
+        "the id begins with a sign by which programs leave rows out. This concerns {rows}
+the id begins with a sign by which programs leave rows out. This concerns {rows}
+It is counted as a voter. If it should be left out, delete the row. If not, write the id without the sign.",
     ],
     &[
         "a field in quotation marks runs over several lines that look like rows
@@ -152,10 +184,16 @@ If the others have values that should count, write them into the first (ids with
         "{number} columns have this name, and only the first is read
 {number} columns have the same name, and only the first is read
 If each row has several voters side by side, write a row for each of them.",
+        "it has the same ids as `project_id`, in another order, and is not read
+a column of PROJECTS has the same ids as `project_id`, in another order, and is not read
+Ask which of the two the votes mean. Call that column `project_id`, and the other one `comment`.",
     ],
     &[
         "points are ignored: every project named in a vote counts the same
 VOTES has points, which are ignored: every project named in a vote counts the same
+If your rules count points or ranks, this program can't count the file.",
+        "each vote names all {projects}, in different orders, and the order is ignored
+each vote names all projects, in different orders, and the order is ignored
 If your rules count points or ranks, this program can't count the file.",
     ],
     &[
@@ -168,6 +206,10 @@ If it says that votes are not valid, take their rows out.",
         "{value} stands in column {column}. The column is ignored: the row is counted
 a column has a remark that votes are not valid. The column is ignored: every row is counted
 If the vote is not valid, take the row out.",
+        "{value} differs from line {line} in column {column}. The column is ignored: all costs are read as one currency
+a column has different currencies. The column is ignored: all costs are read as one currency
+If the costs are in different currencies, write all of them in that of the budget. If not, write the same in all rows \
+    of the column.",
     ],
     &[
         "{value} is not counted: all projects share the amount of the key `budget`
@@ -198,5 +240,8 @@ Check whether the costs are in another unit than the budget (thousands, for exam
         "its numbers are ignored: every row is counted as one ballot
 VOTES has numbers of ballots, which are ignored: every row is counted as one ballot
 If a row stands for several ballots, write a row for each of them, with an id of its own.",
+        "{value} stands in column {column} of an earlier row too. This concerns {rows}
+a column of numbers such as that of a card has one more than once. This concerns {rows}
+Check whether one person is counted twice. If so, keep the ballot that your rules count. If not, correct the number.",
     ],
 ];

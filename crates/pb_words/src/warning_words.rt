@@ -172,7 +172,8 @@ fn is_of_length(odd: &Odd) -> bool {
 /// Puts that all ballots, or nearly all, have too many projects or too few, or that no ballot can have as many as
 /// both keys ask for, where it is so; answers whether it is.
 fn put_all_break(out: &mut WordsWriter, odd: &Odd, oddities: &Oddities) -> bool {
-    let (count, voters) = (oddities.count(odd.oddity), oddities.voters);
+    let count = oddities.count(odd.oddity).saturating_sub(oddities.costly);
+    let voters = oddities.voters;
     let are_nearly_all = count.saturating_mul(10) >= voters.saturating_mul(9);
     if voters < 2 {
         return false;
@@ -222,6 +223,7 @@ fn cause_of(oddities: &Oddities, odd: &Odd) -> Option<Oddity> {
         Oddity::VotesMissing if has_rows && are_few => Some(Oddity::SwallowedRows),
         Oddity::VotesMissing if are_beside && are_few => Some(Oddity::RepeatedColumn),
         Oddity::OverBudget if has_thousands => Some(Oddity::ThousandsMark),
+        Oddity::VotesOf if odd.form > 0 => None,
         Oddity::VotesOf if has_rows => Some(Oddity::SwallowedRows),
         Oddity::VotesOf if has_ids => Some(Oddity::IdBehindVote),
         _ => None,
@@ -289,6 +291,7 @@ fn put_known<'t>(
             ("line", Number(line)),
             ("amount", Amount(amount_of(value))),
             ("sum", Amount(odd.number)),
+            ("most", Amount(odd.limit.unwrap_or(0))),
             ("twice", Quoted(twice)),
             ("short", Quoted(value.trim_end_matches('0'))),
         ],

@@ -9,8 +9,8 @@ use Rattle.pb_reasons.proofs.Spendings.{choices_supported, most_all, most_more, 
 use Rattle.pb_reasons.proofs.Tellable.{counted_can_be_told}
 use Rattle.pb_reasons.proofs.fairness.most_spent.Goals as goal
 
-pub raise-requires-clause-supported : goal.raise-requires-clause-supported
-raise-requires-clause-supported c =
+pub note_spent-requires-clause-supported : goal.note_spent-requires-clause-supported
+note_spent-requires-clause-supported c =
     let e = c.args.count.now.election in
     let voter = c.loop-position.position in
     let voters = c.voters-voters.ensures.voters ∙ ap (λ e. e.voters) c.election-2.ensures.election in
@@ -19,8 +19,8 @@ raise-requires-clause-supported c =
     (c.places.ensures.places ∙ ap (λ (v : VoterView). v.ballot) c.voter.view_is) in
     choices_supported e voter c.election.ensures.is_counted.is_election is_voter c.places.result.now own
 
-pub raise-requires-clause-payments : goal.raise-requires-clause-payments
-raise-requires-clause-payments c =
+pub note_spent-requires-clause-payments : goal.note_spent-requires-clause-payments
+note_spent-requires-clause-payments c =
     let k = c.args.count.now in
     let voter = c.loop-position.position in
     let voters = c.voters-voters.ensures.voters ∙ ap (λ e. e.voters) c.election-2.ensures.election in
@@ -44,8 +44,8 @@ loop-position-preserved c =
     let is_counted = c.election.ensures.is_counted in
     record {
       same = c.in_ok-tell.ensures.same ∙ same;
-      most = most_more k voter c.places.result.now c.loop-position.most.items c.raise.new.most.items (λ place. within_need m s place c.as_slice.result.now)
-          c.loop-position.invariant.most c.raise.ensures own
+      most = most_more k voter c.places.result.now c.loop-position.most.items c.note_spent.new.most.items (λ place. within_need m s place c.as_slice.result.now)
+          c.loop-position.invariant.most c.note_spent.ensures own
           (λ place. ap (λ (ps : List Payment). within_need m s place ps) payments
           ∙ within_need_is m e k.counted.outcome is_counted.is_election (counted_can_be_told k is_counted) place voter is_voter ∙ omega arith);
     }
@@ -57,3 +57,11 @@ returns-clause-spent c =
     let all : c.loop-position.position ≡ length k.election.voters = omega (arith, voters, c.loop-position.auto.position-end, c.loop-position-test.false) in
     let are : AreMost k (length k.election.voters) c.loop-position.most.items = rw all at c.loop-position.invariant.most in
     most_all k c.loop-position.most.items are
+
+pub returns-clause-winners : goal.returns-clause-winners
+returns-clause-winners c =
+    let k = c.args.count.now in
+    let voters = ap length (c.voters-voters.ensures.voters ∙ ap (λ e. e.voters) c.election-2.ensures.election) in
+    let all : c.loop-position.position ≡ length k.election.voters = omega (arith, voters, c.loop-position.auto.position-end, c.loop-position-test.false) in
+    let are : AreMost k (length k.election.voters) c.loop-position.most.items = rw all at c.loop-position.invariant.most in
+    are.winners

@@ -4,9 +4,9 @@ use Rattle.std.proofs.lemmas.List.{get_or_read}
 use Rattle.pb_price.specs.Supporters.{support_of}
 use Rattle.pb_reasons.specs.Counted.{winners_of}
 use Rattle.pb_reasons.specs.Inner.Spending.{within_need}
-use Rattle.pb_reasons.proofs.Spendings.{most_kept, most_raised}
-use Rattle.pb_reasons.proofs.fairness.raise.Goals.{then-not-has_won, else-not-has_won}
-use Rattle.pb_reasons.proofs.fairness.raise.Goals as goal
+use Rattle.pb_reasons.proofs.Spendings.{most_kept, most_noted}
+use Rattle.pb_reasons.proofs.fairness.note_spent.Goals.{then-not-has_won, else-not-has_won}
+use Rattle.pb_reasons.proofs.fairness.note_spent.Goals as goal
 
 pub loop-place-preserved : goal.loop-place-preserved
 loop-place-preserved c =
@@ -19,10 +19,11 @@ loop-place-preserved c =
     let known : place < length most = omega (arith, c.loop-place.invariant.same_length, c.requires.one_each, c.requires.ballot i 0 c.loop-place-test.true) in
     elim c.if-not-has_won.branch [
       | then-not-has_won w ↦
+          let lost = sym c.has_won.ensures ∙ w.if-not-has_won.true in
           let read = get_or_read most place w.index_mut-most.result.now known w.index_mut-most.ensures.value 0 in
           let value : w.max.result ≡ max (slice_index most place) (spent_by place) =
           w.max.ensures ∙ ap (λ n. max n w.within_need-spent.result) read ∙ ap (max (slice_index most place)) w.within_need-spent.ensures in
-          rw w.most-is (most_raised (winners_of k.counted) spent_by ballot c.args.most.now.items most i place c.loop-place-test.true refl c.loop-place.invariant _ known (ap (set most place) value))
+          rw w.most-is (most_noted (winners_of k.counted) spent_by ballot c.args.most.now.items most i place c.loop-place-test.true refl c.loop-place.invariant _ known lost (ap (set most place) value))
       | else-not-has_won w ↦
           let won = sym c.has_won.ensures ∙ w.if-not-has_won.false in
           rw w.most-is (most_kept (winners_of k.counted) spent_by ballot c.args.most.now.items most i place c.loop-place-test.true refl c.loop-place.invariant won)

@@ -1,0 +1,162 @@
+//! What in PROJECTS may be mistaken for a project's id: an id that is nearly the same, and a column of other
+//! numbers.
+
+use crate::changed::{has_word, is_one_of, plain};
+use crate::fields::text_at;
+use crate::mark::Mark;
+use crate::meta_oddities::whole_number;
+use crate::oddities::{Odd, Oddities};
+use csv::ByteRecord;
+use pb_core::election::Election;
+use pb_core::money::Money;
+use pb_ids::IdTable;
+use pb_read::{Column, Oddity, ProjectColumns};
+use std::alloc::{AllocError, Global};
+
+/// The fewest projects whose ids may stand in another column too.
+const FEWEST: usize = 3;
+
+/// The longest value that may be an id in another column, in bytes.
+const LONGEST: usize = 20;
+
+/// Columns whose values are no ids, though they may be equal to them.
+const NO_IDS: &str =
+    "project_id|cost|name|category|target|votes|selected|score|points|rank|ranking|place|result|priority|\
+    comment|remark|note|latitude|longitude";
+
+/// The projects, by their ids and names in plain form.
+#[derive(Drop)]
+pub(crate) struct Twins {
+    alloc: Global,
+    places: IdTable,
+    /// Where each of them stands, and what it costs.
+    rows: Vec<(Mark, Option<Money>)>,
+}
+
+impl Twins {
+    /// No project yet.
+    pub(crate) fn new(alloc: Global) -> Twins {
+        Twins {
+            alloc,
+            places: IdTable::new(alloc),
+            rows: Vec::new(alloc),
+        }
+    }
+
+    /// Takes a project. It is odd if an earlier one has its name and its cost, and an id that differs only by
+    /// zeros before a number, white space or case.
+    pub(crate) fn take(
+        &mut self,
+        row: &ByteRecord,
+        mark: Mark,
+        columns: ProjectColumns,
+        found: &mut Oddities,
+    ) -> Result<(), AllocError> {
+        let mut key = plain(self.alloc, text_at(row, columns.id))?;
+        if let Some(name) = columns.name {
+            key.push('\n')?;
+            key.push_str(plain(self.alloc, text_at(row, name))?.as_str())?;
+        }
+        let cost = Money::read(text_at(row, columns.cost)).ok();
+        let place = u32::try_from(self.rows.len()).unwrap_or(u32::MAX);
+        let before = self.places.insert(self.alloc, key.as_str(), place)?;
+        if let Some((before, its)) = before.and_then(|it| self.rows.get(it as usize).copied()) {
+            if its == cost {
+                let odd = Odd::of_project(Oddity::RepeatedKey, mark, columns).in_form(1);
+                found.take(Odd {
+                    before: Some(before),
+                    ..odd.at(columns.id)
+                });
+            }
+        }
+        self.rows.push((mark, cost))?;
+        Ok(())
+    }
+}
+
+/// A column that may have the ids of the projects too.
+#[derive(Drop)]
+struct IdColumn {
+    place: usize,
+    /// Its values, none of which stands in it twice.
+    values: IdTable,
+    /// Whether it may have them, by all that was read, and whether a value is not the row's id.
+    is_open: bool,
+    differs: bool,
+    /// Whether its name says that it has the numbers of the ballot paper.
+    is_of_ballot: bool,
+    /// How many rows it numbers, from 1 on.
+    rows: u64,
+    numbers_rows: bool,
+}
+
+/// The columns of PROJECTS that may have the ids of the projects in another order.
+#[derive(Drop)]
+pub(crate) struct IdColumns {
+    alloc: Global,
+    columns: Vec<IdColumn>,
+}
+
+impl IdColumns {
+    /// Those among these column names.
+    pub(crate) fn of(alloc: Global, names: &ByteRecord) -> Result<IdColumns, AllocError> {
+        let mut columns = Vec::new(alloc);
+        for place in 0..names.len() {
+            let name = text_at(names, place);
+            if !is_one_of(NO_IDS, name) {
+                columns.push(IdColumn {
+                    place,
+                    values: IdTable::new(alloc),
+                    is_open: true,
+                    differs: false,
+                    is_of_ballot: has_word(name, "ballot"),
+                    rows: 0,
+                    numbers_rows: true,
+                })?;
+            }
+        }
+        Ok(IdColumns { alloc, columns })
+    }
+
+    /// Takes a project with its id at this place.
+    pub(crate) fn take(&mut self, row: &ByteRecord, id_place: usize) -> Result<(), AllocError> {
+        for column in self.columns.iter_mut() {
+            let value = text_at(row, column.place);
+            if column.is_open {
+                let is_short = !value.is_empty() && value.len() <= LONGEST;
+                column.is_open = is_short && column.values.insert(self.alloc, value, 0)?.is_none();
+                column.differs |= value != text_at(row, id_place);
+                column.rows = column.rows.saturating_add(1);
+                column.numbers_rows &= whole_number(value) == Some(column.rows);
+            }
+        }
+        Ok(())
+    }
+
+    /// Takes the end of PROJECTS, whose row of column names begins here: a column with the same ids in another
+    /// order is odd. One that numbers the rows is not, unless these are the numbers of the ballot paper.
+    pub(crate) fn end(&self, election: &Election, header: Mark, found: &mut Oddities) {
+        if election.projects().len() < FEWEST {
+            return;
+        }
+        for column in &self.columns {
+            let is_other = column.is_of_ballot || !column.numbers_rows;
+            if column.is_open && column.differs && is_other && column.has_all(election) {
+                let odd = Odd::of_column(Oddity::RepeatedColumn, header, column.place);
+                found.take(odd.in_form(2));
+            }
+        }
+    }
+}
+
+impl IdColumn {
+    /// Whether it has the id of each project.
+    fn has_all(&self, election: &Election) -> bool {
+        for project in election.projects() {
+            if self.values.get(project.id()).is_none() {
+                return false;
+            }
+        }
+        true
+    }
+}
