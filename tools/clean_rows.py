@@ -480,9 +480,10 @@ class Cleaner:
     def clean_repeated(self, name, rows, voters, voter, vote):
         """Joins the rows of a voter, keeps one of them, or makes different voters of them."""
         (first, *more), what, way = rows, '--repeated-voters', self.given.repeated_voters
-        done = (it for row in rows for it in map(seen, row.fields) if it.lower() in DONE)
-        for it in itertools.islice(done, 1):
-            self.refuse(first, 'log', shown(it))
+        for said in zip(*(map(seen, row.fields) for row in rows)):
+            done = {it.lower() for it in said}
+            if len(done) > 1 and done & {*DONE}:
+                self.refuse(first, 'log', shown(next(it for it in said if it.lower() in DONE)))
         if self.is_long:
             what, way = 'rows joined', 'merge'
         elif way and len(name) > 15 and name.isdigit() and not name[15:].strip('0'):

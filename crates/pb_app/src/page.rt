@@ -31,7 +31,7 @@ pub(crate) fn page<'a, R: System, W: Write>(
     writer: &mut W,
     seen: &mut Warnings,
 ) -> Result<(), RunRefusal>
-    ensures ok { OnOk result ((e : ElectionView) × HasWritten (IsPageBy run.now.counting.rule.now e)
+    ensures ok { OnOk result ((e : ElectionView) × HasWritten (IsPageBy asked.now run.now.counting.rule.now e)
         (W.contents writer.old) (W.contents writer.new)) }
     ensures unchanged { IfErr result (λ refusal.
         refusal ≢ RunRefusal.Fault AppFault.Write → writer.new ≡ writer.old) }
@@ -60,7 +60,7 @@ fn write_page<'a, R: System, W: Write>(
     watch: &mut KeepingWatch<'_, Warnings, PageNotes>,
     writer: &mut W,
 ) -> Result<(), AppFault>
-    ensures ok { OnOk result ((e : ElectionView) × HasWritten (IsPageBy run.now.counting.rule.now e)
+    ensures ok { OnOk result ((e : ElectionView) × HasWritten (IsPageBy maker.now.run run.now.counting.rule.now e)
         (W.contents writer.old) (W.contents writer.new)) }
     ensures unchanged { IfErr result (λ fault. fault ≢ AppFault.Write → writer.new ≡ writer.old) }
 {

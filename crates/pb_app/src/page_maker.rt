@@ -1,7 +1,7 @@
 //! Who makes a page of a count.
 
-ghost use Rattle.std.specs.Prelude.{IfOk};
-ghost use Rattle.pb_app.specs.Inner.Page.{IsPageBy};
+ghost use Rattle.std.specs.Prelude.{◌≡◌, IfOk, IfSome};
+ghost use Rattle.pb_app.specs.Inner.Page.{AreAsked, IsPageBy};
 
 use crate::keeping_watch::KeepingWatch;
 use crate::tongue::Tongue;
@@ -55,7 +55,7 @@ impl<S: Tongue> PageMaker<'_, S> {
         watch: &KeepingWatch<'_, H, PageNotes>,
         count: &CountedElection,
     ) -> Result<Vec<u8>, NoMemory>
-        ensures { IfOk result (λ text. IsPageBy count.now.rule count.now.election text.items) }
+        ensures { IfOk result (λ text. IsPageBy self.now.run count.now.rule count.now.election text.items) }
     {
         let notes = &watch.keeper;
         if !notes.is_whole() {
@@ -82,11 +82,11 @@ fn page_with<'a, T: Threads + Sync, G: Gate, S: Tongue>(
     speech: &'a S,
     seen: &'a SeenOfFile<'a>,
 ) -> Result<Vec<u8>, NoMemory>
-    ensures { IfOk result (λ text. IsPageBy count.now.rule count.now.election text.items) }
+    ensures { IfOk result (λ text. IsPageBy seen.now.run count.now.rule count.now.election text.items) }
 {
     let (rt, alloc, gate) = (counting.rt, counting.alloc, counting.gate);
     let said = speech.said(alloc, currency_of(seen))?;
-    let title = seen.run.title.unwrap_or(said.title);
+    let title = said.title;
     let language = said.language(is_whole(count.election()));
     let facts = facts_of(seen, title, language);
     let page = page_of(rt, alloc, gate, count, &facts);
@@ -105,15 +105,17 @@ fn currency_of<'a>(seen: &'a SeenOfFile<'a>) -> Option<&'a str> {
     }
 }
 
-/// What the page says beside the outcome, with this title and in this language.
-fn facts_of<'a>(seen: &'a SeenOfFile<'a>, title: &'a str, language: Language<'a>) -> Facts<'a> {
+/// What the page says beside the outcome, in this language, which has this title for a page without one.
+fn facts_of<'a>(seen: &'a SeenOfFile<'a>, title: &'a str, language: Language<'a>) -> Facts<'a>
+    ensures { AreAsked seen.now.run result }
+{
     let run = &seen.run;
     let journal = match (&run.ballots.journal, &seen.journal) {
         (Some(source), Some(digest)) => Some(read_text_of(source, Some(digest))),
         _ => None,
     };
     Facts {
-        title,
+        title: title_of(run, title),
         file: read_text_of(&run.ballots.file, seen.file.as_ref()),
         journal,
         recount: run.recount,
@@ -121,6 +123,16 @@ fn facts_of<'a>(seen: &'a SeenOfFile<'a>, title: &'a str, language: Language<'a>
         categories: categories_of(seen),
         program: PROGRAM,
         language,
+    }
+}
+
+/// The title that was asked for, or else this one.
+fn title_of<'a>(run: &PageRun<'a>, own: &'a str) -> &'a str
+    ensures { IfSome run.now.title (λ title. result ≡ title) }
+{
+    match run.title {
+        Some(title) => title,
+        None => own,
     }
 }
 

@@ -16,7 +16,8 @@ use pb_witness::page_notes::PageNotes;
 use std::io::{Read, Write};
 use std::thread::Threads;
 
-/// Reads an election, counts it by the rule, and writes the page that this one makes of the count.
+/// Reads an election, counts it by the rule, and writes the page that this one makes of the count, as its run
+/// asks.
 ///
 /// The file is refused before the journal, the journal before an open desk, and that before the options.
 /// Nothing is written but the whole page. Where the fault is `Write` some of the page may have gone out; on
@@ -36,13 +37,13 @@ pub(crate) fn run_page<
     writer: &mut W,
     maker: &PageMaker<'_, S>,
 ) -> Result<(), AppFault>
-    ensures runs { Runs (Gives (IsPageBy counting.now.rule.now))
+    ensures runs { Runs (Gives (IsPageBy maker.now.run counting.now.rule.now))
         (CountRefuses counting.now.rule.now.options) (P.remaining inputs.file)
         (known J.remaining inputs.journal)
         (H.refused_for watch.new.warnings.now) W.contents writer.old writer.new result }
 
     // Whether or not the bytes are known that were read.
-    ensures written { OnOk result ((e : ElectionView) × HasWritten (IsPageBy counting.now.rule.now e)
+    ensures written { OnOk result ((e : ElectionView) × HasWritten (IsPageBy maker.now.run counting.now.rule.now e)
         (W.contents writer.old) (W.contents writer.new)) }
 {
     let count = match count_inputs(counting, inputs, watch) {

@@ -15,7 +15,7 @@ use pb_commands::{AppFault, Demand, Digests, Table, write_digested, write_out};
 use pb_core::gate::NoGate;
 use pb_faults::RunText;
 use pb_read::read_pb;
-use pb_streams::{LineCount, Shown, open_both, open_shown};
+use pb_streams::{Hex, LineCount, Shown, open_both, open_shown};
 use pb_witness::warnings::Warnings;
 use std::io::Write;
 use std::mem;
@@ -131,18 +131,28 @@ fn write_below_digests<R: System, W: Write>(
     report: &[u8],
     writer: &mut W,
 ) -> Result<(), AppFault> {
-    let Some(file) = run.kinship.file.get() else {
-        return write_out(writer, report, AppFault::Write);
-    };
-    let journal = run.kinship.journal.get();
-    let digests = Digests {
-        file: file.text(),
-        journal: match &journal {
-            Some(digest) => Some(digest.text()),
-            None => None,
+    let (file, journal) = (run.kinship.file.get(), run.kinship.journal.get());
+    match &file {
+        Some(file) => {
+            let digests = digests_of(file, journal.as_ref());
+            write_digested(run.counting.alloc, &digests, report, writer)
+        }
+        None => write_out(writer, report, AppFault::Write),
+    }
+}
+
+/// The digests of a .pb file and of a journal, as texts.
+fn digests_of<'x>(file: &'x Hex, journal: Option<&'x Hex>) -> Digests<'x> {
+    match journal {
+        Some(journal) => Digests {
+            file: file.text(),
+            journal: Some(journal.text()),
         },
-    };
-    write_digested(run.counting.alloc, &digests, report, writer)
+        None => Digests {
+            file: file.text(),
+            journal: None,
+        },
+    }
 }
 
 /// Writes the report of an audit, and notes how many entries have which answer.

@@ -21,7 +21,7 @@ mod text_source;
 pub use command_line::PROGRAM;
 pub use parse::Parsed;
 pub use task::{
-    Admits, Asked, AuditRun, Ballots, BallotsRun, CheckRun, CompareRun, CountRun, DeskRun, OneChange,
-    PageRun, ServeRun, Task, WhatIfRun,
+    Admits, Asked, AuditRun, Ballots, BallotsRun, CheckRun, CompareRun, CountRun, DeskRun,
+    OneChange, PageRun, ServeRun, Task, WhatIfRun,
 };
 pub use text_source::TextSource;

@@ -8,10 +8,8 @@ mod Characters
 mod Texts
 mod Delimiters
 mod Ends
-mod Pours
 mod Shows
 mod ShowsPlaces
-mod Nested
 mod ShowsTables
 mod ShowsRest
 mod PageShown

@@ -1,7 +1,7 @@
 //! Columns of VOTES with numbers of which each voter has one, such as that of a card: twice the same may be a
 //! voter who is counted twice.
 
-use crate::changed::{has_word, is_one_of};
+use crate::changed::{has_digit, has_word, is_one_of};
 use crate::fields::text_at;
 use crate::mark::Mark;
 use crate::meta_oddities::whole_number;
@@ -14,8 +14,14 @@ use std::alloc::{AllocError, Global};
 /// Words in the names of such columns.
 const CARDS: &str = "card|ballot|receipt|serial|token|slip|ticket|coupon|envelope|pesel|passport";
 
-/// Words in a name that make it no such column.
-const NO_CARDS: &str = "time|date|day|hour|at|on|type|station|box|place";
+/// What a name has that is of no such column, within a word or as a whole one.
+const NO_CARDS: &str =
+    "time|date|day|hour|minute|stamp|type|station|box|place|street|language|submitted|created";
+
+const NO_CARD_WORDS: &str = "at|on|ip|raw";
+
+/// The most columns that are looked at.
+const MOST_COLUMNS: usize = 4;
 
 /// After so many values it is asked whether nearly all differ.
 const ENOUGH: usize = 1_000;
@@ -57,7 +63,8 @@ impl Cards {
         for place in 0..names.len() {
             let name = text_at(names, place);
             let is_id = name.eq_ignore_ascii_case(Column::VoterId.name());
-            if is_of_cards(name) && !is_id && !is_one_of(NUMBERS, name) {
+            let has_room = columns.len() < MOST_COLUMNS;
+            if has_room && is_of_cards(name) && !is_id && !is_one_of(NUMBERS, name) {
                 columns.push(CardColumn {
                     place,
                     first: String::new(alloc),
@@ -107,7 +114,7 @@ impl Cards {
 impl CardColumn {
     /// Takes the value of the row that begins here.
     fn take(&mut self, alloc: Global, value: &str, mark: Mark) -> Result<(), AllocError> {
-        if value.is_empty() {
+        if !is_card_number(value) {
             return Ok(());
         }
         if self.hashes.is_empty() {
@@ -144,14 +151,14 @@ impl CardColumn {
             return Ok(Repeated { count, first });
         }
         for (hash, mark) in self.hashes.iter().zip(&self.marks) {
-            let Ok(place) = twice.binary_search(hash) else {
-                continue;
-            };
-            if seen[place] {
-                count = count.saturating_add(1);
-                first = first.or(Some(*mark));
+            let place = twice.binary_search(hash).unwrap_or(usize::MAX);
+            if let Some(was_seen) = seen.get_mut(place) {
+                if *was_seen {
+                    count = count.saturating_add(1);
+                    first = first.or(Some(*mark));
+                }
+                *was_seen = true;
             }
-            seen[place] = true;
         }
         Ok(Repeated { count, first })
     }
@@ -182,7 +189,17 @@ impl CardColumn {
 fn is_of_cards(name: &str) -> bool {
     let mut words = name.split(|c: char| !c.is_alphanumeric());
     CARDS.split('|').any(|word| has_word(name, word))
-        && !words.any(|word| is_one_of(NO_CARDS, word))
+        && !NO_CARDS.split('|').any(|word| has_word(name, word))
+        && !words.any(|word| is_one_of(NO_CARD_WORDS, word))
+}
+
+/// Whether a value may be the number of a card: it has a digit, and at most one sign, as no time or address has.
+fn is_card_number(value: &str) -> bool {
+    let mut signs = 0u64;
+    for c in value.chars() {
+        signs = signs.saturating_add(u64::from(!c.is_alphanumeric()));
+    }
+    signs <= 1 && has_digit(value)
 }
 
 /// The hash of a value, by FNV-1a.

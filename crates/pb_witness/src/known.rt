@@ -164,7 +164,9 @@ impl Known<'_> {
             is_same &= !differs;
             let are_times = has_time(text_at(earlier, place)) && has_time(text_at(row, place));
             has_times |= differs && are_times;
-            is_log |= is_one_of(DONE, text_at(row, place));
+            let is_done = is_one_of(DONE, text_at(earlier, place))
+                || is_one_of(DONE, text_at(row, place));
+            is_log |= differs && is_done;
         }
         drop(records);
         match faulty.kind() {

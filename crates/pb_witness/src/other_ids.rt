@@ -19,10 +19,16 @@ const FEWEST: usize = 3;
 /// The longest value that may be an id in another column, in bytes.
 const LONGEST: usize = 20;
 
-/// Columns whose values are no ids, though they may be equal to them.
-const NO_IDS: &str =
-    "project_id|cost|name|category|target|votes|selected|score|points|rank|ranking|place|result|priority|\
-    comment|remark|note|latitude|longitude";
+/// The most columns that are looked at.
+const MOST_COLUMNS: usize = 16;
+
+/// What the name of a column has that may be of the numbers of a ballot paper; and words in that of one that may
+/// be of other ids, and of one that is not.
+const BALLOT: &str = "ballot";
+
+const IDS: &str = "id|ids|no|nr|number|code";
+
+const NO_IDS: &str = "of|related|parent|order|rank|score|vote|votes|page|district";
 
 /// The projects, by their ids and names in plain form.
 #[derive(Drop)]
@@ -43,8 +49,8 @@ impl Twins {
         }
     }
 
-    /// Takes a project. It is odd if an earlier one has its name and its cost, and an id that differs only by
-    /// zeros before a number, white space or case.
+    /// Takes a project. One with a name is odd if an earlier one has its name and its cost, and an id that differs
+    /// only by zeros before a number, white space or case.
     pub(crate) fn take(
         &mut self,
         row: &ByteRecord,
@@ -52,11 +58,16 @@ impl Twins {
         columns: ProjectColumns,
         found: &mut Oddities,
     ) -> Result<(), AllocError> {
-        let mut key = plain(self.alloc, text_at(row, columns.id))?;
-        if let Some(name) = columns.name {
-            key.push('\n')?;
-            key.push_str(plain(self.alloc, text_at(row, name))?.as_str())?;
+        let name = match columns.name {
+            Some(place) => text_at(row, place),
+            None => "",
+        };
+        if name.is_empty() {
+            return Ok(());
         }
+        let mut key = plain(self.alloc, text_at(row, columns.id))?;
+        key.push('\n')?;
+        key.push_str(plain(self.alloc, name)?.as_str())?;
         let cost = Money::read(text_at(row, columns.cost)).ok();
         let place = u32::try_from(self.rows.len()).unwrap_or(u32::MAX);
         let before = self.places.insert(self.alloc, key.as_str(), place)?;
@@ -103,13 +114,13 @@ impl IdColumns {
         let mut columns = Vec::new(alloc);
         for place in 0..names.len() {
             let name = text_at(names, place);
-            if !is_one_of(NO_IDS, name) {
+            if columns.len() < MOST_COLUMNS && may_be_ids(name) {
                 columns.push(IdColumn {
                     place,
                     values: IdTable::new(alloc),
                     is_open: true,
                     differs: false,
-                    is_of_ballot: has_word(name, "ballot"),
+                    is_of_ballot: has_word(name, BALLOT),
                     rows: 0,
                     numbers_rows: true,
                 })?;
@@ -159,4 +170,17 @@ impl IdColumn {
         }
         true
     }
+}
+
+/// Whether a column of this name may have ids of the projects.
+fn may_be_ids(name: &str) -> bool {
+    let (mut is_of_ids, mut is_other) = (
+        false,
+        name.eq_ignore_ascii_case(Column::ProjectId.name()),
+    );
+    for word in name.split(|c: char| !c.is_alphanumeric()) {
+        is_of_ids |= is_one_of(IDS, word);
+        is_other |= is_one_of(NO_IDS, word);
+    }
+    has_word(name, BALLOT) || (is_of_ids && !is_other)
 }

@@ -153,17 +153,7 @@ impl ProjectOddities {
         projects: &Firsts,
         found: &mut Oddities,
     ) -> Result<(), AllocError> {
-        if let (Some(first), Some(last)) = (self.accepted.first(), self.accepted.last()) {
-            let place = self.accepted.len().saturating_sub(1);
-            let fewest = if last.is_total { 2 } else { MANY };
-            if place >= fewest && is_sum(election, place) {
-                found.take(last.odd(Oddity::FooterRow));
-            } else if place >= 2 && first.is_total && is_sum(election, 0) {
-                found.take(first.odd(Oddity::FooterRow).in_form(2));
-            } else if place >= 2 && is_total(election) {
-                found.take(last.odd(Oddity::FooterRow).in_form(4));
-            }
-        }
+        self.take_total(election, found);
         let compares = self.votes.is_some() && !has_fault;
         if !compares && self.fewest.is_none() && !found.tells(Oddity::NoSupporter) {
             return Ok(());
@@ -196,6 +186,22 @@ impl ProjectOddities {
         }
         drop(supporters);
         Ok(())
+    }
+
+    /// Takes the first or the last row if it is probably a total.
+    fn take_total(&self, election: &Election, found: &mut Oddities) {
+        let (Some(first), Some(last)) = (self.accepted.first(), self.accepted.last()) else {
+            return;
+        };
+        let place = self.accepted.len().saturating_sub(1);
+        let fewest = if last.is_total { 2 } else { MANY };
+        if place >= fewest && is_sum(election, place) {
+            found.take(last.odd(Oddity::FooterRow));
+        } else if place >= 2 && first.is_total && is_sum(election, 0) {
+            found.take(first.odd(Oddity::FooterRow).in_form(2));
+        } else if place >= 2 && is_total(election) {
+            found.take(last.odd(Oddity::FooterRow).in_form(4));
+        }
     }
 
     /// Compares what the column `selected` says with a count that elects or adds the projects at these

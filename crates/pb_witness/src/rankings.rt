@@ -39,7 +39,7 @@ impl Rankings {
         if self.count == 1 {
             return self.first.push_str(vote);
         }
-        if !self.differ {
+        if !self.differ && vote != self.first.as_str() {
             let (one, other) = (self.first.split(','), vote.split(','));
             self.differ = one
                 .zip(other)

@@ -34,12 +34,13 @@ const FOOTNOTE: &str =
 const CENTS: &str =
     "If the two digits behind the sign are decimals, write a point in place of it, like `1200.50`. If not, ask whoever made the file which amount is meant.\n";
 
-/// Whether a value is digits, one sign, and two digits.
+/// Whether a value is digits, one sign that is no letter, and two digits.
 fn has_cents(value: &str) -> bool {
     let is_digit = |c: char| c.is_ascii_digit();
     let behind = value.trim_start_matches(is_digit);
     let cents = behind.trim_start_matches(|c: char| !c.is_ascii_digit());
-    let is_sign = !behind.starts_with(|c: char| c.is_whitespace()) && behind.chars().count() == 3;
+    let is_other = |c: char| c.is_whitespace() || c.is_alphanumeric() || c == '_';
+    let is_sign = !behind.starts_with(is_other) && behind.chars().count() == 3;
     let are_two = cents.len() == 2 && cents.trim_start_matches(is_digit).is_empty();
     behind.len() < value.len() && is_sign && are_two
 }

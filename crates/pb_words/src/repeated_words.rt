@@ -16,6 +16,17 @@ use std::rt::Files;
 pub(crate) const JOIN: &str =
     "Join the rows of each voter to one row, with `,` between the ids of the projects.\n";
 
+/// What to do about ids that say that there is none, about a log, and about rows with different times.
+const NO_IDS: &str =
+    "Programs write this where a value is missing: these rows have no ids. Get the ids again, as text.\n";
+
+const LOG: &str =
+    "The rows seem to be a log, which says what was done to each vote. Get the votes as they are at its end: a row may take a vote away.\n";
+
+const TIMES: &str =
+    "The rows have different times. If a later vote replaces an earlier one, keep the later row. If not, find out whether they are one ballot, or those of different people.
+`pb_clean {} -o NEW.pb --repeated-voters last` keeps the row of each voter that stands last in the file, `merge` makes one ballot of the rows, `distinct` makes different voters.\n";
+
 /// What to do about copies of rows.
 const COPIES: &str = "Each of these rows is a copy of an earlier one. Delete the copies.\n";
 
@@ -60,9 +71,7 @@ fn put_remedy<R>(out: &mut WordsWriter, text: &Text<R>, repeat: Repeat, kind: Re
         Repeat::Shortened => out.put(
             "A spreadsheet shortened the ids, so no project can be told from another. Get the ids again, as text, in the votes too.\n",
         ),
-        Repeat::Nothing => out.put(
-            "Programs write this where a value is missing: these rows have no ids. Get the ids again, as text.\n",
-        ),
+        Repeat::Nothing => out.put(NO_IDS),
         Repeat::ByProject => {
             out.put("VOTES has a row for each voter and project. ");
             out.put(JOIN);
@@ -80,14 +89,8 @@ fn put_remedy<R>(out: &mut WordsWriter, text: &Text<R>, repeat: Repeat, kind: Re
             );
             put_clean(out, text, " --repeated-voters distinct")
         }
-        Repeat::Log => out.put(
-            "The rows seem to be a log, which says what was done to each vote. Get the votes as they are at its end: a row may take a vote away.\n",
-        ),
-        Repeat::Times => out.fill(
-            "The rows have different times. If a later vote replaces an earlier one, keep the later row. If not, find out whether they are one ballot, or those of different people.
-`pb_clean {} -o NEW.pb --repeated-voters last` keeps the last row of each voter, `merge` makes one ballot of the rows, `distinct` makes different voters.\n",
-            &[Name(text.path)],
-        ),
+        Repeat::Log => out.put(LOG),
+        Repeat::Times => out.fill(TIMES, &[Name(text.path)]),
         Repeat::Copy => out.put("The two rows are the same. Delete one of them.\n"),
         Repeat::Unknown => {
             out.put(words_of(kind).1);

@@ -263,8 +263,8 @@ fn put_remedy<R: Files>(
         _ => out.fill(remedy, &[Quoted(place.project), Number(line)]),
     }
     match clean_of(&place) {
-        Some(DROP_UNKNOWN) if known.witness.rows.would_empty() => {}
         Some(DROP_UNKNOWN) if known.witness.unknown.are_series() => out.put(SERIES),
+        Some(DROP_UNKNOWN) if known.witness.rows.would_empty() => {}
         Some(options) => put_clean(out, text, options),
         None => {}
     }

@@ -41,8 +41,8 @@ If some of them are totals or notes, delete these. Otherwise correct the number.
         "{value} is not a whole number in digits; the number of vote rows in the file is {number}
 `num_votes` is wrong: the number of vote rows in the file is {number}
 Write the number in digits.",
-        "the file ends behind a comma, so it may be cut off
-the file ends behind a comma, so it may be cut off
+        "only this last vote ends behind a comma, so the file may be cut off
+only the last vote ends behind a comma, so the file may be cut off
 If it is, get the whole file again. If not, delete the comma.",
     ],
     &[
@@ -100,8 +100,8 @@ If the point or comma separates thousands, delete it in all amounts, or run `pb_
         "this value, {value}, is used, and the one on line {line} is ignored
 a key is repeated; only the last row of a key counts
 The last row of a key counts. Delete the wrong row.",
-        "its id differs from that on line {line} only by zeros, spaces or capital letters; cost and name are the same
-two projects have ids that differ only by zeros, spaces or capital letters, with the same cost and name
+        "its id differs from that on line {line} only by zeros, points, spaces or capital letters; cost and name are the same
+two projects have ids that differ only by zeros, points, spaces or capital letters, with the same cost and name
 If they are one project, delete one row, and write the id of the other in all votes. If not, give them different \
     names.",
     ],

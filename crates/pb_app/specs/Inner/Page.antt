@@ -1,12 +1,18 @@
 -- A page of a count.
-use Rattle.std.specs.Prelude.{◌≡◌, ℕ, List}
+use Rattle.std.specs.Prelude.{◌≡◌, ℕ, List, IfSome}
+use Rattle.pb_command_line.specs.declared.task.PageRun.{PageRun}
 use Rattle.pb_core.specs.Election.{ElectionView}
 use Rattle.pb_page.specs.Page.{IsPage}
 use Rattle.pb_page.specs.declared.facts.Facts.{Facts}
 use Rattle.pb_reasons.specs.CountedElection.{CountedElectionView, IsCountedElection}
 use Rattle.pb_rounds.specs.declared.rule.Rule.{Rule}
 
--- the text is the page of a count of the election by this rule, with some facts
-abbrev pub IsPageBy : Rule → ElectionView → List ℕ → Type 0
-IsPageBy rule e text = (x : CountedElectionView) × IsCountedElection x × (x.rule ≡ rule) × (x.election ≡ e)
-    × (facts : Facts) × IsPage x facts text
+-- the facts are as the run asks: the title if one is given, the page that recounts, and the comparison
+abbrev pub AreAsked : PageRun → Facts → Type 0
+AreAsked run facts = IfSome run.title (λ title. facts.title ≡ title)
+    × (facts.recount ≡ run.recount) × (facts.compares ≡ run.compares)
+
+-- the text is the page of a count of the election by this rule, with facts that are as the run asks
+abbrev pub IsPageBy : PageRun → Rule → ElectionView → List ℕ → Type 0
+IsPageBy run rule e text = (x : CountedElectionView) × IsCountedElection x × (x.rule ≡ rule) × (x.election ≡ e)
+    × (facts : Facts) × AreAsked run facts × IsPage x facts text
