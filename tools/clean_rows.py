@@ -53,7 +53,8 @@ NO = {*'0 no n false f non nein nie ne nej não nao'.split()}
 NEEDED = 'budget', 'vote_type', 'max_length'
 KEY = re.compile(rf'({"|".join(NEEDED)})\s*[:=]\s*(.*)', re.I)
 # Rows of one field: why they are refused, and how they look.
-SHORT = [('left out', r'^(\.\.\.|…)|\bmore rows\b|\bomitted\b|\bshowing \d+ to\b'),
+SHORT = [('conflict', r'^(<<<<<<<|=======$|>>>>>>>)'),
+         ('left out', r'^(\.\.\.|…)|\bmore rows\b|\bomitted\b|\bshowing \d+ to\b'),
          ('other separator', '[,\t]')]
 
 # Why a file or a row is refused. First the faults that `check` lists, by their names.
@@ -66,11 +67,13 @@ WORDS = {
     'MissingKey': 'META needs budget;AMOUNT and vote_type;approval',
     'VoteType': 'only approval ballots are counted; if each voter picks one project, name `--single-choice`',
     'BadMoney': 'an amount is digits, with at most one point or comma: no currency, no minus, no letters, no '
-        'footnotes; write it in full (`12k` may be 12000, `12$50` may be 12.50)',
+        'footnotes; write it in full (`12k` may be 12000, `12$50` may be 12.50); if a word such as `net`, `each` or '
+        '`a year` is beside it, ask for the whole cost',
     'MoneyTooFine': 'more than two decimals: if that is meant, name `--round half-up`, `down` or `up`',
     'MoneyTooLarge': 'the amount has too many digits',
     'ZeroCost': 'the cost is 0: write it, or drop the project and the votes for it by `--drop-zero-cost`',
-    'EmptyId': 'the id is empty: fill it in; if the row is a total or a note, delete it',
+    'EmptyId': 'the id is empty: fill it in (that of the voter above, if the row is part of that ballot); if the '
+        'row is a total or a note, delete it',
     'RepeatedProject': 'an earlier row has the same project id: two projects need two ids, also in the votes',
     'RepeatedVoter': 'an earlier row has the same voter id: if they are different people, name '
         '`--repeated-voters distinct`; if one row is valid, `first` or `last`; if it is one ballot, `merge`',
@@ -80,6 +83,8 @@ WORDS = {
         'VOTES: make a file of each election',
     'open mark': 'here a quotation mark is not closed, or is too many',
     'above': 'the row stands above META or the column names: delete a title; move anything else below',
+    'conflict': 'it is a mark of a merge conflict: two versions of rows are there: ask which is right, and keep '
+        'that one alone',
     'left out': 'it says that rows were left out: get the whole file',
     'other separator': 'it is one field: if `,` or tabs separate its fields, write `;`, but keep the `,` '
         'between the ids of a vote; if it is a heading or a note, delete it',
@@ -120,7 +125,7 @@ WORDS = {
     'no commas': 'it is made of ids whose commas are lost: get the votes again, as text',
     'date': 'a spreadsheet made a date of the id {}: get PROJECTS again',
     'name': 'it is the name of the project {}, or a part of it: if this project is meant, write its id',
-    'no vote': 'no vote names a project: PROJECTS may be of another election, or its ids were changed',
+    'no vote': 'no vote names a project: PROJECTS may be of another election, or ids were changed or coded',
     'no form': 'it is not like the ids of PROJECTS, so it is never dropped: ask what it means; if a program '
         'changed it, get the votes again, as text; if the row has titles or notes, delete it',
     'tail': 'only the last rows name it, and no project: if the file is cut off, get it again; if they are '
@@ -491,7 +496,7 @@ class Cleaner:
             return
         if way == 'merge':
             others = [{*map(seen, row.fields[:vote] + row.fields[vote + 1:])} for row in rows]
-            self.others += [row for row, other in zip(rows, others) if other != others[0]]
+            self.others += [row for row, other in zip(rows, others) if not other - {''} <= others[0]]
             said = {it for other in others for it in other ^ others[0] if it.lower() in NO}
             if self.is_long and said:
                 self.refuse(first, 'says no', shown(min(said)))

@@ -1,6 +1,6 @@
 //! Ids of projects that stand behind the vote, where no count reads them.
 
-use crate::changed::{has_digit, has_word, is_digits, is_one_of};
+use crate::changed::{has_digit, has_one_of, has_part, is_digits, is_one_of};
 use crate::fields::{column_of, text_at};
 use crate::firsts::Firsts;
 use crate::mark::Mark;
@@ -18,7 +18,8 @@ const OTHERS: &str = "voter_id|comment|remark|remarks|note|notes|against|rejecte
 /// Columns that hold none unless they have lists of projects, though their values may be as ids are.
 const OF_VOTERS: &str =
     "age|age_group|sex|gender|voting_method|channel|station|polling_station|ward|district|\
-    subdistrict|neighborhood|unit|subunit|education|votes";
+    subdistrict|neighborhood|unit|subunit|education|votes|class|school_class|klasa|form|group|\
+    year_group|team|house|building";
 
 /// Words in the name of a column that holds votes.
 const OF_VOTES: &str = "vote|choice|second|third|preference|project|option|selection";
@@ -130,8 +131,7 @@ impl BehindVote {
         let odd = odd.at(place).in_form(1).named_in(header);
         let value = text_at(row.record, place);
         if is_list(value) && row.limits.min_length.unwrap_or(0) == 0 {
-            let first = self.stray.unwrap_or(odd.as_a(Oddity::IdBehindVote));
-            self.stray = Some(first.by(first.number.saturating_add(1)));
+            self.stray = Some(odd.as_a(Oddity::IdBehindVote).behind(self.stray));
         }
         odd
     }
@@ -175,11 +175,7 @@ impl BehindVote {
             Some(stray) if !has_place(&all, stray.value_place) => all.push(stray)?,
             _ => {}
         }
-        all.sort_by_key(|odd: &Odd| odd.mark.at)?;
-        for odd in &all {
-            found.take(*odd);
-        }
-        Ok(())
+        found.take_in_order(all)
     }
 }
 
@@ -215,11 +211,10 @@ impl FurtherColumn {
         if self.is_named && !has_other {
             return false;
         }
-        let first = self.odd.unwrap_or(odd);
-        let number = first.number.saturating_add(1);
-        self.odd = Some(first.by(number));
+        let first = odd.behind(self.odd);
+        self.odd = Some(first);
         self.is_shown |= value.contains(',') || (is_list(value) && !self.is_of_voters);
-        self.is_open = self.is_shown || number < MOST_SINGLE;
+        self.is_open = self.is_shown || first.number < MOST_SINGLE;
         true
     }
 }
@@ -231,10 +226,7 @@ fn has_place(all: &[Odd], place: usize) -> bool {
 
 /// Whether a column's name says that it holds votes.
 fn is_of_votes(name: &str) -> bool {
-    let has_other = name
-        .split(|c: char| !c.is_alphanumeric())
-        .any(|word| is_one_of(OF_NO_VOTES, word));
-    !has_other && OF_VOTES.split('|').any(|word| has_word(name, word))
+    !has_one_of(OF_NO_VOTES, name) && has_part(OF_VOTES, name)
 }
 
 /// Whether a text that names projects is several ids, or one with a digit and another character.

@@ -1,13 +1,14 @@
 //! Columns of VOTES with numbers of which each voter has one, such as that of a card: twice the same may be a
 //! voter who is counted twice.
 
-use crate::changed::{has_digit, has_word, is_one_of};
+use crate::changed::{has_digit, has_one_of, has_part, is_one_of};
 use crate::fields::text_at;
 use crate::mark::Mark;
 use crate::meta_oddities::whole_number;
 use crate::oddities::{Odd, Oddities};
 use crate::vote_oddities::NUMBERS;
 use csv::ByteRecord;
+use pb_ids::IdTable;
 use pb_read::Column;
 use std::alloc::{AllocError, Global};
 
@@ -24,27 +25,21 @@ const NO_CARD_WORDS: &str = "at|on|ip|raw";
 const MOST_COLUMNS: usize = 4;
 
 /// After so many values it is asked whether nearly all differ.
-const ENOUGH: usize = 1_000;
+const ENOUGH: u64 = 1_000;
 
 /// Of so many values one may stand in an earlier row.
 const OF: u64 = 4;
-
-/// How many values an earlier row has, and where the first such row begins.
-#[derive(Clone, Copy)]
-struct Repeated {
-    count: u64,
-    first: Option<Mark>,
-}
 
 /// A column with such numbers.
 #[derive(Drop)]
 struct CardColumn {
     place: usize,
-    /// The first value.
-    first: String,
-    /// Of each value its hash of 64 bits, by which values are taken for the same, and where its row begins.
-    hashes: Vec<u64>,
-    marks: Vec<Mark>,
+    /// The values, of which the first has the place 0, and how many were read.
+    values: IdTable,
+    count: u64,
+    /// How many of them an earlier row has, and where the first such row begins.
+    repeated: u64,
+    again: Option<Mark>,
     /// Whether something may be said of it, by all that was read.
     is_open: bool,
 }
@@ -67,9 +62,10 @@ impl Cards {
             if has_room && is_of_cards(name) && !is_id && !is_one_of(NUMBERS, name) {
                 columns.push(CardColumn {
                     place,
-                    first: String::new(alloc),
-                    hashes: Vec::new(alloc),
-                    marks: Vec::new(alloc),
+                    values: IdTable::new(alloc),
+                    count: 0,
+                    repeated: 0,
+                    again: None,
                     is_open: true,
                 })?;
             }
@@ -97,17 +93,12 @@ impl Cards {
     pub(crate) fn end(&self, odd: Odd, found: &mut Oddities) -> Result<(), AllocError> {
         let mut all = Vec::new(self.alloc);
         for column in &self.columns {
-            let repeated = column.repeated(self.alloc)?;
-            if let (Some(mark), true) = (repeated.first, column.nearly_all_differ(repeated)) {
+            if let (Some(mark), true) = (column.again, column.nearly_all_differ()) {
                 let odd = Odd { mark, ..odd };
-                all.push(odd.at(column.place).by(repeated.count))?;
+                all.push(odd.at(column.place).by(column.repeated))?;
             }
         }
-        all.sort_by_key(|odd: &Odd| odd.mark.at)?;
-        for odd in &all {
-            found.take(*odd);
-        }
-        Ok(())
+        found.take_in_order(all)
     }
 }
 
@@ -117,20 +108,24 @@ impl CardColumn {
         if !is_card_number(value) {
             return Ok(());
         }
-        if self.hashes.is_empty() {
-            self.first.push_str(value)?;
-        } else if value == self.first.as_str() {
-            self.is_open = !self.numbers_anew(value);
+        match self.values.get(value) {
+            Some(place) => {
+                self.repeated = self.repeated.saturating_add(1);
+                self.again = self.again.or(Some(mark));
+                self.is_open = place > 0 || !self.numbers_anew(value);
+            }
+            None => {
+                let place = u32::from(self.count > 0);
+                let _ = self.values.insert(alloc, value, place)?;
+            }
         }
-        self.hashes.push(hash_of(value))?;
-        self.marks.push(mark)?;
-        if self.hashes.len() == ENOUGH {
-            let repeated = self.repeated(alloc)?;
-            self.is_open &= self.nearly_all_differ(repeated);
+        self.count = self.count.saturating_add(1);
+        if self.count == ENOUGH {
+            self.is_open &= self.nearly_all_differ();
         }
         if !self.is_open {
-            self.hashes = Vec::new(alloc);
-            self.marks = Vec::new(alloc);
+            self.values = IdTable::new(alloc);
+            self.again = None;
         }
         Ok(())
     }
@@ -138,59 +133,18 @@ impl CardColumn {
     /// Whether a value that is also the first one begins to number the rows anew, as a second station does.
     fn numbers_anew(&self, value: &str) -> bool {
         let number = value.trim_start_matches(|c: char| !c.is_ascii_digit());
-        whole_number(number).unwrap_or(u64::MAX) <= self.hashes.len() as u64
-    }
-
-    /// How many values an earlier row has, and where the first such row begins.
-    fn repeated(&self, alloc: Global) -> Result<Repeated, AllocError> {
-        let twice = self.twice(alloc)?;
-        let mut seen = Vec::new(alloc);
-        seen.resize(twice.len(), false)?;
-        let (mut count, mut first) = (0u64, None);
-        if twice.is_empty() {
-            return Ok(Repeated { count, first });
-        }
-        for (hash, mark) in self.hashes.iter().zip(&self.marks) {
-            let place = twice.binary_search(hash).unwrap_or(usize::MAX);
-            if let Some(was_seen) = seen.get_mut(place) {
-                if *was_seen {
-                    count = count.saturating_add(1);
-                    first = first.or(Some(*mark));
-                }
-                *was_seen = true;
-            }
-        }
-        Ok(Repeated { count, first })
-    }
-
-    /// The hashes that stand more than once, in order.
-    fn twice(&self, alloc: Global) -> Result<Vec<u64>, AllocError> {
-        let mut all = Vec::new(alloc);
-        all.extend_from_slice(self.hashes.as_slice())?;
-        all.sort_unstable();
-        let mut twice = Vec::new(alloc);
-        let mut before = None;
-        for hash in all.iter().copied() {
-            if before == Some(hash) && twice.last() != Some(&hash) {
-                twice.push(hash)?;
-            }
-            before = Some(hash);
-        }
-        Ok(twice)
+        whole_number(number).unwrap_or(u64::MAX) <= self.count
     }
 
     /// Whether at most one of four values is one that an earlier row has.
-    fn nearly_all_differ(&self, repeated: Repeated) -> bool {
-        repeated.count.saturating_mul(OF) <= self.hashes.len() as u64
+    fn nearly_all_differ(&self) -> bool {
+        self.repeated.saturating_mul(OF) <= self.count
     }
 }
 
 /// Whether a column's name says that it has such numbers.
 fn is_of_cards(name: &str) -> bool {
-    let mut words = name.split(|c: char| !c.is_alphanumeric());
-    CARDS.split('|').any(|word| has_word(name, word))
-        && !NO_CARDS.split('|').any(|word| has_word(name, word))
-        && !words.any(|word| is_one_of(NO_CARD_WORDS, word))
+    has_part(CARDS, name) && !has_part(NO_CARDS, name) && !has_one_of(NO_CARD_WORDS, name)
 }
 
 /// Whether a value may be the number of a card: it has a digit, and at most one sign, as no time or address has.
@@ -200,13 +154,4 @@ fn is_card_number(value: &str) -> bool {
         signs = signs.saturating_add(u64::from(!c.is_alphanumeric()));
     }
     signs <= 1 && has_digit(value)
-}
-
-/// The hash of a value, by FNV-1a.
-fn hash_of(value: &str) -> u64 {
-    let mut hash = 0xcbf2_9ce4_8422_2325u64;
-    for byte in value.as_bytes() {
-        hash = (hash ^ u64::from(*byte)).wrapping_mul(0x0000_0100_0000_01b3);
-    }
-    hash
 }

@@ -66,8 +66,9 @@ pub enum Cause {
     Mail,
     /// It has a character that no id of a project has.
     OddLetter,
-    /// No vote names a project.
+    /// No vote names a project; and some end as codes in base64 do.
     OtherElection,
+    Coded,
     /// None is known: no id has its form, or one has it nearly, or exactly.
     OtherForm,
     Near,
@@ -116,6 +117,9 @@ pub(crate) fn cause_of(
     has_columns: bool,
 ) -> Result<(Cause, Option<u32>), AllocError> {
     let id = unknown.id.as_str();
+    if witness.are_coded() {
+        return Ok((Cause::Coded, None));
+    }
     match plain_cause(id, &witness.ids, projects, has_columns) {
         Some(Cause::Nothing) if unknown.is_beside && id == "0" => return Ok((Cause::Places, None)),
         Some(Cause::Nothing) if unknown.is_beside => return Ok((Cause::Beside, None)),

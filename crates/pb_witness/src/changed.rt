@@ -69,6 +69,31 @@ pub(crate) fn has_word(text: &str, word: &str) -> bool {
     false
 }
 
+/// Whether a text has one of these words in it, also as a part of a longer one, in any case.
+pub(crate) fn has_part(words: &str, text: &str) -> bool {
+    words.split('|').any(|word| has_word(text, word))
+}
+
+/// Whether one of the words of a text is one of these, in any case.
+pub fn has_one_of(words: &str, text: &str) -> bool {
+    text.split(|c: char| !c.is_alphanumeric())
+        .any(|word| is_one_of(words, word))
+}
+
+/// Whether a text begins with this word, in any case.
+pub(crate) fn begins(text: &str, word: &str) -> bool {
+    match text.as_bytes().get(..word.len()) {
+        Some(start) => start.eq_ignore_ascii_case(word.as_bytes()),
+        None => false,
+    }
+}
+
+/// Whether a text is a code in base64 that ends with `=`.
+pub(crate) fn is_base64(text: &str) -> bool {
+    let is_other = |c: char| !c.is_ascii_alphanumeric() && !"+/=".contains(c);
+    text.ends_with('=') && text.len() > 4 && text.len() % 4 == 0 && !text.contains(is_other)
+}
+
 /// A text without what is neither a letter nor a digit.
 pub(crate) fn letters_of(alloc: Global, text: &str) -> Result<String, AllocError> {
     let mut out = String::new(alloc);

@@ -140,6 +140,13 @@ impl FaultyRecord {
         }
     }
 
+    /// Whether it is a mark of a merge conflict, between two versions of some rows.
+    pub fn is_conflict(&self) -> bool {
+        let line = text_at(&self.record, 0);
+        let is_side = line.starts_with("<<<<<<<") || line.starts_with(">>>>>>>");
+        self.record.len() == 1 && (is_side || line == "=======")
+    }
+
     /// Whether it is the column names of a row for each voter and project.
     pub fn is_by_project(&self) -> bool {
         self.kind() == ReadKind::MissingColumn
@@ -390,9 +397,10 @@ impl FaultyRecord {
     }
 }
 
-/// Whether the last field of a row ends with `=`.
+/// Whether the last field of a row ends with `=` behind something else.
 fn is_broken(row: &ByteRecord) -> bool {
-    text_at(row, row.len().saturating_sub(1)).ends_with('=')
+    let field = text_at(row, row.len().saturating_sub(1));
+    field.ends_with('=') && field.contains(|c: char| c != '=')
 }
 
 /// Whether two ids have the same text before their numbers, and are as long as each other.

@@ -1,6 +1,7 @@
 //! The heads of a .pb file's sections: rows that seem to be meant as one, and META's head where it comes
 //! late.
 
+use crate::changed::is_one_of;
 use crate::faulty_record::is_hidden;
 use crate::fields::{joined, text_at};
 use crate::mark::Mark;
@@ -47,12 +48,9 @@ pub fn head_of(section: Section) -> &'static str {
 
 /// Whether a word is a section's head.
 pub(crate) fn is_head(word: &str) -> bool {
-    for section in SECTIONS {
-        if word.eq_ignore_ascii_case(head_of(section)) {
-            return true;
-        }
-    }
-    false
+    SECTIONS
+        .iter()
+        .any(|section| word.eq_ignore_ascii_case(head_of(*section)))
 }
 
 /// The section that is read at a stage.
@@ -67,12 +65,8 @@ pub fn section_of(stage: &Stage) -> Section {
 
 /// Whether a word is a column that a section needs.
 pub(crate) fn is_column(word: &str) -> bool {
-    for column in COLUMNS {
-        if word.eq_ignore_ascii_case(column.name()) {
-            return true;
-        }
-    }
-    word.eq_ignore_ascii_case("key") || word.eq_ignore_ascii_case("value")
+    let is_it = |column: &Column| word.eq_ignore_ascii_case(column.name());
+    is_one_of("key|value", word) || COLUMNS.iter().any(is_it)
 }
 
 /// The head that a record seems to be meant as, where it is none: punctuation stands beside a section's name,

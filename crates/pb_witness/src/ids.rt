@@ -103,12 +103,7 @@ impl Ids {
 
     /// Whether a piece of a text names a project.
     pub(crate) fn have_one(&self, vote: &str) -> bool {
-        for piece in vote.split(',') {
-            if self.projects.has(piece.trim()) {
-                return true;
-            }
-        }
-        false
+        vote.split(',').any(|piece| self.projects.has(piece.trim()))
     }
 
     /// Whether column names are ids of several projects.

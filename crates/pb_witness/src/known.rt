@@ -51,6 +51,8 @@ pub struct Known<'i> {
 /// Why a row has the id of an earlier one.
 #[derive(Clone, Copy, PartialEq, Eq)]
 pub enum Repeat {
+    /// The file has marks of a merge conflict.
+    Conflict,
     /// A spreadsheet shortened the ids.
     Shortened,
     /// The id says that there is none.
@@ -71,7 +73,7 @@ pub enum Repeat {
 
 impl Repeat {
     /// How many reasons there are.
-    pub const COUNT: usize = 9;
+    pub const COUNT: usize = 10;
 
     /// Whether the reason is one for all rows of VOTES, and not for each of them.
     pub fn is_shared(&self) -> bool {
@@ -121,7 +123,9 @@ impl Known<'_> {
     pub fn repeat_of<R: Files>(&self, text: &Text<'_, R>, faulty: &FaultyRecord) -> Repeat {
         let rows = &self.witness.rows;
         let is_voter = faulty.kind() == ReadKind::RepeatedVoter;
-        if is_shortened(faulty.id()) {
+        if self.witness.refused.iter().any(|other| other.is_conflict()) {
+            Repeat::Conflict
+        } else if is_shortened(faulty.id()) {
             Repeat::Shortened
         } else if is_nothing(faulty.id()) {
             Repeat::Nothing

@@ -1,6 +1,6 @@
 //! What in META can change a result, and what META says that other warnings rest on.
 
-use crate::changed::is_one_of;
+use crate::changed::{begins, has_one_of, is_one_of};
 use crate::fields::text_at;
 use crate::keys::Keys;
 use crate::mark::Mark;
@@ -26,6 +26,20 @@ const MANY: usize = 5;
 const VALUES: &str =
     "value|values|new|new value|new_value|corrected|correction|changed|amended|final|budget|amount";
 
+/// The usual keys of how many rows there are; and these beside others.
+const USUAL: &str = "num_votes|num_projects";
+
+const VOTES: &str = "num_votes|num_vote|numvotes|number_of_votes|no_of_votes|number_votes";
+
+const PROJECTS: &str =
+    "num_projects|num_project|numprojects|number_of_projects|no_of_projects|number_projects";
+
+/// How `max_length` and `min_length` are misspelled.
+const MISSPELLED: &str =
+    "max_lenght|max_lengh|max_lengt|max_lenth|max_legth|max_leght|max_lenghth|max_lengths|max_len|\
+    maxlength|maxlenght|max-length|max length|min_lenght|min_lengh|min_lengt|min_lenth|min_legth|\
+    min_leght|min_lenghth|min_lengths|min_len|minlength|minlenght|min-length|min length";
+
 /// A number of rows that a row of META says.
 #[derive(Clone, Copy)]
 struct ClaimedNumber {
@@ -33,6 +47,8 @@ struct ClaimedNumber {
     mark: Mark,
     /// None where the value is no whole number; the largest `u64` for one above every amount.
     number: Option<u64>,
+    /// Whether the key is the usual one.
+    is_usual: bool,
 }
 
 /// What META asks of ballots, beside the most projects that one may name.
@@ -140,10 +156,12 @@ impl MetaOddities {
             self.limits.max_cost = hundredths(value);
         } else if key.eq_ignore_ascii_case("min_project_score_threshold") {
             self.fewest = whole_number(value);
-        } else if key.eq_ignore_ascii_case("num_votes") {
-            self.votes = claim_of(value, mark);
-        } else if key.eq_ignore_ascii_case("num_projects") {
-            self.projects = claim_of(value, mark);
+        } else if is_one_of(VOTES, key) {
+            self.votes = claim_of(self.votes, key, value, mark);
+        } else if is_one_of(PROJECTS, key) {
+            self.projects = claim_of(self.projects, key, value, mark);
+        } else if is_one_of(MISSPELLED, key) {
+            found.take(Odd::of_key(Oddity::RepeatedKey, mark).in_form(2));
         } else if key.eq_ignore_ascii_case("rule") {
             let rule = String::from_str(self.alloc, value)?;
             drop(mem::replace(&mut self.rule, rule));
@@ -182,7 +200,16 @@ impl MetaOddities {
         has_districts: bool,
         found: &mut Oddities,
     ) {
-        take_broken(Oddity::VotesMissing, self.votes, rows.0, found);
+        let (approvals, is_whole) = (approvals_of(election), !found.refuses_votes);
+        let may_be = |claim: &ClaimedNumber| {
+            claim.is_usual || (is_whole && claim.number != Some(approvals))
+        };
+        take_broken(
+            Oddity::VotesMissing,
+            self.votes.filter(may_be),
+            rows.0,
+            found,
+        );
         take_broken(Oddity::ProjectsMissing, self.projects, rows.1, found);
         let below = Odd::of_key(Oddity::BudgetBelowCosts, self.budget);
         if is_below_costs(election) {
@@ -239,12 +266,18 @@ fn is_below_most(election: &Election) -> bool {
     count >= MANY && above.saturating_mul(2) > count
 }
 
-/// What all projects cost together, if there are any and it is less than a hundredth of the budget.
-fn sum_below_budget(election: &Election) -> Option<u64> {
+/// What all projects cost together.
+pub(crate) fn sum_of_costs(election: &Election) -> u64 {
     let mut sum = 0u64;
     for project in election.projects() {
         sum = sum.saturating_add(project.cost().0);
     }
+    sum
+}
+
+/// What all projects cost together, if there are any and it is less than a hundredth of the budget.
+fn sum_below_budget(election: &Election) -> Option<u64> {
+    let sum = sum_of_costs(election);
     let is_below = 0 < sum && sum.saturating_mul(100) < election.budget().0;
     if is_below { Some(sum) } else { None }
 }
@@ -258,21 +291,8 @@ fn is_of_budget(key: &str) -> bool {
 
 /// Whether a key has a word, or the number of a year, that makes it no budget of a district.
 fn is_of_no_district(key: &str) -> bool {
-    for word in key.split(|c: char| !c.is_alphanumeric()) {
-        let is_year = matches!(whole_number(word), Some(1900..=2100));
-        if is_year || is_one_of(NO_DISTRICT, word) {
-            return true;
-        }
-    }
-    false
-}
-
-/// Whether a key begins with a word, in any case.
-fn begins(key: &str, word: &str) -> bool {
-    match key.as_bytes().get(..word.len()) {
-        Some(start) => start.eq_ignore_ascii_case(word.as_bytes()),
-        None => false,
-    }
+    let is_year = |word: &str| matches!(whole_number(word), Some(1900..=2100));
+    has_one_of(NO_DISTRICT, key) || key.split(|c: char| !c.is_alphanumeric()).any(is_year)
 }
 
 /// Whether a value is amounts, with `,` between them.
@@ -285,16 +305,37 @@ fn are_amounts(value: &str) -> bool {
     true
 }
 
-/// What a value claims whose record begins here; the empty one claims nothing.
-fn claim_of(value: &str, mark: Mark) -> Option<ClaimedNumber> {
-    if value.is_empty() {
-        return None;
-    }
+/// What is claimed after a value of this key, whose record begins here. An empty value claims nothing; that of an
+/// unusual key claims something only if it is a whole number, and the usual key does not.
+fn claim_of(
+    before: Option<ClaimedNumber>,
+    key: &str,
+    value: &str,
+    mark: Mark,
+) -> Option<ClaimedNumber> {
+    let is_usual = is_one_of(USUAL, key);
     let number = match Money::read(value) {
         Err(MoneyFault::MoneyTooLarge) => Some(u64::MAX),
         _ => whole_number(value),
     };
-    Some(ClaimedNumber { mark, number })
+    match before {
+        Some(claim) if !is_usual && claim.is_usual => before,
+        _ if value.is_empty() || (!is_usual && number.is_none()) => None,
+        _ => Some(ClaimedNumber {
+            mark,
+            number,
+            is_usual,
+        }),
+    }
+}
+
+/// How many approvals all ballots have.
+fn approvals_of(election: &Election) -> u64 {
+    let mut sum = 0u64;
+    for voter in election.voters() {
+        sum = sum.saturating_add(voter.ballot.places().len() as u64);
+    }
+    sum
 }
 
 /// The hundredths of the amount that a value is; none if it is no amount or 0, which sets no limit.

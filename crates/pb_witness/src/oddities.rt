@@ -3,7 +3,7 @@
 use crate::mark::Mark;
 use pb_core::no_memory::NoMemory;
 use pb_read::{Oddity, Part, ProjectColumns, VoteColumns, Warning, WarningRow};
-use std::alloc::Global;
+use std::alloc::{AllocError, Global};
 
 /// The kinds in the order in which a check lists them. Where no record is named behind a kind, its record is
 /// the row of the project or the voter that it is about.
@@ -190,6 +190,12 @@ impl Odd {
     pub fn by(self, number: u64) -> Odd {
         Odd { number, ..self }
     }
+
+    /// The first of several rows that are odd so, measured by how many there are: it, or the one before it.
+    pub(crate) fn behind(self, before: Option<Odd>) -> Odd {
+        let first = before.unwrap_or(self.by(0));
+        first.by(first.number.saturating_add(1))
+    }
 }
 
 /// What was found: so many odd records of each kind at most, and how many there are of each.
@@ -204,6 +210,8 @@ pub struct Oddities {
     firsts: [u64; COUNT],
     /// Whether the file has no row of VOTES, as that of a desk that has not opened.
     pub has_no_votes: bool,
+    /// Whether a row of VOTES was refused, which may have named a project that no other row names.
+    pub(crate) refuses_votes: bool,
     /// Whether the budget or a cost has one or two decimals.
     pub has_decimals: bool,
     /// Whether `min_length` is more than `max_length`.
@@ -235,6 +243,7 @@ impl Oddities {
             counts: [0; COUNT],
             firsts: [0; COUNT],
             has_no_votes: false,
+            refuses_votes: false,
             has_decimals: false,
             has_no_length: false,
             voters: 0,
@@ -258,6 +267,16 @@ impl Oddities {
         if self.counts[place] <= self.most && self.found.push(odd).is_err() {
             self.is_whole = false;
         }
+    }
+
+    /// Takes these, by where they stand.
+    pub(crate) fn take_in_order(&mut self, mut all: Vec<Odd>) -> Result<(), AllocError> {
+        let sorted = all.sort_by_key(|odd: &Odd| odd.mark.at);
+        for odd in &all {
+            self.take(*odd);
+        }
+        drop(all);
+        sorted
     }
 
     /// Says that memory was refused.

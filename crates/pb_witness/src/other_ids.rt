@@ -1,7 +1,7 @@
-//! What in PROJECTS may be mistaken for a project's id: an id that is nearly the same, and a column of other
-//! numbers.
+//! What in PROJECTS may be mistaken for a project's id or cost: an id that is nearly the same, a column of other
+//! numbers, and one of other costs.
 
-use crate::changed::{has_word, is_one_of, plain};
+use crate::changed::{has_one_of, has_word, plain};
 use crate::fields::text_at;
 use crate::mark::Mark;
 use crate::meta_oddities::whole_number;
@@ -29,6 +29,12 @@ const BALLOT: &str = "ballot";
 const IDS: &str = "id|ids|no|nr|number|code";
 
 const NO_IDS: &str = "of|related|parent|order|rank|score|vote|votes|page|district";
+
+/// What the name of a column has that may be of costs, and words in that of one that may have later ones.
+const COST: &str = "cost";
+
+const LATER: &str =
+    "after|corrected|correction|verified|verification|revised|updated|new|amended|changed";
 
 /// The projects, by their ids and names in plain form.
 #[derive(Drop)]
@@ -101,19 +107,38 @@ struct IdColumn {
     numbers_rows: bool,
 }
 
-/// The columns of PROJECTS that may have the ids of the projects in another order.
+/// A column that may have later costs.
+#[derive(Clone, Copy)]
+struct CostColumn {
+    place: usize,
+    /// Whether all its values are amounts, or empty, and how many of them are the cost, and not.
+    is_open: bool,
+    same: u64,
+    other: u64,
+}
+
+/// The columns of PROJECTS that may have the ids of the projects in another order, or later costs.
 #[derive(Drop)]
 pub(crate) struct IdColumns {
     alloc: Global,
     columns: Vec<IdColumn>,
+    costs: Vec<CostColumn>,
 }
 
 impl IdColumns {
     /// Those among these column names.
     pub(crate) fn of(alloc: Global, names: &ByteRecord) -> Result<IdColumns, AllocError> {
-        let mut columns = Vec::new(alloc);
+        let (mut columns, mut costs) = (Vec::new(alloc), Vec::new(alloc));
         for place in 0..names.len() {
             let name = text_at(names, place);
+            if has_word(name, COST) && has_one_of(LATER, name) {
+                costs.push(CostColumn {
+                    place,
+                    is_open: true,
+                    same: 0,
+                    other: 0,
+                })?;
+            }
             if columns.len() < MOST_COLUMNS && may_be_ids(name) {
                 columns.push(IdColumn {
                     place,
@@ -126,17 +151,29 @@ impl IdColumns {
                 })?;
             }
         }
-        Ok(IdColumns { alloc, columns })
+        Ok(IdColumns {
+            alloc,
+            columns,
+            costs,
+        })
     }
 
-    /// Takes a project with its id at this place.
-    pub(crate) fn take(&mut self, row: &ByteRecord, id_place: usize) -> Result<(), AllocError> {
+    /// Takes a project.
+    pub(crate) fn take(
+        &mut self,
+        row: &ByteRecord,
+        columns: ProjectColumns,
+    ) -> Result<(), AllocError> {
+        let cost = Money::read(text_at(row, columns.cost)).ok();
+        for column in self.costs.iter_mut() {
+            column.take(text_at(row, column.place), cost);
+        }
         for column in self.columns.iter_mut() {
             let value = text_at(row, column.place);
             if column.is_open {
                 let is_short = !value.is_empty() && value.len() <= LONGEST;
                 column.is_open = is_short && column.values.insert(self.alloc, value, 0)?.is_none();
-                column.differs |= value != text_at(row, id_place);
+                column.differs |= value != text_at(row, columns.id);
                 column.rows = column.rows.saturating_add(1);
                 column.numbers_rows &= whole_number(value) == Some(column.rows);
             }
@@ -145,8 +182,15 @@ impl IdColumns {
     }
 
     /// Takes the end of PROJECTS, whose row of column names begins here: a column with the same ids in another
-    /// order is odd. One that numbers the rows is not, unless these are the numbers of the ballot paper.
+    /// order is odd. One that numbers the rows is not, unless these are the numbers of the ballot paper. A column of
+    /// costs is odd if some are other ones than those that count, and some are not.
     pub(crate) fn end(&self, election: &Election, header: Mark, found: &mut Oddities) {
+        for column in &self.costs {
+            if column.is_open && column.same > 0 && column.other > 0 {
+                let odd = Odd::of_column(Oddity::RepeatedColumn, header, column.place);
+                found.take(odd.in_form(3).by(column.other));
+            }
+        }
         if election.projects().len() < FEWEST {
             return;
         }
@@ -156,6 +200,19 @@ impl IdColumns {
                 let odd = Odd::of_column(Oddity::RepeatedColumn, header, column.place);
                 found.take(odd.in_form(2));
             }
+        }
+    }
+}
+
+impl CostColumn {
+    /// Takes a value beside this cost; where it is empty the cost was not changed.
+    fn take(&mut self, value: &str, cost: Option<Money>) {
+        let amount = Money::read(value).ok();
+        self.is_open &= amount.is_some() || value.is_empty();
+        if value.is_empty() || amount == cost {
+            self.same = self.same.saturating_add(1);
+        } else {
+            self.other = self.other.saturating_add(1);
         }
     }
 }
@@ -174,13 +231,6 @@ impl IdColumn {
 
 /// Whether a column of this name may have ids of the projects.
 fn may_be_ids(name: &str) -> bool {
-    let (mut is_of_ids, mut is_other) = (
-        false,
-        name.eq_ignore_ascii_case(Column::ProjectId.name()),
-    );
-    for word in name.split(|c: char| !c.is_alphanumeric()) {
-        is_of_ids |= is_one_of(IDS, word);
-        is_other |= is_one_of(NO_IDS, word);
-    }
-    has_word(name, BALLOT) || (is_of_ids && !is_other)
+    let is_other = has_one_of(NO_IDS, name) || name.eq_ignore_ascii_case(Column::ProjectId.name());
+    has_word(name, BALLOT) || (has_one_of(IDS, name) && !is_other)
 }

@@ -1,14 +1,14 @@
 //! What is odd in PROJECTS.
 
 use crate::behind_vote::names_other;
-use crate::changed::{is_decimal, is_one_of};
+use crate::changed::{has_digit, has_one_of, is_decimal};
 use crate::fields::{column_of, text_at};
 use crate::firsts::Firsts;
 use crate::mark::Mark;
-use crate::meta_oddities::{has_decimals, has_thousands_mark, whole_number};
+use crate::meta_oddities::{has_decimals, has_thousands_mark, sum_of_costs, whole_number};
 use crate::oddities::{Odd, Oddities};
 use crate::other_ids::{IdColumns, Twins};
-use crate::valid_columns::ValidColumn;
+use crate::valid_columns::{ValidColumn, says_withdrawn};
 use csv::ByteRecord;
 use pb_core::election::Election;
 use pb_core::money::Money;
@@ -60,6 +60,8 @@ pub(crate) struct ProjectOddities {
     /// Where the row of column names begins, and how many there are.
     header: Mark,
     pub(crate) names: usize,
+    /// Whether there is a column `name`.
+    has_names: bool,
     /// The places of the columns that claim a result.
     votes: Option<usize>,
     selected: Option<usize>,
@@ -70,6 +72,8 @@ pub(crate) struct ProjectOddities {
     valid: Vec<ValidColumn>,
     twins: Twins,
     id_columns: IdColumns,
+    /// The first project whose name says that it is withdrawn, measured by how many there are.
+    withdrawn: Option<Odd>,
     accepted: Vec<CheckedProject>,
 }
 
@@ -85,6 +89,7 @@ impl ProjectOddities {
             alloc,
             header,
             names: names.len(),
+            has_names: column_of(names, "name").is_some(),
             votes: column_of(names, "votes"),
             selected: column_of(names, "selected"),
             has_districts: "district|subdistrict|neighborhood|subunit"
@@ -94,6 +99,7 @@ impl ProjectOddities {
             valid: ValidColumn::all_of(alloc, names)?,
             twins: Twins::new(alloc),
             id_columns: IdColumns::of(alloc, names)?,
+            withdrawn: None,
             accepted: Vec::new(alloc),
         })
     }
@@ -110,20 +116,14 @@ impl ProjectOddities {
         if has_thousands_mark(text_at(row, columns.cost)) {
             found.take(odd);
         }
-        let is_long = (self.names..row.len()).any(|place| !text_at(row, place).is_empty());
-        if is_long && columns.name.is_some() {
-            found.take(odd.as_a(Oddity::CutName).by(self.names as u64));
-        }
-        for place in 0..row.len() {
-            let value = text_at(row, place);
-            let is_other = place != columns.id && place != columns.cost;
-            let is_list = is_other && value.contains(',') && Money::read(value).is_err();
-            if is_list && names_other(value, &[], projects).is_some() {
-                found.take(odd.as_a(Oddity::CutName).in_form(1).at(place));
-            }
-        }
+        self.take_cut(row, odd.as_a(Oddity::CutName), projects, found);
         self.twins.take(row, mark, columns, found)?;
-        self.id_columns.take(row, columns.id)?;
+        self.id_columns.take(row, columns)?;
+        let name = columns.name.unwrap_or(usize::MAX);
+        if says_withdrawn(text_at(row, name)) {
+            let odd = odd.as_a(Oddity::ValidColumn).in_form(4).at(name);
+            self.withdrawn = Some(odd.behind(self.withdrawn));
+        }
         for column in self.valid.iter_mut() {
             let odd = odd.as_a(Oddity::ValidColumn).named_in(self.header);
             column.take(row, odd, found)?;
@@ -140,6 +140,22 @@ impl ProjectOddities {
         Ok(())
     }
 
+    /// Takes a row, which is odd so if it has a text behind its columns, or a field like a vote.
+    fn take_cut(&self, row: &ByteRecord, odd: Odd, projects: &Firsts, found: &mut Oddities) {
+        let is_long = (self.names..row.len()).any(|place| !text_at(row, place).is_empty());
+        if is_long && self.has_names {
+            found.take(odd.by(self.names as u64));
+        }
+        for place in 0..row.len() {
+            let value = text_at(row, place);
+            let is_other = place != odd.id_place && place != odd.value_place;
+            let is_list = is_other && value.contains(',') && Money::read(value).is_err();
+            if is_list && names_other(value, &[], projects).is_some() {
+                found.take(odd.in_form(1).at(place));
+            }
+        }
+    }
+
     /// Takes the end of PROJECTS, whose accepted rows give this election.
     pub(crate) fn end_rows(&self, election: &Election, found: &mut Oddities) {
         self.id_columns.end(election, self.header, found);
@@ -154,6 +170,9 @@ impl ProjectOddities {
         found: &mut Oddities,
     ) -> Result<(), AllocError> {
         self.take_total(election, found);
+        if let Some(odd) = self.withdrawn {
+            found.take(odd);
+        }
         let compares = self.votes.is_some() && !has_fault;
         if !compares && self.fewest.is_none() && !found.tells(Oddity::NoSupporter) {
             return Ok(());
@@ -167,21 +186,24 @@ impl ProjectOddities {
             if project.cost().0 > election.budget().0 {
                 found.take(row.odd(Oddity::OverBudget));
             }
-            if *number == 0 {
+            if *number == 0 && !found.refuses_votes {
                 let odd = row.odd(Oddity::NoSupporter).at(row.columns.id);
                 let is_told = found.tells(Oddity::NoSupporter);
                 let form = usize::from(is_told && is_shortened(project.id(), projects));
                 found.take(odd.in_form(form));
             }
+            let odd = row.odd(Oddity::VotesOf).by(*number);
             match (row.votes, self.votes) {
                 (Some(votes), Some(place)) if compares && votes != Some(*number) => {
-                    found.take(row.odd(Oddity::VotesOf).at(place).by(*number))
+                    found.take(odd.at(place))
                 }
-                _ if *number < self.fewest.unwrap_or(0) && !has_fault => found.take(Odd {
-                    limit: self.fewest,
-                    ..row.odd(Oddity::VotesOf).in_form(1).by(*number)
-                }),
                 _ => {}
+            }
+            if *number < self.fewest.unwrap_or(0) && !has_fault {
+                found.take(Odd {
+                    limit: self.fewest,
+                    ..odd.in_form(1)
+                });
             }
         }
         drop(supporters);
@@ -255,20 +277,12 @@ fn supporters_of(alloc: Global, election: &Election) -> Result<Vec<u64>, AllocEr
 
 /// Whether a text has a word for a total.
 pub(crate) fn has_total(text: &str) -> bool {
-    for word in text.split(|c: char| !c.is_alphanumeric()) {
-        if is_one_of(TOTALS, word) {
-            return true;
-        }
-    }
-    false
+    has_one_of(TOTALS, text)
 }
 
 /// Whether the project at this place costs as much as all others together, and no ballot approves it.
 fn is_sum(election: &Election, place: usize) -> bool {
-    let mut sum = 0u64;
-    for project in election.projects() {
-        sum = sum.saturating_add(project.cost().0);
-    }
+    let sum = sum_of_costs(election);
     let cost = match election.projects().get(place) {
         Some(project) => project.cost().0,
         None => 0,
@@ -276,12 +290,14 @@ fn is_sum(election: &Election, place: usize) -> bool {
     cost == sum.saturating_sub(cost) && !is_named(election, place)
 }
 
-/// Whether the last project's id alone says that it is a total, and no ballot approves it.
+/// Whether the last project's id alone is a word, for a total, and no ballot approves it.
 fn is_total(election: &Election) -> bool {
     let projects = election.projects();
     let above = projects.len().saturating_sub(1);
     for (place, project) in projects.iter().enumerate() {
-        if has_total(project.id()) != (place == above) {
+        let (id, is_last) = (project.id(), place == above);
+        let is_word = id.len() > 2 && !has_digit(id);
+        if has_total(id) != is_last || is_word != is_last {
             return false;
         }
     }

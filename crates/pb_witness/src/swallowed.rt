@@ -1,5 +1,6 @@
 //! Rows that a quotation mark swallowed: a field in quotes that runs over several lines has them in it.
 
+use crate::behind_vote::names_other;
 use crate::fields::raw_text;
 use crate::firsts::Firsts;
 use crate::heads::is_head;
@@ -80,7 +81,7 @@ fn is_row(line: &str, part: Part, projects: &Firsts) -> bool {
         }
         Part::Vote(columns) => {
             !field_of(line, columns.voter).is_empty()
-                && is_vote(field_of(line, columns.vote), projects)
+                && names_other(field_of(line, columns.vote), &[], projects).is_some()
         }
         _ => false,
     }
@@ -90,14 +91,4 @@ fn is_row(line: &str, part: Part, projects: &Firsts) -> bool {
 /// before it.
 fn field_of(line: &str, place: usize) -> &str {
     line.split(';').nth(place).unwrap_or("").trim()
-}
-
-/// Whether a text is the ids of one or more projects.
-fn is_vote(text: &str, projects: &Firsts) -> bool {
-    for piece in text.split(',') {
-        if !projects.has(piece.trim()) {
-            return false;
-        }
-    }
-    true
 }

@@ -1,6 +1,6 @@
 //! Columns that say which rows are valid, or in which currency a cost is, and that no count reads.
 
-use crate::changed::{has_word, is_digits, is_one_of};
+use crate::changed::{begins, has_part, is_digits, is_one_of};
 use crate::fields::text_at;
 use crate::mark::Mark;
 use crate::oddities::{Odd, Oddities, Subject};
@@ -11,6 +11,9 @@ use std::alloc::{AllocError, Global};
 const VALID: &str =
     "valid|is_valid|invalid|accepted|status|withdrawn|cancelled|deleted|duplicate|counted|finished|\
     completed|wazny|ważny|gueltig|gültig|platny|platný|geldig|valide";
+
+/// Those of them that may have something else, and others that may.
+const VALID_OR_MORE: &str = "status|accepted|finished|completed|voted|has_voted";
 
 /// How names begin of further ones, such as one with the day on which a project was withdrawn.
 const BEGINNINGS: &str = "withdrawn|cancelled|invalid|removed|rejected_";
@@ -34,6 +37,13 @@ const STATES: &str =
     "valid|invalid|yes|no|1|0|true|false|accepted|rejected|refused|approved|withdrawn|cancelled|\
     canceled|deleted|removed|counted|not counted|void|ok|eligible|ineligible|disqualified|duplicate|\
     blank|spoiled|spoilt|tak|nie|ja|nein|oui|non|si|ano|ne|nee|y|n|t|f|x";
+
+/// What the name of a project says that can't win, and what may stand behind that.
+const WITHDRAWN: &str =
+    "withdrawn|rejected|cancelled|canceled|disqualified|wycofany|wycofane|odrzucony|odrzucone|\
+    zurückgezogen|abgelehnt";
+
+const BEHIND: &str = "|-|\u{2013}|\u{2014}|by|on|in|from|since";
 
 /// What a column has that no count reads.
 #[derive(Clone, Copy, PartialEq, Eq)]
@@ -61,11 +71,31 @@ pub(crate) struct ValidColumn {
 
 /// Whether a column of this name says which rows are valid, or has remarks.
 pub(crate) fn is_of_validity(name: &str) -> bool {
-    let begins = |word: &str| match name.as_bytes().get(..word.len()) {
-        Some(start) => start.eq_ignore_ascii_case(word.as_bytes()),
-        None => false,
-    };
-    is_one_of(VALID, name) || is_one_of(NOTES, name) || BEGINNINGS.split('|').any(begins)
+    let is_begun = BEGINNINGS.split('|').any(|word| begins(name, word));
+    is_one_of(VALID, name) || is_one_of(NOTES, name) || is_begun
+}
+
+/// Whether the name of a project says that it is withdrawn or the like: with such a word at its start or in brackets,
+/// which is alone there, in capitals, or has a sign or a word such as `by` behind it.
+pub(crate) fn says_withdrawn(name: &str) -> bool {
+    let has_small = name.contains(|c: char| c.is_lowercase());
+    for part in name.split(|c: char| "()[]".contains(c)) {
+        let (first, rest) = first_word(part);
+        let word = first.trim_matches(|c: char| "*:!-".contains(c));
+        let is_loud = has_small && !word.contains(|c: char| c.is_lowercase());
+        let is_apart = word.len() < first.len() || is_one_of(BEHIND, first_word(rest).0);
+        if is_one_of(WITHDRAWN, word) && (is_loud || is_apart) {
+            return true;
+        }
+    }
+    false
+}
+
+/// The first word of a text, and what is behind it.
+fn first_word(text: &str) -> (&str, &str) {
+    let text = text.trim();
+    text.split_once(|c: char| c.is_whitespace())
+        .unwrap_or((text, ""))
 }
 
 impl Has {
@@ -73,7 +103,7 @@ impl Has {
     fn by(name: &str) -> Option<Has> {
         if is_one_of(NOTES, name) {
             Some(Has::Remarks)
-        } else if is_one_of("status|accepted|finished|completed", name) {
+        } else if is_one_of(VALID_OR_MORE, name) {
             Some(Has::ValidOrMore)
         } else if is_of_validity(name) {
             Some(Has::Valid)
@@ -133,7 +163,7 @@ impl ValidColumn {
                 return Ok(());
             }
             self.looked = self.looked.saturating_add(1);
-            if REMARKS.split('|').any(|word| has_word(value, word)) {
+            if has_part(REMARKS, value) {
                 self.differs = true;
                 found.take(odd.in_form(2));
             }

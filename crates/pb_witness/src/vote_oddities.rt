@@ -173,8 +173,7 @@ impl VoteOddities {
         }
         if id.starts_with(b"#") || id.starts_with(b"//") {
             let odd = row.odd(Oddity::NoteRows).in_form(2);
-            let first = self.left_out.unwrap_or(odd);
-            self.left_out = Some(first.by(first.number.saturating_add(1)));
+            self.left_out = Some(odd.behind(self.left_out));
         }
         if self.cards.is_open() {
             self.cards.take(row.record, row.mark)?;
@@ -259,8 +258,7 @@ impl VoteOddities {
             self.first_has_more = has_more;
         }
         if is_note {
-            let first = self.first_note.unwrap_or(odd);
-            self.first_note = Some(first.by(first.number.saturating_add(1)));
+            self.first_note = Some(odd.behind(self.first_note));
         }
     }
 

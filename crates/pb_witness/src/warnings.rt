@@ -184,6 +184,7 @@ impl Warnings {
     fn take_end(&mut self, election: &Election) -> Result<(), AllocError> {
         let found = &mut self.found;
         found.has_no_votes = self.rows.0 == 0;
+        found.refuses_votes = self.witness.rows.refused > 0;
         found.voters = election.voters().len() as u64;
         if let Some(projects) = &self.projects {
             let has_districts = projects.has_districts;

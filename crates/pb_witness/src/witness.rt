@@ -1,6 +1,6 @@
 //! Who looks on while a .pb file is read, and keeps what words need of what the reader refuses.
 
-use crate::changed::is_nothing;
+use crate::changed::{is_base64, is_nothing};
 use crate::faulty_record::{FaultyRecord, piece_of};
 use crate::fields::text_at;
 use crate::ids::Ids;
@@ -9,7 +9,7 @@ use crate::mark::Mark;
 use crate::rows::VoteRows;
 use crate::seen::Seen;
 use crate::text::Text;
-use crate::unknown::UnknownIds;
+use crate::unknown::{Unknown, UnknownIds};
 use csv::ByteRecord;
 use pb_core::election::Election;
 use pb_read::{MOST_FAULTS, Part, ReadKind, Refusal, Stage, VoteColumns, Watch, check_pb};
@@ -60,6 +60,12 @@ impl Witness {
     pub(crate) fn is_of_other_projects(&self) -> bool {
         let is_none = !self.rows.names_project && self.ids.left_out.len() == 0;
         is_none && self.unknown.found.len() > 1
+    }
+
+    /// Whether no vote names a project, and an id that votes name ends as a code in base64 does.
+    pub(crate) fn are_coded(&self) -> bool {
+        let is_code = |unknown: &Unknown| is_base64(unknown.id.as_str());
+        self.is_of_other_projects() && self.unknown.found.iter().any(is_code)
     }
 
     /// The rows of META that gave keys so far.

@@ -8,7 +8,7 @@ use crate::words::WordsWriter;
 use pb_core::money::Money;
 use pb_read::ReadKind;
 use pb_witness::changed::{
-    has_power, is_calculation, is_grouped, is_nothing, is_one_of, without_hidden,
+    has_one_of, has_power, is_calculation, is_grouped, is_nothing, is_one_of, without_hidden,
 };
 
 /// What to do about an amount that seems to be worked out.
@@ -31,6 +31,17 @@ const NO_VALUE: &str =
 const FOOTNOTE: &str =
     "If a mark of a footnote is behind the amount, leave it out. Write the amount with digits only, like `1200` or `1200.50`.\n";
 
+/// Words beside an amount that may not be the whole cost, and beside one that is.
+const PARTS: &str =
+    "net|netto|vat|tax|taxes|mwst|ust|tva|iva|dph|excl|excluding|plus|each|apiece|per|pro|year|years|\
+    yearly|annual|annually|month|monthly|rocznie|rok|jahr|from|up|ab|od|max|min|most|least|m2|ca|circa|about|\
+    approx|approximately|estimated";
+
+const WHOLES: &str = "gross|brutto|incl|including";
+
+const PART: &str =
+    "A word beside the amount may say that it is not the whole cost, but one without tax, for a year or a piece, or a limit. Ask for the whole cost, with tax, and write it with digits only, like `1200` or `1200.50`.\n";
+
 const CENTS: &str =
     "If the two digits behind the sign are decimals, write a point in place of it, like `1200.50`. If not, ask whoever made the file which amount is meant.\n";
 
@@ -49,6 +60,7 @@ fn has_cents(value: &str) -> bool {
 pub(crate) fn amount_remedy(value: &str) -> Option<&'static str> {
     let unit = value.trim_start_matches(|c: char| c.is_ascii_digit() || " .,".contains(c));
     let is_noted = value.starts_with(|c: char| c.is_ascii_digit())
+        && !unit.contains(|c: char| c.is_alphabetic())
         && unit.ends_with(|c: char| ")*\u{b9}\u{b2}\u{b3}".contains(c));
     if value.starts_with('#') {
         Some(NO_VALUE)
@@ -60,6 +72,8 @@ pub(crate) fn amount_remedy(value: &str) -> Option<&'static str> {
         Some(CENTS)
     } else if is_one_of(SHORT_WORDS, unit) {
         Some(SHORT_WORD)
+    } else if has_one_of(PARTS, value) && !has_one_of(WHOLES, value) {
+        Some(PART)
     } else if is_noted {
         Some(FOOTNOTE)
     } else {

@@ -91,6 +91,7 @@ fn put_each_fault<R: Files>(
     let mut told = CausesTold {
         repeats: [false; Repeat::COUNT],
         mail: false,
+        conflict: false,
     };
     for (place, fault) in faults.iter().enumerate() {
         match known.witness.refused.get(place) {
@@ -118,8 +119,9 @@ fn put_each_fault<R: Files>(
 #[derive(Clone, Copy)]
 struct CausesTold {
     repeats: [bool; Repeat::COUNT],
-    /// Whether it was said that an e-mail program broke lines.
+    /// Whether it was said that an e-mail program broke lines, and that there are marks of a merge conflict.
     mail: bool,
+    conflict: bool,
 }
 
 /// Whether words for the cause of a record's fault have been put. If not, they will be put now.
@@ -135,6 +137,11 @@ fn is_told<R: Files>(
             let repeat = known.repeat_of(text, faulty);
             let was_told = told.repeats[repeat as usize];
             told.repeats[repeat as usize] = repeat.is_shared() || text.is_file();
+            was_told
+        }
+        _ if faulty.is_conflict() => {
+            let was_told = told.conflict;
+            told.conflict = true;
             was_told
         }
         _ if faulty.is_of_mail(text) => {

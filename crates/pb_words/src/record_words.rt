@@ -59,6 +59,12 @@ const MAIL: &str =
 Get the file again, as an attachment.
 ";
 
+/// What is said of a mark of a merge conflict.
+const CONFLICT: &str =
+    ": this is a mark of a merge conflict: the file has two versions of the rows between `<<<<<<<` and `>>>>>>>`.
+Ask whoever made the file which version is right. Keep that one, and delete the other and the marks.
+";
+
 /// What to do about a row with tabs or commas and no `;`.
 const TABS: &str = "Tabs separate the fields of this row. Write `;` in place of each.\n";
 
@@ -153,20 +159,24 @@ fn put_record<R: Files>(
     let _ = put_over(out, span, true);
 }
 
-/// Puts what is wrong with a line that is read as a heading, or that an e-mail program broke; answers whether it is
-/// one.
+/// Puts what is wrong with a line that is read as a heading, is a mark of a merge conflict, or was broken by an e-mail
+/// program; answers whether it is one.
 fn put_line_words<R: Files>(out: &mut WordsWriter, text: &Text<R>, faulty: &FaultyRecord) -> bool {
     if let Some(records) = faulty.like_head(text) {
         let _ = put_mark(out, text, records.mark());
         out.fill(LIKE_A_HEAD, &[Quoted(text_at(&records.last, 0))]);
         return true;
     }
-    let is_of_mail = faulty.is_of_mail(text);
-    if is_of_mail {
-        let _ = put_mark(out, text, faulty.mark);
-        out.put(MAIL);
-    }
-    is_of_mail
+    let words = if faulty.is_conflict() {
+        CONFLICT
+    } else if faulty.is_of_mail(text) {
+        MAIL
+    } else {
+        return false;
+    };
+    let _ = put_mark(out, text, faulty.mark);
+    out.put(words);
+    true
 }
 
 /// Puts which quotation mark is wrong in a record whose line was put, and what to do; answers whether one is.

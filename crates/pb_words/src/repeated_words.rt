@@ -27,6 +27,9 @@ const TIMES: &str =
     "The rows have different times. If a later vote replaces an earlier one, keep the later row. If not, find out whether they are one ballot, or those of different people.
 `pb_clean {} -o NEW.pb --repeated-voters last` keeps the row of each voter that stands last in the file, `merge` makes one ballot of the rows, `distinct` makes different voters.\n";
 
+const CONFLICT: &str =
+    "The file has marks of a merge conflict, so these may be two versions of one row. Ask which is right, and keep that one alone.\n";
+
 /// What to do about copies of rows.
 const COPIES: &str = "Each of these rows is a copy of an earlier one. Delete the copies.\n";
 
@@ -65,6 +68,7 @@ pub(crate) fn put_repeated<R: Files>(
 fn put_remedy<R>(out: &mut WordsWriter, text: &Text<R>, repeat: Repeat, kind: ReadKind) {
     let is_voter = kind == ReadKind::RepeatedVoter;
     match repeat {
+        Repeat::Conflict => out.put(CONFLICT),
         Repeat::Shortened if is_voter => out.put(
             "A spreadsheet shortened the ids, so no voter can be told from another. Get the ids of the voters again, as text.\n",
         ),

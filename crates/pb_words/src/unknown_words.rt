@@ -101,6 +101,8 @@ fn list_remedy(cause: Cause) -> &'static str {
     match cause {
         Cause::OtherElection =>
             "No vote of the file names a project. PROJECTS and VOTES may be of two elections, or the ids of one of them were changed. Get the whole file again.\n",
+        Cause::Coded =>
+            "No vote of the file names a project, and some end with `=`: the votes may be coded, as in base64. Get them again, with the ids of the projects.\n",
         Cause::Keycaps =>
             "These are signs of a phone's keys. Write only the ids, with `,` between them.\n",
         Cause::Php =>
@@ -424,9 +426,8 @@ fn put_votes<R: Files>(out: &mut WordsWriter, text: &Text<R>, found: &FoundCause
     let votes = &found.votes;
     if votes.count > 1 {
         let reason = match found.cause {
-            Cause::NoProjects | Cause::OtherElection | Cause::Columns | Cause::ChangedProject =>
-                "this",
-            cause if cause.is_shared() => "ids like this",
+            Cause::NoProjects | Cause::OtherElection | Cause::Coded | Cause::Columns => "this",
+            cause if cause.is_shared() && cause != Cause::ChangedProject => "ids like this",
             _ => "this",
         };
         out.fill(

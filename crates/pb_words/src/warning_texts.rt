@@ -33,13 +33,13 @@ This ballot is counted. If your rules do not allow it, delete the row.";
 pub(crate) const TEXTS: [&[&str]; 27] = [
     &[
         "{value} is wrong: the number of vote rows in the file is {number}
-`num_votes` is wrong: the number of vote rows in the file is {number}
+META's number of votes is wrong: the number of vote rows in the file is {number}
 If rows are missing, get the whole file again. Correct the number only if you know that every row is here.",
         "{value} is wrong: the number of vote rows in the file is {number}
-`num_votes` is wrong: the number of vote rows in the file is {number}
+META's number of votes is wrong: the number of vote rows in the file is {number}
 If some of them are totals or notes, delete these. Otherwise correct the number.",
         "{value} is not a whole number in digits; the number of vote rows in the file is {number}
-`num_votes` is wrong: the number of vote rows in the file is {number}
+META's number of votes is wrong: the number of vote rows in the file is {number}
 Write the number in digits.",
         "only this last vote ends behind a comma, so the file may be cut off
 only the last vote ends behind a comma, so the file may be cut off
@@ -47,13 +47,13 @@ If it is, get the whole file again. If not, delete the comma.",
     ],
     &[
         "{value} is wrong: the number of project rows in the file is {number}
-`num_projects` is wrong: the number of project rows in the file is {number}
+META's number of projects is wrong: the number of project rows in the file is {number}
 If rows are missing, get the whole file again. Correct the number only if you know that every row is here.",
         "{value} is wrong: the number of project rows in the file is {number}
-`num_projects` is wrong: the number of project rows in the file is {number}
+META's number of projects is wrong: the number of project rows in the file is {number}
 If some of them are totals or notes, delete these. Otherwise correct the number.",
         "{value} is not a whole number in digits; the number of project rows in the file is {number}
-`num_projects` is wrong: the number of project rows in the file is {number}
+META's number of projects is wrong: the number of project rows in the file is {number}
 Write the number in digits.",
     ],
     &[
@@ -104,6 +104,9 @@ The last row of a key counts. Delete the wrong row.",
 two projects have ids that differ only by zeros, points, spaces or capital letters, with the same cost and name
 If they are one project, delete one row, and write the id of the other in all votes. If not, give them different \
     names.",
+        "the key is ignored. It may be `max_length` or `min_length`, misspelled
+a key of META is ignored. It may be `max_length` or `min_length`, misspelled
+If so, correct the key. If not, give it another name.",
     ],
     &[
         "its cost, {value}, is the sum of all costs above
@@ -120,7 +123,7 @@ the id of the last row looks like a total or a note, but its vote names a projec
 It is counted as a voter. If it is a total or a note, delete the row.",
         "its id looks like a total, and no vote names it
 the id in the last row of PROJECTS looks like a total, and no vote names it
-It is counted as a project. If it is a total, delete the row.",
+It is counted as a project. If it is a total, delete the row. If not, give it another id.",
     ],
     &[
         "the column `votes` says {value}, but the number of vote rows that name the project is {number}
@@ -187,6 +190,9 @@ If each row has several voters side by side, write a row for each of them.",
         "it has the same ids as `project_id`, in another order, and is not read
 a column of PROJECTS has the same ids as `project_id`, in another order, and is not read
 Ask which of the two the votes mean. Call that column `project_id`, and the other one `comment`.",
+        "it has another cost than `cost` in {rows}, and is not read
+a column of PROJECTS has other costs than `cost`, and is not read
+Ask which of the two has the costs that count. Call that column `cost`, and the other one `comment`.",
     ],
     &[
         "points are ignored: every project named in a vote counts the same
@@ -205,11 +211,14 @@ a column says which rows are valid. The column is ignored: every row is counted
 If it says that votes are not valid, take their rows out.",
         "{value} stands in column {column}. The column is ignored: the row is counted
 a column has a remark that votes are not valid. The column is ignored: every row is counted
-If the vote is not valid, take the row out.",
+If the vote is not valid, take the row out. If it is valid, take out this text.",
         "{value} differs from line {line} in column {column}. The column is ignored: all costs are read as one currency
 a column has different currencies. The column is ignored: all costs are read as one currency
 If the costs are in different currencies, write all of them in that of the budget. If not, write the same in all rows \
     of the column.",
+        "the name {value} may say that it is withdrawn. It is counted. This concerns {projects}
+the name of a project may say that it is withdrawn. It is counted. This concerns {projects}
+If the project was withdrawn, take its row out, and its id out of the votes. If not, take the word out of its name.",
     ],
     &[
         "{value} is not counted: all projects share the amount of the key `budget`
