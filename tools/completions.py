@@ -8,7 +8,7 @@ Option = collections.namedtuple('Option', 'short long value choices about')
 
 OPTION = re.compile(r'^ +(?:(-\w), )? *(--[\w-]+)(?: <(\w+)>)?  +(.*)$')
 # The values that are names of files; that of --recount is one, or an address.
-FILES = ('PATH', 'FILE', 'JOURNAL', 'ROLL', 'WORDS', 'URL')
+FILES = ('PATH', 'FILE', 'JOURNAL', 'ROLL', 'WORDS', 'PAGE', 'URL')
 CHOICES = re.compile(r' \[possible values: ([^]]+)\]')
 
 

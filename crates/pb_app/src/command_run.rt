@@ -1,5 +1,6 @@
 //! What each command has at hand.
 
+use crate::published::Published;
 use crate::system::System;
 use pb_command_line::{Asked, Ballots, TextSource};
 use pb_commands::{AppFault, Counting, Inputs};
@@ -13,6 +14,8 @@ pub(crate) struct CommandRun<'a, R> {
     pub(crate) counting: Counting<'a, R, ProgressLine<'a, R>>,
     pub(crate) asked: &'a Asked<'a>,
     pub(crate) kinship: &'a Kinship,
+    /// What a page is compared with.
+    pub(crate) published: &'a Published,
     /// What is said of the requests that come in.
     pub(crate) typing: &'a Typing,
 }

@@ -6,11 +6,15 @@ mod admitted;
 mod command_run;
 mod export;
 mod keeping_watch;
+mod marks;
 mod notes;
 mod page;
 mod page_maker;
 mod perform;
+mod published;
 mod run_page;
+mod run_same;
+mod same_page;
 mod serve;
 mod spent;
 mod system;
@@ -94,7 +98,7 @@ fn done<'a, R: System>(rt: &'a R, asked: &'a Asked<'a>, terminals: Terminals) ->
         Task::Check(_) => Warnings::of_check(rt.alloc()),
         _ => Warnings::of_count(rt.alloc(), asked.is_strict),
     };
-    let mut notes = Notes::new(rt.alloc(), warnings);
+    let mut notes = Notes::new(rt.alloc(), asked.rule, warnings);
     let progress = ProgressLine::new(rt, asked.shows.unwrap_or(terminals.error));
     let begun = Instant::now(rt).ok();
     let result = perform(asked, &mut output, &mut notes, &progress, terminals.input);
@@ -110,7 +114,9 @@ fn done<'a, R: System>(rt: &'a R, asked: &'a Asked<'a>, terminals: Terminals) ->
             let (end, failure) = (refusal.end(), output.failure.as_ref());
             let status = write_end(rt, end);
             words::say_refusal(rt, asked, refusal, failure, &notes);
-            words::say_spent(rt, asked, end, took, &progress);
+            if words::is_spent(end) {
+                words::say_spent(rt, asked, &notes, took, &progress);
+            }
             status
         }
     };
@@ -138,6 +144,10 @@ fn write_end<R: Print>(rt: &R, end: End) -> u8 {
     match end {
         End::Fault(fault) => write_fault(rt, fault),
         End::Words(refusal) => {
+            let _ = refusal.write_line(&mut io::writer(rt));
+            refusal.status()
+        }
+        End::Page(refusal) => {
             let _ = refusal.write_line(&mut io::writer(rt));
             refusal.status()
         }

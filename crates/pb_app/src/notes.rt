@@ -1,6 +1,7 @@
 //! What a run tells of what it read, beside its result.
 
 use pb_read::ReadFault;
+use pb_rounds::rule::Rule;
 use pb_witness::entry_counts::EntryCounts;
 use pb_witness::rule_counts::RuleCounts;
 use pb_witness::warnings::Warnings;
@@ -9,6 +10,8 @@ use std::alloc::Global;
 /// What a run tells of what it read, beside its result.
 #[derive(Drop)]
 pub(crate) struct Notes {
+    /// The rule of the count.
+    pub(crate) rule: Rule,
     /// The entries of the journal that was written or audited.
     pub(crate) entries: EntryCounts,
     /// How many rows of `serve` were refused, for whatever reason.
@@ -26,9 +29,10 @@ pub(crate) struct Notes {
 }
 
 impl Notes {
-    /// Nothing yet; these are the warnings for the task.
-    pub(crate) fn new(alloc: Global, seen: Warnings) -> Notes {
+    /// Nothing yet; this is the rule that is asked for, and these are the warnings for the task.
+    pub(crate) fn new(alloc: Global, rule: Rule, seen: Warnings) -> Notes {
         Notes {
+            rule,
             entries: EntryCounts::new(),
             refused: 0,
             by_rule: RuleCounts::new(),

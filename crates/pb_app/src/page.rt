@@ -38,7 +38,7 @@ pub(crate) fn page<'a, R: System, W: Write>(
 {
     let speech = speech_of(run.counting.rt, asked.words)?;
     let maker = PageMaker {
-        run: *asked,
+        run: asked,
         speech: &speech,
         file: &run.kinship.file,
         journal: &run.kinship.journal,
@@ -56,11 +56,11 @@ pub(crate) fn page<'a, R: System, W: Write>(
 /// Opens the ballots of a page, counts them, and writes the page, while this one looks on at the file.
 fn write_page<'a, R: System, W: Write>(
     run: &CommandRun<'a, R>,
-    maker: &PageMaker<'a, Speech>,
+    maker: &PageMaker<'_, '_, 'a, Speech>,
     watch: &mut KeepingWatch<'_, Warnings, PageNotes>,
     writer: &mut W,
 ) -> Result<(), AppFault>
-    ensures ok { OnOk result ((e : ElectionView) × HasWritten (IsPageBy maker.now.run run.now.counting.rule.now e)
+    ensures ok { OnOk result ((e : ElectionView) × HasWritten (IsPageBy maker.now.run.now run.now.counting.rule.now e)
         (W.contents writer.old) (W.contents writer.new)) }
     ensures unchanged { IfErr result (λ fault. fault ≢ AppFault.Write → writer.new ≡ writer.old) }
 {
@@ -69,7 +69,7 @@ fn write_page<'a, R: System, W: Write>(
 }
 
 /// The language of the file of words with this path, or English.
-fn speech_of<R: System>(rt: &R, path: Option<&str>) -> Result<Speech, RunRefusal> {
+pub(crate) fn speech_of<R: System>(rt: &R, path: Option<&str>) -> Result<Speech, RunRefusal> {
     let speech = match path {
         Some(path) => speech_in(rt, open_file(rt, path, RunText::Words)?),
         None => Speech::english(rt.alloc()),

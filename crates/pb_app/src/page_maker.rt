@@ -25,8 +25,8 @@ const INPUT: &str = "standard input";
 
 /// Makes the page that a run asks for.
 #[derive(Drop)]
-pub(crate) struct PageMaker<'a, S> {
-    pub(crate) run: PageRun<'a>,
+pub(crate) struct PageMaker<'a, 'p, 'r, S> {
+    pub(crate) run: &'p PageRun<'r>,
     pub(crate) speech: &'a S,
     /// The digest of the .pb file, once that is read.
     pub(crate) file: &'a Cell<Option<Hex>>,
@@ -37,7 +37,7 @@ pub(crate) struct PageMaker<'a, S> {
 /// What was asked and read for a page, but for what is counted.
 #[derive(Clone, Copy)]
 struct SeenOfFile<'a> {
-    run: PageRun<'a>,
+    run: &'a PageRun<'a>,
     /// The digest of the .pb file.
     file: Option<Hex>,
     /// That of the journal, if there is one.
@@ -47,7 +47,7 @@ struct SeenOfFile<'a> {
     categories: &'a [&'a str],
 }
 
-impl<S: Tongue> PageMaker<'_, S> {
+impl<S: Tongue> PageMaker<'_, '_, '_, S> {
     /// The page of this count, once this one has looked on at the whole file.
     pub(crate) fn text_of<T: Threads + Sync, G: Gate, H>(
         &self,
@@ -55,7 +55,7 @@ impl<S: Tongue> PageMaker<'_, S> {
         watch: &KeepingWatch<'_, H, PageNotes>,
         count: &CountedElection,
     ) -> Result<Vec<u8>, NoMemory>
-        ensures { IfOk result (λ text. IsPageBy self.now.run count.now.rule count.now.election text.items) }
+        ensures { IfOk result (λ text. IsPageBy self.now.run.now count.now.rule count.now.election text.items) }
     {
         let notes = &watch.keeper;
         if !notes.is_whole() {
@@ -82,13 +82,13 @@ fn page_with<'a, T: Threads + Sync, G: Gate, S: Tongue>(
     speech: &'a S,
     seen: &'a SeenOfFile<'a>,
 ) -> Result<Vec<u8>, NoMemory>
-    ensures { IfOk result (λ text. IsPageBy seen.now.run count.now.rule count.now.election text.items) }
+    ensures { IfOk result (λ text. IsPageBy seen.now.run.now count.now.rule count.now.election text.items) }
 {
     let (rt, alloc, gate) = (counting.rt, counting.alloc, counting.gate);
     let said = speech.said(alloc, currency_of(seen))?;
-    let title = said.title;
+    let own = said.title;
     let language = said.language(is_whole(count.election()));
-    let facts = facts_of(seen, title, language);
+    let facts = facts_of(seen, own, language);
     let page = page_of(rt, alloc, gate, count, &facts);
     drop(said);
     page
@@ -107,9 +107,9 @@ fn currency_of<'a>(seen: &'a SeenOfFile<'a>) -> Option<&'a str> {
 
 /// What the page says beside the outcome, in this language, which has this title for a page without one.
 fn facts_of<'a>(seen: &'a SeenOfFile<'a>, title: &'a str, language: Language<'a>) -> Facts<'a>
-    ensures { AreAsked seen.now.run result }
+    ensures { AreAsked seen.now.run.now result }
 {
-    let run = &seen.run;
+    let run = seen.run;
     let journal = match (&run.ballots.journal, &seen.journal) {
         (Some(source), Some(digest)) => Some(read_text_of(source, Some(digest))),
         _ => None,

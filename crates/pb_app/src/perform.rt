@@ -4,18 +4,33 @@ use crate::command_run::CommandRun;
 use crate::export::export;
 use crate::notes::Notes;
 use crate::page::page;
+use crate::published::Published;
+use crate::same_page::same_page;
 use crate::serve::serve;
 use crate::system::System;
 use crate::tables::{audit, ballots, check, count, desk, tell};
 use crate::what_if::what_if;
 use crate::words::is_quiet;
-use pb_command_line::{Asked, CompareRun, Task};
+use pb_command_line::{Asked, CompareRun, PageRun, Task};
 use pb_commands::{Counting, Table};
+use pb_rounds::rule::Rule;
 use pb_streams::{Kinship, Output, ProgressLine, RunRefusal, Telling, Typing};
+use pb_witness::warnings::Warnings;
 use std::io::Write;
 
+/// What is asked for, and what was read of it first.
+#[derive(Clone, Copy)]
+struct Prepared<'a> {
+    asked: &'a Asked<'a>,
+    /// The rule of the count.
+    rule: &'a Rule,
+    /// What a page is compared with.
+    published: &'a Published,
+}
+
 /// Does what the arguments ask for, and writes the result to its place. What the result would replace is
-/// looked at first, and then files are opened, in their order, before any is read.
+/// looked at first; then a published page is read that is compared; and then files are opened, in their order,
+/// before any is read.
 pub(crate) fn perform<'a, R: System>(
     asked: &'a Asked<'a>,
     output: &mut Output<'a, R>,
@@ -24,7 +39,16 @@ pub(crate) fn perform<'a, R: System>(
     is_typed: bool,
 ) -> Result<(), RunRefusal> {
     output.look()?;
-    let done = write_result(asked, output, notes, progress, is_typed);
+    let published = Published::of(progress.rt, asked)?;
+    let rule = published.rule(asked);
+    notes.rule = published.rule(asked);
+    let prepared = Prepared {
+        asked,
+        rule: &rule,
+        published: &published,
+    };
+    let done = write_result(&prepared, output, notes, progress, is_typed);
+    drop(published);
     if done.is_err() {
         output.give_up();
         return done;
@@ -32,14 +56,15 @@ pub(crate) fn perform<'a, R: System>(
     output.finish()
 }
 
-/// Does what the arguments ask for, and writes the result, which is put in its place later.
+/// Does what is asked for, and writes the result, which is put in its place later.
 fn write_result<'a, R: System, W: Write>(
-    asked: &'a Asked<'a>,
+    prepared: &'a Prepared<'a>,
     writer: &mut W,
     notes: &mut Notes,
     progress: &ProgressLine<'_, R>,
     is_typed: bool,
 ) -> Result<(), RunRefusal> {
+    let asked = prepared.asked;
     let kinship = Kinship::new(asked.takes_other, asked.task.shows_digests());
     let telling = match (is_quiet(asked), is_typed) {
         (true, _) => Telling::Nothing,
@@ -52,10 +77,11 @@ fn write_result<'a, R: System, W: Write>(
             rt: progress.rt,
             alloc: progress.rt.alloc(),
             gate: progress,
-            rule: &asked.rule,
+            rule: prepared.rule,
         },
         asked,
         kinship: &kinship,
+        published: prepared.published,
         typing: &typing,
     };
     let done = do_task(&run, writer, notes);
@@ -73,8 +99,8 @@ fn write_result<'a, R: System, W: Write>(
 }
 
 /// Does a task.
-fn do_task<R: System, W: Write>(
-    run: &CommandRun<'_, R>,
+fn do_task<'a, R: System, W: Write>(
+    run: &CommandRun<'a, R>,
     writer: &mut W,
     notes: &mut Notes,
 ) -> Result<(), RunRefusal> {
@@ -93,7 +119,9 @@ fn do_task<R: System, W: Write>(
             )
         }
         Task::WhatIf(asked) => return what_if(run, asked, writer, &mut notes.seen),
-        Task::Page(asked) => return page(run, asked, writer, &mut notes.seen),
+        Task::Page(asked) => {
+            return page_or_same(run, asked, writer, &mut notes.seen);
+        }
         Task::Export(ballots) => export(run, ballots, writer, notes),
         Task::Check(asked) => check(run, asked, writer, notes),
         Task::Desk(asked) => desk(run, asked, writer, notes),
@@ -102,6 +130,21 @@ fn do_task<R: System, W: Write>(
         Task::Serve(asked) => return serve(run, asked, writer, notes),
     };
     Ok(done?)
+}
+
+/// Writes the page that is asked for, or says whether the published one is just that page.
+fn page_or_same<'a, R: System, W: Write>(
+    run: &CommandRun<'a, R>,
+    asked: &'a PageRun<'a>,
+    writer: &mut W,
+    seen: &mut Warnings,
+) -> Result<(), RunRefusal> {
+    let published = run.published;
+    let (Some(text), Some(marks)) = (&published.text, &published.marks) else {
+        return page(run, asked, writer, seen);
+    };
+    let filled = marks.filled(asked);
+    same_page(run, &filled, text.as_slice(), writer, seen)
 }
 
 /// The table that a task writes which writes one and no report.

@@ -35,15 +35,15 @@ pub(crate) fn run_page<
     inputs: Inputs<P, J>,
     watch: &mut KeepingWatch<'_, H, PageNotes>,
     writer: &mut W,
-    maker: &PageMaker<'_, S>,
+    maker: &PageMaker<'_, '_, '_, S>,
 ) -> Result<(), AppFault>
-    ensures runs { Runs (Gives (IsPageBy maker.now.run counting.now.rule.now))
+    ensures runs { Runs (Gives (IsPageBy maker.now.run.now counting.now.rule.now))
         (CountRefuses counting.now.rule.now.options) (P.remaining inputs.file)
         (known J.remaining inputs.journal)
         (H.refused_for watch.new.warnings.now) W.contents writer.old writer.new result }
 
     // Whether or not the bytes are known that were read.
-    ensures written { OnOk result ((e : ElectionView) × HasWritten (IsPageBy maker.now.run counting.now.rule.now e)
+    ensures written { OnOk result ((e : ElectionView) × HasWritten (IsPageBy maker.now.run.now counting.now.rule.now e)
         (W.contents writer.old) (W.contents writer.new)) }
 {
     let count = match count_inputs(counting, inputs, watch) {

@@ -1,7 +1,7 @@
 //! Raises that were spent: whether more would decide is looked for, for words alone.
 
 use crate::system::System;
-use pb_command_line::{Asked, Task, TextSource};
+use pb_command_line::{Task, TextSource};
 use pb_commands::{Inputs, election_of};
 use pb_core::election::Election;
 use pb_core::gate::Gate;
@@ -27,14 +27,14 @@ pub(crate) struct MoreRaises {
 /// looks for about as long as the refused count took, and a second at least.
 pub(crate) fn look_further<R: System, G: Gate>(
     rt: &R,
-    asked: &Asked<'_>,
+    task: &Task<'_>,
+    options: &CountOptions,
     took: Option<Duration>,
     gate: &G,
 ) -> MoreRaises {
     let allowed = Allowed::new(rt, took);
-    match ballots_again(rt, &asked.task) {
+    match ballots_again(rt, task) {
         Some(election) => {
-            let options = &asked.rule.options;
             let deciding = deciding(rt, &election, options, &allowed, gate);
             let step = sure_step(options.max_raises, election.budget());
             drop(election);

@@ -21,14 +21,16 @@ use pb_words::export_words::{comma_words, heading_words, lacking_words};
 use pb_words::journal_words::journal_words;
 use pb_words::read_words::{list_words, read_words};
 use pb_words::refused_words::roll_words;
+use pb_words::same_words::unread_input_words;
 use pb_words::script_words::{Taking, script_words};
 use pb_words::serve_words::{
     bad_rows_words, changed_words, locked_words, open_desk_words, spelling_words, unanswered_words,
 };
 use pb_words::tally_words::{by_rule_words, no_ballot_words, tally_words};
 use pb_words::warning_words::{rule_words, warning_words};
-use pb_words::{Said, mistaken_words, open_words, said, say, say_words, write_words};
+use pb_words::{Said, mistaken_words, open_words, said, say, say_words, unread_words, write_words};
 use std::alloc::AllocError;
+use std::fs;
 use std::io::Error;
 use std::time::Duration;
 
@@ -126,7 +128,7 @@ pub(crate) fn say_rule<R: System>(rt: &R, asked: &Asked<'_>, notes: &Notes) {
     };
     let (file, _) = asked.task.paths();
     if let (Some(named), true) = (notes.seen.rule(), counts) {
-        say_words(rt, rule_words(rt, rt.alloc(), file, named, &asked.rule));
+        say_words(rt, rule_words(rt, rt.alloc(), file, named, &notes.rule));
     }
 }
 
@@ -163,6 +165,7 @@ fn words_of<R: System>(
     let (first, second) = task.paths();
     let path = path_of(asked, RunText::Journal);
     match fault {
+        AppFault::Open(RunText::Page) => unread_page_words(rt, published_path(task)),
         AppFault::Read(fault) => read_words(rt, alloc, first, &fault, &notes.seen.witness),
         AppFault::Script(fault) => words_of_script(rt, task, fault),
         AppFault::ClerkCount => script_words(rt, alloc, second, None, taking_of(task)),
@@ -178,7 +181,7 @@ fn words_of<R: System>(
         AppFault::OpenDesk => open_desk_words(alloc, second),
         AppFault::Count(fault) => {
             let counted = task.journal().unwrap_or(task.texts().0);
-            count_words(alloc, counted.path(), fault, &asked.rule.options)
+            count_words(alloc, counted.path(), fault, &notes.rule.options)
         }
         AppFault::Export(ExportFault::SectionWord) => heading_words(rt, alloc, first, second),
         AppFault::Export(_) => comma_words(rt, alloc, first, task.journal().is_some()),
@@ -196,6 +199,25 @@ fn words_of<R: System>(
     }
 }
 
+/// Words for the published page with this path, which was not read.
+fn unread_page_words<R: System>(rt: &R, path: Option<&str>) -> Said {
+    let Some(path) = path else {
+        return unread_input_words(rt.alloc());
+    };
+    match fs::open(rt, path) {
+        Ok(file) => {
+            drop(file);
+            unread_words(rt, rt.alloc(), path)
+        }
+        Err(_) => open_words(rt, rt.alloc(), path),
+    }
+}
+
+/// The path of the published page; standard input has none.
+fn published_path<'a>(task: &Task<'a>) -> Option<&'a str> {
+    task.published().and_then(|page| page.path())
+}
+
 /// The path of a text; one without a path is standard input or standard output.
 fn path_of<'a>(asked: &Asked<'a>, text: RunText) -> &'a str {
     let (first, second) = asked.task.paths();
@@ -203,6 +225,7 @@ fn path_of<'a>(asked: &Asked<'a>, text: RunText) -> &'a str {
         RunText::File => first,
         RunText::Script | RunText::Journal => second,
         RunText::Roll | RunText::Words => asked.task.third(),
+        RunText::Page => published_path(&asked.task),
         RunText::Output => asked.output,
     };
     path.unwrap_or("-")
@@ -251,22 +274,25 @@ fn taking_of(task: &Task<'_>) -> Taking {
     Taking { clerks, by_id }
 }
 
+/// Whether the raises were spent.
+pub(crate) fn is_spent(end: End) -> bool {
+    matches!(end, End::Fault(AppFault::Count(CountFault::RaisesSpent)))
+}
+
 /// Says what to do where the raises were spent, by a count that took so long. Whether more would decide is
 /// looked for first, after it was said why there is no result.
 pub(crate) fn say_spent<R: System>(
     rt: &R,
     asked: &Asked<'_>,
-    end: End,
+    notes: &Notes,
     took: Option<Duration>,
     progress: &ProgressLine<'_, R>,
 ) {
-    if let End::Fault(AppFault::Count(CountFault::RaisesSpent)) = end {
-        let found = look_further(rt, asked, took, progress);
-        progress.clear();
-        let options = &asked.rule.options;
-        say_words(
-            rt,
-            spent_words(rt.alloc(), options, found.deciding, found.step),
-        );
-    }
+    let options = &notes.rule.options;
+    let found = look_further(rt, &asked.task, options, took, progress);
+    progress.clear();
+    say_words(
+        rt,
+        spent_words(rt.alloc(), options, found.deciding, found.step),
+    );
 }

@@ -1,5 +1,10 @@
 //! Addresses that a link of a page may lead to.
 
+/// Whether a link of a page may lead to this address.
+pub fn is_link(address: &str) -> bool {
+    is_address(address) && !lacks_scheme(address)
+}
+
 /// Whether an address is one of http or https, or a relative one. A browser passes over control characters
 /// and over blanks at the ends: with one in it, another address might be read than is seen here.
 pub(crate) fn is_address(address: &str) -> bool {

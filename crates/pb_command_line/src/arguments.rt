@@ -282,6 +282,13 @@ pub(crate) const COMPARE: Argument = Argument {
     help: "Adds a table that compares this result with that of another rule, by which the projects with the most votes win",
 };
 
+/// The published page that is compared with the one that is made.
+pub(crate) const SAME_AS: Argument = Argument {
+    name: "same-as",
+    takes: Takes::OptionalSource("PAGE"),
+    help: "Says whether PAGE, a page that was published, is just the page of this count; options that are not given are taken from PAGE, but for --words; - is standard input",
+};
+
 /// Which project is asked about.
 pub(crate) const PROJECT: Argument = Argument {
     name: "project",

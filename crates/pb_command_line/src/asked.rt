@@ -1,6 +1,6 @@
 //! What parsed arguments ask for.
 
-use crate::rule::rule_of;
+use crate::rule::{rule_of, said_rule};
 use crate::task::{
     Admits, Asked, AuditRun, Ballots, BallotsRun, CheckRun, CompareRun, CountRun, DeskRun,
     OneChange, PageRun, ServeRun, Task, WhatIfRun,
@@ -88,6 +88,8 @@ fn page_of<'a>(given: &ArgMatches<'a>, ballots: Ballots<'a>) -> PageRun<'a> {
         words: given.get_str("words"),
         currency: given.get_str("currency"),
         compares: given.get_flag("compare"),
+        same_as: given.get_str("same-as").map(source_at),
+        given: said_rule(given),
     }
 }
 

@@ -11,8 +11,8 @@ use pb_core::money::Money;
 pub(crate) enum Flaw<'a> {
     /// This argument is standard input, from which the requests come.
     Requests(&'static str),
-    /// FILE and this argument are both standard input.
-    Twice(&'static str),
+    /// These two arguments are both standard input.
+    Twice(&'static str, &'static str),
     /// This argument is standard input, and can only be a file.
     Piped(&'static str),
     /// No link of a page may lead to this address.
@@ -33,8 +33,8 @@ impl<'a> Flaw<'a> {
         if let Some(name) = among_requests(task) {
             return Some(Flaw::Requests(name));
         }
-        if let Some(name) = read_twice(task) {
-            return Some(Flaw::Twice(name));
+        if let Some((first, second)) = read_twice(task) {
+            return Some(Flaw::Twice(first, second));
         }
         if let Some(name) = piped(task) {
             return Some(Flaw::Piped(name));
@@ -60,8 +60,8 @@ impl<'a> Flaw<'a> {
             Flaw::Requests(name) => eprintln!(rt;
                 "error: {name} can't be standard input (-), because the requests come from there. Name a file."
             ),
-            Flaw::Twice(name) => eprintln!(rt;
-                "error: FILE and {name} can't both be standard input (-). Name a file for one of them."
+            Flaw::Twice(first, second) => eprintln!(rt;
+                "error: {first} and {second} can't both be standard input (-). Name a file for one of them."
             ),
             Flaw::Piped(name) => {
                 eprintln!(rt; "error: {name} can't be standard input (-). Name a file.")
@@ -170,11 +170,15 @@ fn among_requests(task: &Task<'_>) -> Option<&'static str> {
     }
 }
 
-/// The argument that is standard input beside FILE, where it is.
-fn read_twice(task: &Task<'_>) -> Option<&'static str> {
-    match (task.texts(), task) {
-        ((TextSource::Input, Some(TextSource::Input)), Task::Desk(_)) => Some("SCRIPT"),
-        ((TextSource::Input, Some(TextSource::Input)), _) => Some("JOURNAL"),
+/// Two arguments that are both standard input, if two are.
+fn read_twice(task: &Task<'_>) -> Option<(&'static str, &'static str)> {
+    match (task.texts(), task.published(), task) {
+        ((TextSource::Input, Some(TextSource::Input)), _, Task::Desk(_)) => {
+            Some(("FILE", "SCRIPT"))
+        }
+        ((TextSource::Input, Some(TextSource::Input)), _, _) => Some(("FILE", "JOURNAL")),
+        ((TextSource::Input, _), Some(TextSource::Input), _) => Some(("FILE", "PAGE")),
+        ((_, Some(TextSource::Input)), Some(TextSource::Input), _) => Some(("JOURNAL", "PAGE")),
         _ => None,
     }
 }

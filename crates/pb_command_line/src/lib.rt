@@ -15,11 +15,14 @@ mod helps;
 mod numbers;
 pub mod parse;
 mod rule;
+mod said_rule;
 pub mod task;
 mod text_source;
 
+pub use address::is_link;
 pub use command_line::PROGRAM;
 pub use parse::Parsed;
+pub use said_rule::SaidRule;
 pub use task::{
     Admits, Asked, AuditRun, Ballots, BallotsRun, CheckRun, CompareRun, CountRun, DeskRun,
     OneChange, PageRun, ServeRun, Task, WhatIfRun,

@@ -1,6 +1,7 @@
 //! The options of a count, and the rule that they name.
 
 use crate::arguments::of_count;
+use crate::said_rule::SaidRule;
 use clap::ArgMatches;
 use pb_core::money::Money;
 use pb_rounds::measure::Measure;
@@ -29,21 +30,21 @@ fn completion_of(given: &ArgMatches<'_>) -> Option<(Completion, FillUp)> {
 /// The rule of a count; what is not given is as in the standard one.
 pub(crate) fn rule_of(given: &ArgMatches<'_>) -> Rule {
     let standard = CountOptions::standard();
-    let (completion, fill_up) = completion_of(given).unwrap_or((
-        standard.completion,
-        FillUp::Nothing,
-    ));
-    let options = CountOptions {
-        step: match given.get_one::<u32>("step") {
-            Some(hundredths) => Money(u64::from(hundredths)),
-            None => standard.step,
-        },
-        max_raises: given.get_one("raises").unwrap_or(standard.max_raises),
-        workers: given.get_one("workers").unwrap_or(standard.workers),
-        completion,
-        measure: measure_of(given).unwrap_or(standard.measure),
-    };
-    Rule { options, fill_up }
+    said_rule(given).rule(given.get_one("workers").unwrap_or(standard.workers))
+}
+
+/// The rule, as far as options say it.
+pub(crate) fn said_rule(given: &ArgMatches<'_>) -> SaidRule {
+    let mut said = SaidRule::nothing().completed(completion_of(given));
+    said.measure = measure_of(given);
+    said.step = given.get_one::<u32>("step").map(step_of);
+    said.max_raises = given.get_one("raises");
+    said
+}
+
+/// A step of so many hundredths.
+fn step_of(hundredths: u32) -> Money {
+    Money(u64::from(hundredths))
 }
 
 /// The measure, if an option names one.

@@ -1,5 +1,6 @@
 //! What the arguments of the command line ask for.
 
+use crate::said_rule::SaidRule;
 use crate::text_source::TextSource;
 use pb_core::money::Money;
 use pb_rounds::rule::Rule;
@@ -112,6 +113,10 @@ pub struct PageRun<'a> {
     pub currency: Option<&'a str>,
     /// The page also has the comparison with most votes.
     pub compares: bool,
+    /// Where the published page is read from that is compared with this one, if one is.
+    pub same_as: Option<TextSource<'a>>,
+    /// The rule, as far as options say it.
+    pub given: SaidRule,
 }
 
 /// The one change of an election that is counted.
@@ -244,6 +249,14 @@ impl<'a> Task<'a> {
         match *self {
             Task::Page(PageRun { words, .. }) => words,
             _ => self.admits().roll,
+        }
+    }
+
+    /// The published page that is read, if one is.
+    pub fn published(&self) -> Option<TextSource<'a>> {
+        match *self {
+            Task::Page(PageRun { same_as, .. }) => same_as,
+            _ => None,
         }
     }
 

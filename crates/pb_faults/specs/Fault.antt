@@ -53,6 +53,7 @@ abbrev pub number_of : RunText → ℕ
 number_of text.File = 1
 number_of text.Script = 2
 number_of text.Journal = 2
+number_of text.Page = 4
 number_of other = 3
 
 -- What is told of a merged fault: the status that the program ends with, and the fields of its line. The
@@ -90,6 +91,10 @@ abbrev pub told_words : (name : List ℕ) → WordsPlace → ℕ × List (List �
 told_words name (Line number) = (1, codes "words" ∷ name ∷ decimal number ∷ [])
 told_words name (Key key) = (1, codes "words" ∷ name ∷ key.now ∷ [])
 told_words name Nowhere = (3, codes "words" ∷ name ∷ [])
+
+-- what is told of a published page that is not the one that was made: the first line that differs
+abbrev pub told_page : ℕ → ℕ × List (List ℕ)
+told_page at = (1, codes "page" ∷ codes "1" ∷ codes "Differs" ∷ decimal at ∷ [])
 
 -- the line of these fields: a `;` stands before each
 abbrev pub line : List (List ℕ) → List ℕ

@@ -17,6 +17,8 @@ pub enum RunText {
     Roll,
     /// What a page says.
     Words,
+    /// The published page that is compared with the one that is made.
+    Page,
     /// The result.
     Output,
 }
@@ -30,6 +32,7 @@ impl RunText {
             RunText::File => 1,
             RunText::Script | RunText::Journal => 2,
             RunText::Roll | RunText::Words | RunText::Output => 3,
+            RunText::Page => 4,
         }
     }
 }

@@ -54,7 +54,8 @@ fn text_of<'a, R: Files>(
     target: FileId,
 ) -> Result<Option<TextSource<'a>>> {
     let (file, second) = task.texts();
-    for text in &[Some(file), second, task.third().map(TextSource::File)] {
+    let third = task.third().map(TextSource::File);
+    for text in &[Some(file), second, third, task.published()] {
         if let Some(text) = text {
             if target.has_text(rt, text)? {
                 return Ok(Some(*text));

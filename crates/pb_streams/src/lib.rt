@@ -28,6 +28,6 @@ pub use line_count::LineCount;
 pub use output::Output;
 pub use progress_line::{ProgressLine, Shown, open_shown};
 pub use run_refusal::{End, RunRefusal};
-pub use text_reader::{TextReader, open_both, open_file};
+pub use text_reader::{TextReader, open_both, open_file, read_text};
 pub use torn_file::TornFile;
 pub use typing::{Telling, TypedReader, Typing};

@@ -1,6 +1,6 @@
 //! Why a run ends without a result.
 
-use pb_faults::{AppFault, WordsRefusal};
+use pb_faults::{AppFault, PageRefusal, WordsRefusal};
 use pb_words::Said;
 use std::alloc::AllocError;
 use std::io::{Error, ErrorKind};
@@ -12,6 +12,8 @@ pub enum End {
     Fault(AppFault),
     /// The line of a refused file with the words of a page, and its status.
     Words(WordsRefusal),
+    /// The line of a published page that is not the one that was made, and its status.
+    Page(PageRefusal),
     /// The status of refused arguments alone.
     Arguments,
 }

@@ -34,6 +34,29 @@ pub(crate) fn open<R: Files + Input>(
     }
 }
 
+/// Reads this text whole. One that can't be read is told as one that can't be opened.
+pub fn read_text<R: Files + Input + AllocGlobal>(
+    rt: &R,
+    source: &TextSource<'_>,
+    text: RunText,
+) -> std::result::Result<Vec<u8>, AppFault> {
+    let mut reader = open(rt, source, text)?;
+    let mut bytes = Vec::new(rt.alloc());
+    let read = reader.read_to_end(&mut bytes);
+    drop(reader);
+    match read {
+        Ok(_) => Ok(bytes),
+        Err(error) => {
+            drop(bytes);
+            if error.kind() == io::ErrorKind::OutOfMemory {
+                Err(AppFault::Memory)
+            } else {
+                Err(AppFault::Open(text))
+            }
+        }
+    }
+}
+
 /// Opens a .pb file, and this text behind it.
 pub fn open_both<R: Files + Input>(
     rt: &R,

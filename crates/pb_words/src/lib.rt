@@ -27,6 +27,7 @@ mod record_words;
 pub mod refused_words;
 mod repeated_words;
 mod row_words;
+pub mod same_words;
 mod saying;
 pub mod script_words;
 mod section;

@@ -1,5 +1,5 @@
 -- A page of a count.
-use Rattle.std.specs.Prelude.{◌≡◌, ℕ, List, IfSome}
+use Rattle.std.specs.Prelude.{◌≡◌, ◌≢◌, ◌≤◌, ℕ, List, IfSome, length, slice_get, take}
 use Rattle.pb_command_line.specs.declared.task.PageRun.{PageRun}
 use Rattle.pb_core.specs.Election.{ElectionView}
 use Rattle.pb_page.specs.Page.{IsPage}
@@ -16,3 +16,9 @@ AreAsked run facts = IfSome run.title (λ title. facts.title ≡ title)
 abbrev pub IsPageBy : PageRun → Rule → ElectionView → List ℕ → Type 0
 IsPageBy run rule e text = (x : CountedElectionView) × IsCountedElection x × (x.rule ≡ rule) × (x.election ≡ e)
     × (facts : Facts) × AreAsked run facts × IsPage x facts text
+
+-- two texts are alike in so many bytes, and differ in the next one
+pub record FirstDiffers (made published : List ℕ) (at : ℕ) : Type 0 where
+  pub alike : take at made ≡ take at published
+  pub apart : slice_get made at ≢ slice_get published at
+  pub within : at ≤ length published

@@ -24,8 +24,8 @@ returns-in-Err-clause-runs g c =
     let rule = c.args.counting.now.rule.now in
     let files = g.P.Read.remaining c.args.inputs.file in
     let journals = known g.J.Read.remaining c.args.inputs.journal in
-    run_ended (Gives (IsPageBy c.args.maker.now.run rule)) (CountRefuses rule.options) files journals _ g.W.Write.contents _ c.in-Err.fault
-    (counts_pass (IsPageBy c.args.maker.now.run rule) rule.options files journals _ (page_counts c.args.maker.now.run rule) c.in-Err.fault c.in-Err.ensures.reads c.in-Err.ensures.ends)
+    run_ended (Gives (IsPageBy c.args.maker.now.run.now rule)) (CountRefuses rule.options) files journals _ g.W.Write.contents _ c.in-Err.fault
+    (counts_pass (IsPageBy c.args.maker.now.run.now rule) rule.options files journals _ (page_counts c.args.maker.now.run.now rule) c.in-Err.fault c.in-Err.ensures.reads c.in-Err.ensures.ends)
 
 pub returns-in-Ok-made-clause-runs : goal.returns-in-Ok-made-clause-runs
 returns-in-Ok-made-clause-runs g c =
@@ -35,9 +35,9 @@ returns-in-Ok-made-clause-runs g c =
     let e = c.in-Ok.count.election in
     let file = c.in-Ok.ensures.ends.judges in
     let text = c.in-Ok-made.text.items in
-    run_written (Gives (IsPageBy c.args.maker.now.run rule)) (CountRefuses rule.options) files journals _ g.W.Write.contents _ _ text _
+    run_written (Gives (IsPageBy c.args.maker.now.run.now rule)) (CountRefuses rule.options) files journals _ g.W.Write.contents _ _ text _
     (rw c.as_slice.ensures.value at c.write_out.ensures.ok) c.write_out.ensures.fault file.1 file.0
-    (writes_of (IsPageBy c.args.maker.now.run rule) files journals e text c.in-Ok.ensures.left (rw c.in-Ok.ensures.counted.1 at c.in-Ok-made.ensures))
+    (writes_of (IsPageBy c.args.maker.now.run.now rule) files journals e text c.in-Ok.ensures.left (rw c.in-Ok.ensures.counted.1 at c.in-Ok-made.ensures))
 
 pub returns-in-Err-made-clause-runs : goal.returns-in-Err-made-clause-runs
 returns-in-Err-made-clause-runs g c =
@@ -45,12 +45,12 @@ returns-in-Err-made-clause-runs g c =
     let files = g.P.Read.remaining c.args.inputs.file in
     let journals = known g.J.Read.remaining c.args.inputs.journal in
     let file = c.in-Ok.ensures.ends.judges in
-    run_ended (Gives (IsPageBy c.args.maker.now.run rule)) (CountRefuses rule.options) files journals _ g.W.Write.contents _ _
-    (memory_end (Gives (IsPageBy c.args.maker.now.run rule)) (CountRefuses rule.options) files journals _ file.1 file.0)
+    run_ended (Gives (IsPageBy c.args.maker.now.run.now rule)) (CountRefuses rule.options) files journals _ g.W.Write.contents _ _
+    (memory_end (Gives (IsPageBy c.args.maker.now.run.now rule)) (CountRefuses rule.options) files journals _ file.1 file.0)
 
 pub returns-in-Ok-made-clause-written : goal.returns-in-Ok-made-clause-written
 returns-in-Ok-made-clause-written g c =
     let e = c.in-Ok.count.election in
     let text = c.in-Ok-made.text.items in
-    let page : IsPageBy c.args.maker.now.run c.args.counting.now.rule.now e text = rw c.in-Ok.ensures.counted.1 at c.in-Ok-made.ensures in
+    let page : IsPageBy c.args.maker.now.run.now c.args.counting.now.rule.now e text = rw c.in-Ok.ensures.counted.1 at c.in-Ok-made.ensures in
     on_ok_weaker c.write_out.result (λ appends. (e, (text, page, appends))) (rw c.as_slice.ensures.value at c.write_out.ensures.ok)

@@ -1,0 +1,194 @@
+//! What a published page marks of how it was made.
+
+use pb_command_line::currency::is_currency;
+use pb_command_line::{PageRun, SaidRule, is_link};
+use pb_core::money::Money;
+use pb_core::no_memory::NoMemory;
+use pb_rounds::measure::Measure;
+use pb_rounds::options::Completion;
+use pb_rounds::rule::FillUp;
+use pb_rounds::rule_names::{completion_named, measure_named};
+use std::alloc::Global;
+use std::str;
+
+/// What a published page marks of how it was made; what it does not mark is nothing. A wrong mark makes another
+/// page, which is not the same.
+#[derive(Drop)]
+pub(crate) struct Marks {
+    title: Option<String>,
+    /// The address of a page that recounts.
+    recount: Option<String>,
+    currency: Option<String>,
+    /// It has the comparison with most votes.
+    compares: bool,
+    pub(crate) rule: SaidRule,
+}
+
+/// An option of a rule that has a value.
+#[derive(Clone, Copy)]
+enum RuleOption {
+    Measure,
+    Completion,
+    Step,
+    Raises,
+}
+
+impl Marks {
+    /// What this page marks.
+    pub(crate) fn of(alloc: Global, page: &[u8]) -> Result<Marks, NoMemory> {
+        let page = str::from_utf8(page).unwrap_or("");
+        Ok(Marks {
+            title: shown(alloc, between(page, "<title>", "</title>"))?,
+            recount: shown(alloc, link_of(page))?,
+            currency: currency_of(alloc, page)?,
+            compares: page.contains("<h2 id='compared'>"),
+            rule: rule_of(page),
+        })
+    }
+
+    /// What is asked for a page, and what is not given as it is marked. A link or a currency that no page of this
+    /// program has is passed over.
+    pub(crate) fn filled<'m>(&'m self, asked: &PageRun<'m>) -> PageRun<'m> {
+        let recount = text_of(&self.recount).filter(|link| is_link(link));
+        let currency = text_of(&self.currency).filter(|text| is_currency(text));
+        PageRun {
+            ballots: asked.ballots,
+            title: asked.title.or(text_of(&self.title)),
+            recount: asked.recount.or(recount),
+            words: asked.words,
+            currency: asked.currency.or(currency),
+            compares: asked.compares || self.compares,
+            same_as: asked.same_as,
+            given: asked.given.or(&self.rule),
+        }
+    }
+}
+
+/// The text, if there is one.
+fn text_of(text: &Option<String>) -> Option<&str> {
+    match text {
+        Some(text) => Some(text.as_str()),
+        None => None,
+    }
+}
+
+/// What stands between these two texts, where they first come.
+fn between<'p>(page: &'p str, before: &str, after: &str) -> Option<&'p str> {
+    let (_, rest) = page.split_once(before)?;
+    let (found, _) = rest.split_once(after)?;
+    Some(found)
+}
+
+/// The address of the link below the last heading.
+fn link_of(page: &str) -> Option<&str> {
+    let (_, check) = page.split_once("<h2 id='check'>")?;
+    between(check, "<a href='", "'>")
+}
+
+/// The currency that stands beside the budget.
+fn currency_of(alloc: Global, page: &str) -> Result<Option<String>, NoMemory> {
+    let budget = between(page, "<data class='budget' value='", "</data>");
+    let amount = shown(alloc, budget.and_then(behind_tag))?;
+    let found = match &amount {
+        Some(amount) => beside_digits(amount.as_str()),
+        None => None,
+    };
+    let currency = match found {
+        Some(text) => match String::from_str(alloc, text) {
+            Ok(text) => Ok(Some(text)),
+            Err(_) => Err(NoMemory),
+        },
+        None => Ok(None),
+    };
+    drop(amount);
+    currency
+}
+
+/// What stands behind the end of a tag.
+fn behind_tag(text: &str) -> Option<&str> {
+    let (_, shown) = text.split_once("'>")?;
+    Some(shown)
+}
+
+/// What stands before the digits of an amount, or behind them.
+fn beside_digits(amount: &str) -> Option<&str> {
+    let bytes = amount.as_bytes();
+    let first = bytes.iter().position(is_digit)?;
+    let mut end = bytes.len();
+    while end > first && !is_digit(&bytes[end - 1]) {
+        end -= 1;
+    }
+    for beside in [&bytes[..first], &bytes[end..]] {
+        let text = str::from_utf8(beside).unwrap_or("").trim();
+        if !text.is_empty() {
+            return Some(text);
+        }
+    }
+    None
+}
+
+/// Whether a byte is a digit.
+fn is_digit(byte: &u8) -> bool {
+    byte.is_ascii_digit()
+}
+
+/// The rule, as the options of the command say it.
+fn rule_of(page: &str) -> SaidRule {
+    let mut rule = SaidRule::nothing();
+    let Some(commands) = between(page, "<pre><code>", "</code></pre>") else {
+        return rule;
+    };
+    // An option that a page leaves out has its usual value.
+    rule.measure = Some(Measure::Votes);
+    rule = rule.completed(Some((Completion::Add1, FillUp::Nothing)));
+    let mut option = None;
+    for word in commands.split_whitespace() {
+        match option {
+            Some(RuleOption::Measure) => rule.measure = measure_named(word),
+            Some(RuleOption::Completion) => rule = rule.completed(completion_named(word)),
+            Some(RuleOption::Step) => rule.step = word.parse().ok().map(step_of),
+            Some(RuleOption::Raises) => rule.max_raises = word.parse().ok(),
+            None => {}
+        }
+        if word == "--plain" {
+            rule = rule.completed(Some((Completion::Plain, FillUp::Nothing)));
+        }
+        option = option_named(word);
+    }
+    rule
+}
+
+/// The option of a rule that this word is, if it is one with a value.
+fn option_named(word: &str) -> Option<RuleOption> {
+    match word {
+        "--measure" => Some(RuleOption::Measure),
+        "--completion" => Some(RuleOption::Completion),
+        "--step" => Some(RuleOption::Step),
+        "--raises" => Some(RuleOption::Raises),
+        _ => None,
+    }
+}
+
+/// A step of so many hundredths.
+fn step_of(hundredths: u64) -> Money {
+    Money(hundredths)
+}
+
+/// A text with the characters that a page writes by their numbers.
+fn shown(alloc: Global, text: Option<&str>) -> Result<Option<String>, NoMemory> {
+    let Some(text) = text else {
+        return Ok(None);
+    };
+    let (first, rest) = text.split_once("&#").unwrap_or((text, ""));
+    let mut out = String::from_str(alloc, first)?;
+    for part in rest.split("&#") {
+        match part.split_once(';') {
+            Some((number, rest)) => {
+                out.push(char::from(number.parse().unwrap_or(b'?')))?;
+                out.push_str(rest)?
+            }
+            None => out.push_str(part)?,
+        }
+    }
+    Ok(Some(out))
+}

@@ -1,0 +1,70 @@
+//! A rule, as far as options or a page say it.
+
+use pb_core::money::Money;
+use pb_rounds::measure::Measure;
+use pb_rounds::options::{Completion, CountOptions};
+use pb_rounds::rule::{FillUp, Rule};
+
+/// A rule, as far as options or a page say it.
+#[derive(Clone, Copy)]
+pub struct SaidRule {
+    pub measure: Option<Measure>,
+    /// Whether shares are raised.
+    pub completion: Option<Completion>,
+    /// How what is left is filled up; it is said where the completion is.
+    pub fill_up: Option<FillUp>,
+    /// How much a raise adds to a share.
+    pub step: Option<Money>,
+    /// The most raises that are allowed.
+    pub max_raises: Option<u32>,
+}
+
+impl SaidRule {
+    /// The same with this completion, if it is one.
+    pub fn completed(&self, said: Option<(Completion, FillUp)>) -> SaidRule {
+        let mut rule = *self;
+        if let Some((completion, fill_up)) = said {
+            rule.completion = Some(completion);
+            rule.fill_up = Some(fill_up);
+        }
+        rule
+    }
+
+    /// Nothing is said.
+    pub fn nothing() -> SaidRule {
+        SaidRule {
+            measure: None,
+            completion: None,
+            fill_up: None,
+            step: None,
+            max_raises: None,
+        }
+    }
+
+    /// What this one says, and for the rest what the other one says.
+    pub fn or(&self, other: &SaidRule) -> SaidRule {
+        SaidRule {
+            measure: self.measure.or(other.measure),
+            completion: self.completion.or(other.completion),
+            fill_up: self.fill_up.or(other.fill_up),
+            step: self.step.or(other.step),
+            max_raises: self.max_raises.or(other.max_raises),
+        }
+    }
+
+    /// The rule of a count by so many workers; what is not said is as in the standard one.
+    pub fn rule(&self, workers: u32) -> Rule {
+        let standard = CountOptions::standard();
+        let options = CountOptions {
+            step: self.step.unwrap_or(standard.step),
+            max_raises: self.max_raises.unwrap_or(standard.max_raises),
+            workers,
+            completion: self.completion.unwrap_or(standard.completion),
+            measure: self.measure.unwrap_or(standard.measure),
+        };
+        Rule {
+            options,
+            fill_up: self.fill_up.unwrap_or(FillUp::Nothing),
+        }
+    }
+}
