@@ -51,6 +51,9 @@ COMPUTING_LAWS = {
 PINNED = {
     ("pb_core", "Money", "money_of"): ("pb_core", "money_is_what_its_text_names"),
     ("pb_read", "Lengths", "max_length_of"): ("pb_read", "max_length_is_what_its_text_names"),
+    ("pb_read", "Voting", "is_among"): ("pb_read", "a_vote_names_places"),
+    ("pb_read", "Voting", "names_only"): ("pb_read", "a_vote_names_places"),
+    ("pb_read", "Voting", "ballot_of"): ("pb_read", "a_vote_names_places"),
     ("pb_price", "Price", "price_at"): ("pb_price", "price_is_least_payment"),
     ("pb_rounds", "Count", "opening_share"): ("pb_rounds", "opening_share_is_largest"),
     ("pb_rounds", "MostVotes", "most_votes_first"): ("pb_rounds", "most_votes_first_is_its_rule"),

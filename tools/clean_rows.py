@@ -48,7 +48,6 @@ POINTS = {*'points point score scores rank ranks ranking weight weights votes co
 NOTHING = {*'nan none null nil na n/a - 0 \\n'.split()}
 DONE = {*'insert inserted update updated delete deleted remove removed cancel canceled cancelled revoke revoked '
         'withdraw withdrawn'.split()}
-NO = {*'0 no n false f non nein nie ne nej não nao'.split()}
 # What a count reads of META, and such a key together with its value.
 NEEDED = 'budget', 'vote_type', 'max_length'
 KEY = re.compile(rf'({"|".join(NEEDED)})\s*[:=]\s*(.*)', re.I)
@@ -66,9 +65,9 @@ WORDS = {
     'MissingField': 'it is too short: delete it if it is a heading, a total or a note; if not, get it whole',
     'MissingKey': 'META needs budget;AMOUNT and vote_type;approval',
     'VoteType': 'only approval ballots are counted; if each voter picks one project, name `--single-choice`',
-    'BadMoney': 'an amount is digits, with at most one point or comma: no currency, no minus, no letters, no '
-        'footnotes; write it in full (`12k` may be 12000, `12$50` may be 12.50); if a word such as `net`, `each` or '
-        '`a year` is beside it, ask for the whole cost',
+    'BadMoney': 'an amount is digits, with at most one point or comma: no currency, no letters, no footnotes; if it is '
+        'below 0, find out the right one, and do not just delete the sign; write it in full (`12k` may be 12000, '
+        '`12$50` may be 12.50); if a word such as `net`, `each` or `a year` is beside it, ask for the whole cost',
     'MoneyTooFine': 'more than two decimals: if that is meant, name `--round half-up`, `down` or `up`',
     'MoneyTooLarge': 'the amount has too many digits',
     'ZeroCost': 'the cost is 0: write it, or drop the project and the votes for it by `--drop-zero-cost`',
@@ -88,6 +87,8 @@ WORDS = {
     'left out': 'it says that rows were left out: get the whole file',
     'other separator': 'it is one field: if `,` or tabs separate its fields, write `;`, but keep the `,` '
         'between the ids of a vote; if it is a heading or a note, delete it',
+    'rest': 'it may be the rest of the vote in the row above, which ends in a comma: if so, put it there; if it is a '
+        "voter's id, write `;` behind it",
     'a column each': 'it has a column for each project: make one column vote of them, with `,` between the '
         'ids that a voter approves',
     'cut': 'the row has more fields than there are column names: put quotation marks around the field that '
@@ -101,10 +102,11 @@ WORDS = {
         'another; get the ids again, as text',
     'alike but unseen': "the id of record {} differs only by characters that can't be seen",
     'points': 'the votes have points or ranks, or numbers of votes, which are no approvals, so no count',
-    'says no': 'rows are joined, and a column says {} in one of them: if such rows are no votes, delete '
-        'them; if it says something else, delete the column',
+    'varies': 'rows to join differ in the column {}, which says {}: if some such rows are no votes, delete them; if '
+        'they are other people, name `--repeated-voters distinct`; if it says something else, delete the column',
     'log': 'a row says {}, so the rows may be a log of what was done to votes: get the votes as they are at its end',
-    'other way': 'the rows have one project each, and become one ballot: leave `--repeated-voters` out',
+    'other way': 'the rows have one project each: name `--repeated-voters merge` if each voter has a row for each '
+        'project, `distinct` if each row is a person',
     'not choose-1': 'the vote names several projects, so the file is not choose-1',
     'beside': '{} in the field {} names projects, where it is not counted: write each field below its '
         'column name, the ids of a vote into one field, with `,` between, and joined rows apart',
@@ -117,8 +119,9 @@ WORDS = {
         'lines of their own, write `,` between them',
     'places': 'it stands beside ids, so the votes may be places, counted from 0: get the ids',
     'sign': 'it has a sign: votes against a project, and points, are no approvals',
-    'id and more': 'it has the id of a project and more: ids have only `,` between; points, ranks and what '
-        'is crossed out are no approvals; if a spreadsheet made one number of ids, get them again, as text',
+    'id and more': 'it has the id of a project and more: ids have only `,` between; look at the ballot, since `1-3` may '
+        'be a range, and `2 or 3` one of both; points, ranks and what is crossed out are no approvals; if a spreadsheet '
+        'made one number of ids, get them again, as text',
     'marked': 'a mark stands beside the id of the project {}: ask whether the voter approves it',
     'alike': 'the project {} differs only by case, zeros, marks, white space, how letters are coded, letters '
         'before its number, or letters for digits (O for 0, B for 8): if it is meant, correct one of both',
@@ -341,13 +344,19 @@ class Cleaner:
             section.head.edit_unseen(column)
         # A spreadsheet fills the row of names up with empty ones.
         width = max((at for at, it in enumerate(section.names, 1) if it), default=0)
-        for row in section.below:
+        column = self.projects.column('project_id')
+        ids = {seen(it.fields[column]) for it in self.projects.rows(column)}
+        vote = section.column('vote')
+        cut = [row for row in section.rows(vote) if row.fields[vote].endswith(',')]
+        for above, row in zip([section.head, *section.below], section.below):
             if name_of(row.fields[0]) == section.names[0] and [*map(name_of, row.fields)] == section.names:
                 row.replace('column names again')
             elif self.is_cut and any(map(seen, row.fields[width:])):
                 self.refuse(row, 'cut')
             elif len(row.fields) == 1 < width:
-                for why in [why for why, look in SHORT if re.search(look, row.fields[0], re.I)][:1]:
+                is_rest = section is self.votes and cut == [above]
+                rest = ['rest'] if is_rest and ids >= {*map(seen, row.fields[0].split(','))} else []
+                for why in [*rest, *(why for why, look in SHORT if re.search(look, row.fields[0], re.I))][:1]:
                     self.refuse(row, why)
 
     # Amounts
@@ -437,7 +446,7 @@ class Cleaner:
         head, names, way = self.votes.head, self.votes.names, self.given.repeated_voters
         self.is_long = 'vote' not in names and names.count('project_id') == 1
         if self.is_long:
-            if way not in (None, 'merge'):
+            if way in ('first', 'last'):
                 self.refuse(head, 'other way')
             head.edit(names.index('project_id'), 'heading of rows to join', 'vote')
             names[names.index('project_id')] = 'vote'
@@ -489,17 +498,18 @@ class Cleaner:
             done = {it.lower() for it in said}
             if len(done) > 1 and done & {*DONE}:
                 self.refuse(first, 'log', shown(next(it for it in said if it.lower() in DONE)))
-        if self.is_long:
-            what, way = 'rows joined', 'merge'
+        if self.is_long and way == 'merge':
+            what = 'rows joined'
         elif way and len(name) > 15 and name.isdigit() and not name[15:].strip('0'):
             self.refuse(more[0], 'changed id', shown(name))
             return
         if way == 'merge':
             others = [{*map(seen, row.fields[:vote] + row.fields[vote + 1:])} for row in rows]
             self.others += [row for row, other in zip(rows, others) if not other - {''} <= others[0]]
-            said = {it for other in others for it in other ^ others[0] if it.lower() in NO}
-            if self.is_long and said:
-                self.refuse(first, 'says no', shown(min(said)))
+            for at, label in enumerate(self.votes.names) if self.is_long else ():
+                said = dict.fromkeys(seen(row.fields[at]) for row in rows if at < len(row.fields))
+                if at not in (voter, vote) and len(said) > 1:
+                    self.refuse(first, 'varies', shown(label), ', '.join(map(shown, said)))
             pieces = [trimmed(it) for row in rows for it in row.fields[vote].split(',')]
             after = ','.join(dict.fromkeys(filter(None, pieces)))
             if after != trimmed(first.fields[vote]):

@@ -112,24 +112,16 @@ fn behind_tag(text: &str) -> Option<&str> {
 
 /// What stands before the digits of an amount, or behind them.
 fn beside_digits(amount: &str) -> Option<&str> {
-    let bytes = amount.as_bytes();
-    let first = bytes.iter().position(is_digit)?;
-    let mut end = bytes.len();
-    while end > first && !is_digit(&bytes[end - 1]) {
-        end -= 1;
+    let (before, _) = amount.split_once(|c: char| c.is_ascii_digit())?;
+    let (_, behind) = amount.rsplit_once(|c: char| c.is_ascii_digit())?;
+    let (before, behind) = (before.trim(), behind.trim());
+    if !before.is_empty() {
+        return Some(before);
     }
-    for beside in [&bytes[..first], &bytes[end..]] {
-        let text = str::from_utf8(beside).unwrap_or("").trim();
-        if !text.is_empty() {
-            return Some(text);
-        }
+    if behind.is_empty() {
+        return None;
     }
-    None
-}
-
-/// Whether a byte is a digit.
-fn is_digit(byte: &u8) -> bool {
-    byte.is_ascii_digit()
+    Some(behind)
 }
 
 /// The rule, as the options of the command say it.

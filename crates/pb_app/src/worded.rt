@@ -5,7 +5,7 @@ use pb_page::{Plural, WordsFault, WordsKey, WordsLine, entry_at};
 use pb_witness::text::Text;
 use pb_words::PlaceholderValue::Name;
 use pb_words::page_words::{
-    KeyLine, put_bad_line, put_missing_key, put_not_text, put_unknown_key, put_unused_key,
+    KeyFault, KeyLine, put_bad_line, put_missing_key, put_not_text, put_unknown_key, put_unused_key,
 };
 use pb_words::{NO_MEMORY, WordsWriter, unread_words};
 use std::alloc::{AllocError, Global};
@@ -67,17 +67,17 @@ fn put_fault(out: &mut WordsWriter, path: &str, fault: &WordsFault, row: &str) {
         WordsFault::NotText(line) => put_not_text(out, line),
         WordsFault::BadLine(line) => put_bad_line(out, line),
         WordsFault::UnknownKey(line) => put_unknown_key(out, line, key),
-        WordsFault::RepeatedKey(line) => key_line(line, value).put_repeated(out),
-        WordsFault::Markup(line) => key_line(line, value).put_markup(out),
-        WordsFault::BadValue(line) => key_line(line, value).put_bad_value(out),
-        WordsFault::UnknownPlace(line) => key_line(line, value).put_unknown_place(out),
-        WordsFault::LoneBrace(line) => key_line(line, value).put_lone_brace(out),
-        WordsFault::MissingPlace(line, place) => key_line(line, value).put_missing_place(
-            out, place,
-        ),
-        WordsFault::RepeatedPlace(line, place) => key_line(line, value).put_repeated_place(
-            out, place,
-        ),
+        WordsFault::RepeatedKey(line) => key_line(line, value).put(out, KeyFault::Repeated),
+        WordsFault::Markup(line) => key_line(line, value).put(out, KeyFault::Markup),
+        WordsFault::BadValue(line) => key_line(line, value).put(out, KeyFault::BadValue),
+        WordsFault::UnknownPlace(line) => key_line(line, value).put(out, KeyFault::UnknownPlace),
+        WordsFault::LoneBrace(line) => key_line(line, value).put(out, KeyFault::LoneBrace),
+        WordsFault::MissingPlace(line, place) => {
+            key_line(line, value).put(out, KeyFault::MissingPlace(place))
+        }
+        WordsFault::RepeatedPlace(line, place) => {
+            key_line(line, value).put(out, KeyFault::RepeatedPlace(place))
+        }
         WordsFault::MissingKey(key) => put_missing_key(out, key.text()),
         WordsFault::UnusedKey(key, plural) => put_unused_key(out, key.text(), plural_text(plural)),
         WordsFault::ReadFailed | WordsFault::NoMemory => out.put(NO_MEMORY),

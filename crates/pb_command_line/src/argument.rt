@@ -13,18 +13,22 @@ pub(crate) enum Takes {
     OptionalPath(char),
     /// A whole number, which its help calls so.
     Number(&'static str),
+    /// A whole number, where not one alone is asked about by an option of its own.
+    NumberOfAll(&'static str),
     /// The name of a measure.
     Measure,
     /// The name of a completion, where no raises are left out by an option of their own.
     Completion,
     /// A text, which its help calls so.
     Text(&'static str),
-    /// A text that has to be given.
-    NeededText(&'static str),
+    /// A text that has to be given, where not all are asked about by an option of their own.
+    OneOfAll(&'static str),
     /// An amount of money, where no further voters are asked about by an option of their own.
     Amount(&'static str),
     /// Nothing: it is given or not.
     Nothing,
+    /// Nothing, where nothing is asked about one alone.
+    All,
 }
 
 /// An argument of a command.
@@ -50,13 +54,14 @@ impl Argument {
             Takes::OptionalSource(name)
             | Takes::OptionalFile(name)
             | Takes::Number(name)
+            | Takes::NumberOfAll(name)
             | Takes::Text(name)
-            | Takes::NeededText(name)
+            | Takes::OneOfAll(name)
             | Takes::Amount(name) => name,
             Takes::OptionalPath(_) => "PATH",
             Takes::Measure => "MEASURE",
             Takes::Completion => "COMPLETION",
-            Takes::Path | Takes::Nothing => self.name,
+            Takes::Path | Takes::Nothing | Takes::All => self.name,
         }
     }
 }

@@ -292,8 +292,22 @@ pub(crate) const SAME_AS: Argument = Argument {
 /// Which project is asked about.
 pub(crate) const PROJECT: Argument = Argument {
     name: "project",
-    takes: Takes::NeededText("ID"),
+    takes: Takes::OneOfAll("ID"),
     help: "The id of the project",
+};
+
+/// Whether the losers are asked about.
+pub(crate) const ALL: Argument = Argument {
+    name: "all",
+    takes: Takes::All,
+    help: "Asks about each project that lost, those with most votes first, and prints a row for each: the highest cost and the fewest further voters with which a search found that it wins",
+};
+
+/// How many losers are asked about.
+pub(crate) const FIRST: Argument = Argument {
+    name: "first",
+    takes: Takes::NumberOfAll("N"),
+    help: "With --all: asks about the first N of them only, 1 to 10000 [default: 100]",
 };
 
 /// The one cost that is tried.

@@ -3,13 +3,16 @@
 use crate::rule::{rule_of, said_rule};
 use crate::task::{
     Admits, Asked, AuditRun, Ballots, BallotsRun, CheckRun, CompareRun, CountRun, DeskRun,
-    OneChange, PageRun, ServeRun, Task, WhatIfRun,
+    OneChange, PageRun, ServeRun, Task, WhatIfRun, Whose,
 };
 use crate::text_source::TextSource;
 use clap::ArgMatches;
 use pb_core::money::Money;
 use pb_rounds::options::CountOptions;
 use pb_rounds::rule::{FillUp, Rule};
+
+/// How many losers are asked about, where no option says it.
+const FIRST: u32 = 100;
 
 /// What parsed arguments ask for; without a command it is a count of standard input.
 pub(crate) fn asked_by<'a>(matches: &ArgMatches<'a>) -> Asked<'a> {
@@ -69,8 +72,7 @@ fn count_of<'a>(name: &str, given: &ArgMatches<'a>, ballots: Ballots<'a>) -> Opt
         }),
         "whatif" => Task::WhatIf(WhatIfRun {
             ballots,
-            project: given.get_str("project").unwrap_or(""),
-            change: change_of(given),
+            whose: whose_of(given),
         }),
         "page" => Task::Page(page_of(given, ballots)),
         "export" => Task::Export(ballots),
@@ -125,6 +127,15 @@ fn desk_of<'a>(name: &str, given: &ArgMatches<'a>, file: TextSource<'a>) -> Task
             digests: given.get_flag("digests"),
         }),
     }
+}
+
+/// Which project a question about changed elections is about.
+fn whose_of<'a>(given: &ArgMatches<'a>) -> Whose<'a> {
+    if given.get_flag("all") {
+        return Whose::Losers(given.get_one("first").unwrap_or(FIRST));
+    }
+    let project = given.get_str("project").unwrap_or("");
+    Whose::Project(project, change_of(given))
 }
 
 /// The one change that is counted, if an option says so. A text that names no cost is one of 0.

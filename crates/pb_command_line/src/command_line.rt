@@ -1,7 +1,7 @@
 //! The command line as `clap` reads it, built from the commands and their arguments.
 
 use crate::argument::{Argument, Takes};
-use crate::arguments::{AGAINST, HISTORY, PLAIN, VOTER, VOTERS};
+use crate::arguments::{AGAINST, ALL, COST, FIRST, HISTORY, PLAIN, PROJECT, VOTER, VOTERS};
 use crate::commands::{CommandForm, forms};
 use crate::helps::{ABOUT, AFTER_HELP};
 use crate::rule::is_of_count;
@@ -79,6 +79,8 @@ fn with_arguments<'a>(
 fn needed_by(name: &str, asks_against: bool) -> Option<&'static str> {
     if name == HISTORY.name {
         Some(VOTER.name)
+    } else if name == FIRST.name {
+        Some(ALL.name)
     } else if asks_against && is_of_count(name) {
         Some(AGAINST.name)
     } else {
@@ -116,6 +118,11 @@ fn made<'a>(alloc: Global, argument: &Argument) -> Result<Arg<'a>, AllocError> {
                 .action(ArgAction::Set),
         ),
         Takes::Nothing => Ok(arg.long(argument.name).action(ArgAction::SetTrue)),
+        Takes::All => {
+            arg.long(argument.name)
+                .action(ArgAction::SetTrue)
+                .conflicts_with_all(&[PROJECT.name, COST.name, VOTERS.name])
+        }
         takes => option(arg.long(argument.name), argument.value_name(), takes),
     }
 }
@@ -126,7 +133,11 @@ fn option<'a>(arg: Arg<'a>, value_name: &'static str, takes: Takes) -> Result<Ar
     match takes {
         Takes::OptionalPath(letter) => Ok(arg.short(letter)),
         Takes::Number(_) => Ok(arg.allow_negative_numbers(true)),
-        Takes::NeededText(_) => Ok(arg.required(true)),
+        Takes::NumberOfAll(_) => {
+            arg.allow_negative_numbers(true)
+                .conflicts_with(PROJECT.name)
+        }
+        Takes::OneOfAll(_) => arg.required_unless_present(ALL.name),
         Takes::Measure => Ok(arg.value_parser(MEASURES)),
         Takes::Completion => arg.value_parser(COMPLETIONS).conflicts_with(PLAIN.name),
         Takes::Amount(_) => arg.conflicts_with(VOTERS.name),

@@ -3,8 +3,8 @@
 use crate::argument_group::ArgumentGroup;
 use crate::argument_group::ArgumentGroup::{OfCount, OfResult, Own};
 use crate::arguments::{
-    AGAINST, BY_ID, BY_PROJECT, CLERKS, COMPARE, COST, CURRENCY, DIGEST, DIGESTS, DURABLE,
-    ELECTION, HISTORY, JOURNAL, KEEP_FILE, KEEP_VOTERS, LEAST, LEFT_BY, NO_SHUT, OTHER_FILE,
+    AGAINST, ALL, BY_ID, BY_PROJECT, CLERKS, COMPARE, COST, CURRENCY, DIGEST, DIGESTS, DURABLE,
+    ELECTION, FIRST, HISTORY, JOURNAL, KEEP_FILE, KEEP_VOTERS, LEAST, LEFT_BY, NO_SHUT, OTHER_FILE,
     OUTPUT, PROGRESS, PROJECT, QUIET, QUIET_BALLOTS, QUIET_DESK, QUIET_SERVE, RECOUNT,
     REQUIRE_SHUT, ROLL, SAME_AS, SCRIPT, SERVED, SHUT, STRICT, TITLE, VOTER, VOTERS, WORDS,
 };
@@ -112,10 +112,12 @@ fn what_if() -> &'static CommandForm {
 
 const WHAT_IF: &CommandForm = &CommandForm {
     name: "whatif",
-    notes: "Each row is one change: another cost, or further voters. For each row the whole election was counted again. The table says nothing about a cost or a number of voters that has no row: try it with --cost or --voters.\n\nManual pages: man pb_app-election, man 5 pb_app-whatif, man pb_app-proposers.",
+    notes: "Each row is one change: another cost, or further voters; with --all it is one project. For each change the whole election was counted again. The table says nothing about a cost or a number of voters that has no row: try it with --cost or --voters.\n\nManual pages: man pb_app-election, man 5 pb_app-whatif, man pb_app-proposers.",
     about: "Counts a .pb file again and again, and prints at which cost, or with how many further voters, a project wins",
     groups: &[
-        Own(&[ELECTION, PROJECT, COST, VOTERS, LEFT_BY, OTHER_FILE]),
+        Own(&[
+            ELECTION, PROJECT, COST, VOTERS, ALL, FIRST, LEFT_BY, OTHER_FILE,
+        ]),
         OfCount,
         OfResult,
     ],

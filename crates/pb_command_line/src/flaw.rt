@@ -2,7 +2,7 @@
 
 use crate::address::{is_address, lacks_scheme};
 use crate::currency::is_currency;
-use crate::task::{BallotsRun, OneChange, PageRun, Task, WhatIfRun};
+use crate::task::{BallotsRun, OneChange, PageRun, Task, WhatIfRun, Whose};
 use crate::text_source::TextSource;
 use pb_core::money::Money;
 
@@ -23,6 +23,8 @@ pub(crate) enum Flaw<'a> {
     Currency(&'a str),
     /// No project can have the one cost that is tried.
     Cost,
+    /// So many losers can't be asked about.
+    First(u32),
     /// No voter has the id whose history is asked for: it is empty.
     NoVoter,
 }
@@ -51,6 +53,9 @@ impl<'a> Flaw<'a> {
         if has_no_voter(task) {
             return Some(Flaw::NoVoter);
         }
+        if let Some(first) = bad_first(task) {
+            return Some(Flaw::First(first));
+        }
         None
     }
 
@@ -77,6 +82,9 @@ impl<'a> Flaw<'a> {
             ),
             Flaw::Cost => eprintln!(rt;
                 "error: --cost must be an amount from 0.01 to 10000000000000. Write it with digits only, like 53.66: no currency, nothing between thousands, at most two decimals."
+            ),
+            Flaw::First(first) => eprintln!(rt;
+                "option --first: {first} is not allowed. Give a value from 1 to 10000."
             ),
             Flaw::NoVoter => {
                 eprintln!(rt; "error: --history needs the id of a voter. Give it with --voter.")
@@ -138,11 +146,24 @@ fn has_no_cost(task: &Task<'_>) -> bool {
     match task {
         Task::WhatIf(
             WhatIfRun {
-                change: Some(OneChange::Cost(cost)),
+                whose: Whose::Project(_, Some(OneChange::Cost(cost))),
                 ..
             },
         ) => *cost == Money(0),
         _ => false,
+    }
+}
+
+/// The number of losers that are asked about, if it is out of its range.
+fn bad_first(task: &Task<'_>) -> Option<u32> {
+    match task {
+        Task::WhatIf(
+            WhatIfRun {
+                whose: Whose::Losers(first),
+                ..
+            },
+        ) if *first == 0 || *first > 10_000 => Some(*first),
+        _ => None,
     }
 }
 

@@ -25,6 +25,6 @@ pub use parse::Parsed;
 pub use said_rule::SaidRule;
 pub use task::{
     Admits, Asked, AuditRun, Ballots, BallotsRun, CheckRun, CompareRun, CountRun, DeskRun,
-    OneChange, PageRun, ServeRun, Task, WhatIfRun,
+    OneChange, PageRun, ServeRun, Task, WhatIfRun, Whose,
 };
 pub use text_source::TextSource;

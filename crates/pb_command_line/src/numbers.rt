@@ -32,6 +32,10 @@ const NUMBERED: &[Numbered] = &[
         range: "from 0 to 4294967295",
     },
     Numbered {
+        name: "first",
+        range: "from 1 to 10000",
+    },
+    Numbered {
         name: "voters",
         range: "from 0 to 1000000",
     },

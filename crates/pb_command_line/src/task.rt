@@ -128,14 +128,20 @@ pub enum OneChange {
     Voters(u32),
 }
 
+/// Which project a question about changed elections is about.
+#[derive(Clone, Copy)]
+pub enum Whose<'a> {
+    /// The one with this id; with no change that is counted alone, changes are searched.
+    Project(&'a str, Option<OneChange>),
+    /// Each of so many losers, those with most votes.
+    Losers(u32),
+}
+
 /// A question about changed elections: what would have made a project win.
 #[derive(Clone, Copy)]
 pub struct WhatIfRun<'a> {
     pub ballots: Ballots<'a>,
-    /// The project's id.
-    pub project: &'a str,
-    /// The one change that is counted; with none, changes are searched.
-    pub change: Option<OneChange>,
+    pub whose: Whose<'a>,
 }
 
 /// What the arguments ask for.

@@ -2,7 +2,7 @@
 use Rattle.std.proofs.Common.{◌≡◌, ◌≢◌, ◌⊎◌, inl, inr, ℕ, List, [], Option, Some, None, Ok, Err, refl, subst, sym}
 use Rattle.std.specs.Prelude.{IfErr, IfSome, IsErrAnd, Result}
 use Rattle.pb_core.specs.Election.{ElectionView}
-use Rattle.pb_read.specs.Listed.{IsHandedOut}
+use Rattle.pb_read.specs.Inner.Checking.{IsHandedOut}
 use Rattle.pb_read.specs.StandsFor.{StandsFor}
 use Rattle.pb_read.specs.declared.fault.ReadFault.{ReadFault}
 use Rattle.pb_reasons.specs.Counted.{CountedView}

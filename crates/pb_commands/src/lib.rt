@@ -14,6 +14,7 @@ mod fairness_table;
 mod history_table;
 mod inputs;
 pub mod laws;
+mod losers_table;
 mod projects_table;
 mod report;
 mod ruled_projects_table;
@@ -35,6 +36,7 @@ pub use counting::{Counting, count_inputs};
 pub use demand::Demand;
 pub use digested::{Digests, write_digested};
 pub use inputs::{Inputs, election_of};
+pub use losers_table::losers_text;
 pub use pb_faults::{
     AppFault, BAD_ARGUMENTS, ServingFault, WordsPlace, WordsRefusal, rows_status, write_out,
 };

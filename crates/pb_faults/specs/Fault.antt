@@ -92,10 +92,6 @@ told_words name (Line number) = (1, codes "words" ∷ name ∷ decimal number �
 told_words name (Key key) = (1, codes "words" ∷ name ∷ key.now ∷ [])
 told_words name Nowhere = (3, codes "words" ∷ name ∷ [])
 
--- what is told of a published page that is not the one that was made: the first line that differs
-abbrev pub told_page : ℕ → ℕ × List (List ℕ)
-told_page at = (1, codes "page" ∷ codes "1" ∷ codes "Differs" ∷ decimal at ∷ [])
-
 -- the line of these fields: a `;` stands before each
 abbrev pub line : List (List ℕ) → List ℕ
 line fields = codes "fault" ++ (flat_map (λ field. codes ";" ++ field) fields ++ codes "\n")

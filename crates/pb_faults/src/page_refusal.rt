@@ -1,9 +1,9 @@
 //! What the program says of a published page that is not the one that it makes: one line, and the status that
 //! it ends with.
 
-ghost use Rattle.std.specs.Prelude.{◌≡◌, OnOk};
+ghost use Rattle.std.specs.Prelude.{◌≡◌, ◌∷◌, [], OnOk, codes, decimal};
 ghost use Rattle.std.specs.Io.KnownBytes.{Appends};
-ghost use Rattle.pb_faults.specs.Fault.{line, told_page};
+ghost use Rattle.pb_faults.specs.Fault.{line};
 
 use crate::fault_line::{REFUSED, write_fields};
 use itoa::Buffer;
@@ -22,7 +22,7 @@ impl PageRefusal {
     /// line may have gone out.
     pub fn write_line<W: Write>(&self, writer: &mut W) -> io::Result<()>
         ensures { OnOk result (Appends (W.contents writer.old) (W.contents writer.new)
-            (line (told_page self.now.line).1)) }
+            (line (codes "page" ∷ codes "1" ∷ codes "Differs" ∷ decimal self.now.line ∷ []))) }
     {
         let mut digits = Buffer::new();
         write_fields(writer, &["page", "1", "Differs", digits.format(self.line)])
@@ -30,7 +30,7 @@ impl PageRefusal {
 
     /// The status that the program then ends with.
     pub fn status(&self) -> u8
-        ensures { result ≡ (told_page self.now.line).0 }
+        ensures { result ≡ 1 }
     {
         REFUSED
     }

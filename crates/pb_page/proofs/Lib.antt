@@ -1,15 +1,13 @@
 -- The lemmas that the proofs of this crate share.
 mod Grown
+mod Answered
 mod RaisePlaces
-mod Rows
 mod Sums
+mod Blocks
+mod Tables
+mod Parts
 mod WinnerPlaces
 mod Characters
 mod Texts
 mod Delimiters
 mod Ends
-mod Shows
-mod ShowsPlaces
-mod ShowsTables
-mod ShowsRest
-mod PageShown

@@ -12,7 +12,7 @@ use Rattle.pb_rounds.proofs.RunIs.{only_run}
 use Rattle.pb_rounds.specs.Outcome.{OutcomeView}
 use Rattle.pb_rounds.specs.Run.{ElectedView, RunView, is_elected}
 use Rattle.pb_rounds.specs.declared.options.CountOptions.{CountOptions}
-use Rattle.pb_page.specs.Inner.Pieces.{KnowsPlaces}
+use Rattle.pb_page.specs.Inner.Counted.{KnowsPlaces}
 
 pub places_are_known : (e : ElectionView) (options : CountOptions) (o : OutcomeView) (end : RaiseEnd) → IsRaiseEnd e options o end → KnowsPlaces e end
 places_are_known e options o Plain h = tt

@@ -6,16 +6,10 @@ use Rattle.std.proofs.lemmas.Bool.{cases_eq, eq-eqb, ne_eqb}
 use Rattle.std.proofs.lemmas.List.{ext_get_or, get_or_default, get_or-replicate, get_or-set_other, get_or-set_same, length-append, length-replicate, length-set, length-take}
 use Rattle.std.proofs.lemmas.List.Elements.{filter_more}
 use Rattle.std.proofs.lemmas.List.Filters.{length-filter_both, sum_by-filter_both}
-use Rattle.std.proofs.lemmas.List.FromFn.{get_or-map-range_with_len, length-map-range_with_len, map-range_with_len_more}
+use Rattle.std.proofs.lemmas.List.FromFn.{get_or-map-range_with_len, length-map-range_with_len}
 use Rattle.std.proofs.lemmas.List.Sums.{sum_by-take-le, sum_by_push}
 use Rattle.pb_core.specs.Election.{ElectionView}
-use Rattle.pb_page.specs.Inner.Filling.{Filling}
-use Rattle.pb_page.proofs.Grown.{grown_as, then}
-use Rattle.pb_page.specs.Inner.Grown.{Grows}
-use Rattle.pb_page.specs.Inner.Pieces.{categories_head, category_said, category_table, in_category, sum_row, sums_table, winners_in}
-use Rattle.pb_page.specs.Inner.Sections.{category_name, category_row, filling}
-use Rattle.pb_page.specs.declared.language.Language.{Language}
-use Rattle.pb_page.specs.declared.templates.TheConstants.{TABLE_CLOSING}
+use Rattle.pb_page.specs.Inner.Counted.{in_category, winners_in}
 use Rattle.pb_page.specs.declared.categories.Categories.{Categories}
 use Rattle.pb_page.specs.declared.in_category.InCategory.{InCategory}
 use Rattle.pb_price.specs.Supporters.{cost_at, support_of}
@@ -28,38 +22,14 @@ nothing = record { winners = 0; cost = 0 }
 abbrev pub with_one : InCategory → ℕ → InCategory
 with_one sum cost = record { winners = sum.winners + 1; cost = sum.cost + cost }
 
--- one row more
-pub row_more : (row : ℕ → Filling) (n : ℕ) (old middle new : List ℕ) → Grows old middle (map row (range_with_len 0 n))
-    → Grows middle new (row n ∷ []) → Grows old new (map row (range_with_len 0 (n + 1)))
-row_more row n old middle new one two =
-    grown_as _ _ _ _ (sym (map-range_with_len_more row 0 n n (omega arith))) (then _ _ _ _ _ one two)
-
--- the row of a category, as it is put
-pub sum_told : (l : Language) (whole : ℕ) (g : Categories) (sums : List InCategory) (k : ℕ) (name : List ℕ) (sum : InCategory)
-    → k < length sums → name ≡ category_name g k → sum ≡ get_or sums k sum → category_said l whole name sum ≡ sum_row l whole g sums k
-sum_told l whole g sums k name sum below name_is is =
-    ap (λ (n : List ℕ). category_said l whole n sum) name_is
-    ∙ ap (category_said l whole (category_name g k)) (is ∙ get_or_default sums k sum nothing below)
-
--- the rows of what the categories have of the winners are their rows
-pub rows_told : (l : Language) (e : ElectionView) (g : Categories) (winners : List ℕ) (sums : List InCategory)
-    → sums ≡ map (in_category e g winners) (range_with_len 0 (length g.names.now))
-    → sums_table l e.budget g sums ≡ category_table l e winners g
-rows_told l e g winners sums is =
-    let n = length g.names.now in
-    let f = in_category e g winners in
-    let long : length sums ≡ n = ap length is ∙ length-map-range_with_len f 0 n in
-    let head : Filling = categories_head l in
-    let d : Filling = head in
-    let rows : map (sum_row l e.budget g sums) (range_with_len 0 n) ≡ map (category_row l e winners g) (range_with_len 0 n) =
-    ext_get_or d _ _ (length-map-range_with_len (sum_row l e.budget g sums) 0 n ∙ sym (length-map-range_with_len (category_row l e winners g) 0 n))
-    (λ k below.
-    let short : k < n = omega (arith, below, length-map-range_with_len (sum_row l e.budget g sums) 0 n) in
-    get_or-map-range_with_len (sum_row l e.budget g sums) 0 n k k d short (omega arith)
-    ∙ ap (category_said l e.budget (category_name g k)) (ap (λ (xs : List InCategory). get_or xs k nothing) is ∙ get_or-map-range_with_len f 0 n k k nothing short (omega arith))
-    ∙ sym (get_or-map-range_with_len (category_row l e winners g) 0 n k k d short (omega arith))) in
-    ap (λ (m : ℕ). head ∷ (map (sum_row l e.budget g sums) (range_with_len 0 m) ++ filling TABLE_CLOSING.now [] ∷ [])) long
-    ∙ ap (λ (xs : List Filling). head ∷ (xs ++ filling TABLE_CLOSING.now [] ∷ [])) rows
+-- what a category has, as it is read
+pub sum_is : (e : ElectionView) (g : Categories) (winners : List ℕ) (sums : List InCategory) (k : ℕ) (sum : InCategory)
+    → sums ≡ map (in_category e g winners) (range_with_len 0 (length g.names.now)) → k < length sums → sum ≡ get_or sums k sum → sum ≡ in_category e g winners k
+sum_is e g winners sums k sum all below is =
+    let f = in_category e g winners in let n = length g.names.now in
+    let short : k < n = omega (arith, below, ap length all, length-map-range_with_len f 0 n) in
+    is ∙ get_or_default sums k sum nothing below ∙ ap (λ (xs : List InCategory). get_or xs k nothing) all
+    ∙ get_or-map-range_with_len f 0 n k k nothing short (omega arith)
 
 module _ (e : ElectionView) (g : Categories) (winners : List ℕ) where
   -- the number of a project's category

@@ -172,15 +172,17 @@ ballots_row l k n ballots won = if at_least n won == 0 then [] else row []
     ++ cell (own (codes " class='n'")) (nameless (decimal ballots) (text (decimal ballots))))
 
 -- how many of each voter's choices won: how many voters have a winner among theirs, and how many each has
-unfoldable pub voters : Language → CountedElectionView → List Part
-voters l x =
-    let won = map (λ voter. (voter_reason x.election x.counted voter).elected) (range_with_len 0 (length x.election.voters)) in
-    section l (codes " class='many'") (codes "voters") key.VOTERS_HEADING (paragraph (say l key.GOT
+unfoldable pub choices_won : Language → (won : List ℕ) → List Part
+choices_won l won = section l (codes " class='many'") (codes "voters") key.VOTERS_HEADING (paragraph (say l key.GOT
     (text (decimal (at_least 1 won)) ∷ number (codes "voters") (length won) ∷ text (decimal (exactly 0 won))
     ∷ noun_at l key.ALL (length won) ∷ noun_at l key.HAVE (at_least 1 won) ∷ noun_at l key.LACK (exactly 0 won) ∷ []))
     ++ table l [] key.VOTERS_CAPTION (columns l [] key.CHOSEN (key.VOTERS ∷ []))
     (flat_map (λ n. ballots_row l key.EXACTLY n (exactly n won) won) (range_with_len 0 9)
     ++ ballots_row l key.OR_MORE 9 (at_least 9 won) won))
+
+abbrev pub voters : Language → CountedElectionView → List Part
+voters l x = choices_won l
+    (map (λ voter. (voter_reason x.election x.counted voter).elected) (range_with_len 0 (length x.election.voters)))
 
 -- the row of a rule, and, where it is asked for, the count beside most votes first
 abbrev pub compared_row : Language → ℕ → RuleRow → List Part

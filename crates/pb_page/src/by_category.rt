@@ -1,22 +1,23 @@
 //! The money by category.
 
-ghost use Rattle.std.specs.Prelude.{◌≡◌, ◌<◌, ◌^◌, [], ◌∷◌, All, IfOk, OnOk, length, map, sum_by};
+ghost use Rattle.std.specs.Prelude.{◌≡◌, ◌<◌, ◌^◌, ◌==◌, All, IfOk, OnOk, Some, flat_map, if◌then◌else◌};
+ghost use Rattle.std.specs.Prelude.{length, map, sum_by};
 ghost use Rattle.std.specs.List.{range_with_len};
 ghost use Rattle.pb_page.specs.Inner.Grown.{Grows};
-ghost use Rattle.pb_page.specs.Inner.Pieces.{category_said, category_table, in_category, sum_rows};
-ghost use Rattle.pb_page.specs.Inner.Pieces.{sums_table};
-ghost use Rattle.pb_page.specs.Inner.Sections.{categories};
+ghost use Rattle.pb_page.specs.Inner.Counted.{in_category};
+ghost use Rattle.pb_page.specs.Page.{categories, category_name, category_row};
+ghost use Rattle.pb_page.specs.Words.{sentence};
+ghost use Rattle.pb_page.specs.declared.keys.TheConstants as key;
 ghost use Rattle.pb_price.specs.Supporters.{cost_at, support_of};
-ghost use Rattle.pb_reasons.specs.Counted.{winners_of};
 
 use crate::categories::Categories;
 use crate::facts::Facts;
-use crate::forms::width;
+use crate::forms::bar;
 use crate::in_category::InCategory;
 use crate::keys;
 use crate::language::Language;
 use crate::markup::Value;
-use crate::put::{put, put_labels};
+use crate::put::{put, put_own};
 use crate::templates::{CATEGORIES_OPENING, CATEGORY, TABLE_CLOSING};
 use pb_core::election::Election;
 use pb_core::money::Money;
@@ -25,7 +26,7 @@ use pb_reasons::CountedElection;
 use std::alloc::Global;
 
 /// The winners of each category and their money, where the facts have categories; otherwise nothing.
-#[tactic(auto, using(crate::proofs::Grown::none), unfolding(crate::specs::Inner::Sections::categories))]
+#[tactic(auto, using(crate::proofs::Grown::none), unfolding(crate::specs::Page::categories))]
 pub(crate) fn put_categories(
     page: &mut Vec<u8>,
     facts: &Facts,
@@ -34,27 +35,78 @@ pub(crate) fn put_categories(
     ensures { OnOk result (Grows page.old.items page.new.items (categories facts.now count.now)) }
 {
     match &facts.categories {
-        Some(categories) => put_part(page, &facts.language, count, categories),
+        Some(categories) => put_table(page, facts, count, categories),
         None => Ok(()),
     }
 }
 
-/// The winners of each of these categories, and their money.
-fn put_part(
+/// The same, where these are the categories.
+fn put_table(
     page: &mut Vec<u8>,
-    language: &Language,
+    facts: &Facts,
     count: &CountedElection,
-    categories: &Categories,
+    all: &Categories,
 ) -> Result<(), NoMemory>
-    ensures { OnOk result (Grows page.old.items page.new.items (category_table language.now
-        count.now.election (winners_of count.now.counted) categories.now)) }
+    requires { facts.now.categories ≡ Some all.now }
+    ensures { OnOk result (Grows page.old.items page.new.items (categories facts.now count.now)) }
 {
-    let election = count.election();
-    let sums = add_up(*page.allocator(), election, categories, count.winners())?;
+    let language = &facts.language;
+    let heads = [
+        Value::Said(keys::CATEGORIES_HEADING),
+        Value::Said(keys::CATEGORIES_CAPTION),
+        Value::Said(keys::CATEGORY),
+        Value::Said(keys::CATEGORY_WON),
+        Value::Said(keys::CATEGORY_COST),
+    ];
+    put(page, language, CATEGORIES_OPENING, &heads)?;
+    put_rows(page, language, count.election(), all, count.winners())?;
+    put_own(page, TABLE_CLOSING)
+}
+
+/// A row for each category, where these are the winners.
+fn put_rows<'a>(
+    page: &mut Vec<u8>,
+    language: &Language<'a>,
+    election: &Election,
+    categories: &Categories<'a>,
+    winners: &[u32],
+) -> Result<(), NoMemory>
+    requires known { All (λ place. place < length election.now.projects) winners.now }
+    requires few { length winners.now < 2 ^ 64 }
+    requires fits { sum_by (cost_at (support_of election.now)) winners.now < 2 ^ 64 }
+    ensures { OnOk result (Grows page.old.items page.new.items
+        (flat_map (category_row language.now election.now winners.now categories.now)
+        (range_with_len 0 (length categories.now.names.now)))) }
+{
+    let sums = add_up(*page.allocator(), election, categories, winners)?;
     let budget = election.budget();
-    let put = put_table(page, language, budget, categories, sums.as_slice());
-    drop(sums);
-    put
+    for number in 0..sums.len() {
+        let sum = sums[number];
+        let cells = [
+            Value::Text(name_of(&*language, categories, number)),
+            Value::Number(bar(sum.cost, budget)),
+            Value::Said(keys::CATEGORY_WON),
+            Value::Number(sum.winners),
+            Value::Said(keys::CATEGORY_COST),
+            Value::Amount(sum.cost),
+            Value::Shown(sum.cost, language.costs),
+        ];
+        put(page, &*language, CATEGORY, &cells)?;
+    }
+    Ok(())
+}
+
+/// What a category is called: its text, or that it is none.
+fn name_of<'a>(language: &Language<'a>, categories: &Categories<'a>, number: usize) -> &'a str
+    ensures { result.now ≡ (if length (category_name categories.now number) == 0
+        then sentence language.now.words key.NO_CATEGORY else category_name categories.now number) }
+{
+    let name = categories.name(number);
+    if name.is_empty() {
+        language.text(keys::NO_CATEGORY)
+    } else {
+        name
+    }
 }
 
 /// What each category has of the winners at these places.
@@ -87,85 +139,4 @@ fn add_up(
         }
     }
     Ok(sums)
-}
-
-/// Their table, where the categories have this of the winners.
-fn put_table(
-    page: &mut Vec<u8>,
-    language: &Language,
-    budget: Money,
-    categories: &Categories,
-    sums: &[InCategory],
-) -> Result<(), NoMemory>
-    ensures { OnOk result (Grows page.old.items page.new.items
-        (sums_table language.now budget categories.now sums.now)) }
-{
-    put_labels(
-        page,
-        language,
-        CATEGORIES_OPENING,
-        &[
-            keys::CATEGORIES_HEADING,
-            keys::CATEGORIES_CAPTION,
-            keys::CATEGORY,
-            keys::CATEGORY_WON,
-            keys::CATEGORY_COST,
-        ],
-    )?;
-    put_rows(page, language, budget, categories, sums)?;
-    put(page, TABLE_CLOSING, &[])
-}
-
-/// A row for each category.
-fn put_rows(
-    page: &mut Vec<u8>,
-    language: &Language,
-    budget: Money,
-    categories: &Categories,
-    sums: &[InCategory],
-) -> Result<(), NoMemory>
-    ensures { OnOk result (Grows page.old.items page.new.items
-        (sum_rows language.now budget categories.now sums.now (length sums.now))) }
-{
-    for number in 0..sums.len() {
-        put_row(
-            page,
-            &*language,
-            budget,
-            categories.name(number),
-            &sums[number],
-        )?;
-    }
-    Ok(())
-}
-
-/// The row of a category with this text, which has this of the winners.
-fn put_row<'a>(
-    page: &mut Vec<u8>,
-    language: &Language<'a>,
-    budget: Money,
-    name: &'a str,
-    sum: &InCategory,
-) -> Result<(), NoMemory>
-    ensures { OnOk result (Grows page.old.items page.new.items
-        (category_said language.now budget name.now sum.now ∷ [])) }
-{
-    let shown = if name.is_empty() {
-        language.text(keys::NO_CATEGORY)
-    } else {
-        name
-    };
-    put(
-        page,
-        CATEGORY,
-        &[
-            Value::Text(shown),
-            Value::Number(width(sum.cost.0, budget.0)),
-            Value::Text(language.text(keys::CATEGORY_WON)),
-            Value::Number(sum.winners),
-            Value::Text(language.text(keys::CATEGORY_COST)),
-            Value::Amount(sum.cost),
-            Value::Shown(sum.cost, language.costs),
-        ],
-    )
 }

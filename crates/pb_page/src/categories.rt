@@ -1,7 +1,7 @@
 //! The categories of an election's projects.
 
 ghost use Rattle.std.specs.Prelude.{◌≡◌};
-ghost use Rattle.pb_page.specs.Inner.Sections.{category_name, category_of};
+ghost use Rattle.pb_page.specs.Page.{category_name, category_of};
 
 /// The categories of an election's projects.
 #[derive(Clone, Copy)]

@@ -1,23 +1,21 @@
 //! How to check a result.
 
-ghost use Rattle.std.specs.Prelude.{◌≡◌, [], ◌∷◌, OnOk};
+ghost use Rattle.std.specs.Prelude.{◌≡◌, [], OnOk, codes};
+ghost use Rattle.pb_page.specs.Inner.Counted.{begun, journal_source, link_said, made_by, options_said};
 ghost use Rattle.pb_page.specs.Inner.Grown.{Grows};
-ghost use Rattle.pb_page.specs.Inner.Pieces.{command, completion_option, journal_source, link, made};
-ghost use Rattle.pb_page.specs.Inner.Pieces.{measure_option, named, option_places, options_piece, options_said};
-ghost use Rattle.pb_page.specs.Inner.Pieces.{recount, recounting, sources};
-ghost use Rattle.pb_page.specs.declared.keys.TheConstants as key;
-ghost use Rattle.pb_page.specs.declared.templates.TheConstants.{RECOUNT_LINK};
-ghost use Rattle.pb_page.specs.Inner.Sections.{at, check, filling, say, text};
+ghost use Rattle.pb_page.specs.Page.{check, command, source};
+ghost use Rattle.pb_rounds.specs.RuleNames.{by_completion, by_measure};
 
 use crate::facts::{Facts, ReadText};
 use crate::keys;
 use crate::language::Language;
 use crate::markup::Value;
 use crate::place::Place;
-use crate::put::{put, put_labels, say};
+use crate::put::{put, put_own};
+use crate::sentences::say_paragraph;
 use crate::templates::{
-    AUDIT, CHECK_FILE, CHECK_JOURNAL, CHECK_OPENING, CLOSING, COUNT, MADE_BY_OPENING, NO_RECOUNT,
-    OPTIONS, RECOUNT_CLOSING, RECOUNT_LINK, RECOUNT_OPENING,
+    AUDIT, CHECK_CLOSING, CHECK_FILE, CHECK_JOURNAL, CHECK_OPENING, COMMAND_CLOSING,
+    COMMAND_OPENING, COUNT, OPTIONS, PARAGRAPH, SOURCES_CLOSING,
 };
 use pb_core::no_memory::NoMemory;
 use pb_rounds::measure::Measure;
@@ -25,115 +23,98 @@ use pb_rounds::options::Completion;
 use pb_rounds::rule::{FillUp, Rule};
 use pb_rounds::rule_names::{completion_name, measure_name};
 
-/// What was counted, where a page recounts it, and the command that does.
+/// What was counted, where a page recounts it, the command that does, with its options, and the program.
 pub(crate) fn put_check(page: &mut Vec<u8>, facts: &Facts, rule: &Rule) -> Result<(), NoMemory>
     ensures { OnOk result (Grows page.old.items page.new.items (check facts.now rule.now)) }
 {
     let language = &facts.language;
-    put_sources(page, language, facts.file, facts.journal)?;
+    let said = [
+        Value::Said(keys::CHECK_HEADING),
+        Value::Said(keys::CHECK_BYTES),
+    ];
+    put(page, language, CHECK_OPENING, &said)?;
+    put_file(page, language, facts.file)?;
+    put_journal(page, language, facts.journal)?;
+    put_own(page, SOURCES_CLOSING)?;
     put_link(page, language, facts.recount)?;
-    put_command(page, facts, rule)
+    put_own(page, COMMAND_OPENING)?;
+    put_command(page, facts, rule)?;
+    put_own(page, COMMAND_CLOSING)?;
+    say_options(page, language, rule)?;
+    say_made_by(page, language, facts.program)?;
+    put_own(page, CHECK_CLOSING)
 }
 
-/// What was counted.
-fn put_sources(
-    page: &mut Vec<u8>,
-    language: &Language,
-    file: ReadText<'_>,
-    journal: Option<ReadText<'_>>,
-) -> Result<(), NoMemory>
-    ensures { OnOk result (Grows page.old.items page.new.items
-        (sources language.now file.entry journal.entry)) }
+/// The file that was counted.
+fn put_file(page: &mut Vec<u8>, language: &Language, file: ReadText<'_>) -> Result<(), NoMemory>
+    ensures { OnOk result (Grows page.old.items page.new.items (source (codes "FILE: ") file.entry)) }
 {
-    put_labels(
-        page,
-        language,
-        CHECK_OPENING,
-        &[keys::CHECK_HEADING, keys::CHECK_BYTES],
-    )?;
-    put_source(page, CHECK_FILE, file)?;
-    put_journal(page, journal)
+    let values = [Value::Text(file.name), Value::Text(file.digest)];
+    put(page, language, CHECK_FILE, &values)
 }
 
 /// The journal, if there is one.
-#[tactic(auto, using(crate::proofs::Grown::none))]
-fn put_journal(page: &mut Vec<u8>, journal: Option<ReadText<'_>>) -> Result<(), NoMemory>
+fn put_journal(
+    page: &mut Vec<u8>,
+    language: &Language,
+    journal: Option<ReadText<'_>>,
+) -> Result<(), NoMemory>
     ensures { OnOk result (Grows page.old.items page.new.items (journal_source journal.entry)) }
 {
     match journal {
-        Some(journal) => put_source(page, CHECK_JOURNAL, journal),
+        Some(journal) => {
+            let values = [Value::Text(journal.name), Value::Text(journal.digest)];
+            put(page, language, CHECK_JOURNAL, &values)
+        }
         None => Ok(()),
     }
 }
 
-/// A text that was read.
-fn put_source(page: &mut Vec<u8>, piece: &'static str, source: ReadText<'_>) -> Result<(), NoMemory>
-    ensures { OnOk result (Grows page.old.items page.new.items (named piece.now source.entry ∷ [])) }
-{
-    put(
-        page,
-        piece,
-        &[Value::Text(source.name), Value::Text(source.digest)],
-    )
-}
-
-/// Where a page recounts them, if one does.
+/// Where a page recounts them, if one does, and what stands above the command.
 fn put_link(page: &mut Vec<u8>, language: &Language, address: Option<&str>) -> Result<(), NoMemory>
-    ensures { OnOk result (Grows page.old.items page.new.items (link language.now address.entry)) }
+    ensures { OnOk result (Grows page.old.items page.new.items (link_said language.now address.entry)) }
 {
     match address {
-        Some(address) => put_recount(page, language, address),
-        None => put_labels(page, language, NO_RECOUNT, &[keys::PROGRAM]),
+        Some(address) => {
+            say_paragraph(
+                page,
+                language,
+                keys::RECOUNT,
+                &[Place::Link(address, keys::LINK)],
+            )?;
+            put(page, language, PARAGRAPH, &[Value::Said(keys::PROGRAM_TOO)])
+        }
+        None => put(page, language, PARAGRAPH, &[Value::Said(keys::PROGRAM)]),
     }
 }
 
-/// Where a page recounts them.
-fn put_recount(page: &mut Vec<u8>, language: &Language, address: &str) -> Result<(), NoMemory>
-    ensures { OnOk result (Grows page.old.items page.new.items (recount language.now address.now)) }
-{
-    put(page, RECOUNT_OPENING, &[])?;
-    say_recount(page, language, address)?;
-    put_labels(page, language, RECOUNT_CLOSING, &[keys::PROGRAM_TOO])
-}
-
-/// What is said of that page, with a link to it.
-fn say_recount<'a>(
-    page: &mut Vec<u8>,
-    language: &Language<'a>,
-    address: &'a str,
-) -> Result<(), NoMemory>
-    ensures { OnOk result (Grows page.old.items page.new.items (say language.now key.RECOUNT
-        (filling RECOUNT_LINK.now (address.now ∷ at language.now key.LINK ∷ []) ∷ []))) }
-{
-    say(
-        page,
-        language,
-        keys::RECOUNT,
-        &[Place::Link(address, language.text(keys::LINK))],
-    )
-}
-
-/// The command that recounts them, and what is said below it.
+/// The command that recounts them, with its options.
 fn put_command(page: &mut Vec<u8>, facts: &Facts, rule: &Rule) -> Result<(), NoMemory>
     ensures { OnOk result (Grows page.old.items page.new.items (command facts.now rule.now)) }
 {
     put_program(page, facts.journal)?;
-    put_made(page, facts, rule)
+    let values = [
+        Value::Text(measure_option(rule.options.measure)),
+        Value::Text(completion_option(rule.options.completion, rule.fill_up)),
+        Value::Number(rule.options.step.0),
+        Value::Small(rule.options.max_raises),
+    ];
+    put(page, &facts.language, OPTIONS, &values)
 }
 
 /// The command that recounts them, up to its options.
 fn put_program(page: &mut Vec<u8>, journal: Option<ReadText<'_>>) -> Result<(), NoMemory>
-    ensures { OnOk result (Grows page.old.items page.new.items (recounting journal.entry)) }
+    ensures { OnOk result (Grows page.old.items page.new.items (begun journal.entry)) }
 {
     match journal {
-        Some(_) => put(page, AUDIT, &[]),
-        None => put(page, COUNT, &[]),
+        Some(_) => put_own(page, AUDIT),
+        None => put_own(page, COUNT),
     }
 }
 
 /// The option for a measure, behind a space; nothing where none is needed.
 fn measure_option(measure: Measure) -> &'static str
-    ensures { result.now ≡ measure_option measure }
+    ensures { result.now ≡ by_measure measure [] (codes " --measure cost") }
 {
     match measure {
         Measure::Votes => "",
@@ -143,7 +124,8 @@ fn measure_option(measure: Measure) -> &'static str
 
 /// The option for a completion, behind a space; nothing where none is needed.
 fn completion_option(completion: Completion, fill_up: FillUp) -> &'static str
-    ensures { result.now ≡ completion_option completion fill_up }
+    ensures { result.now ≡ by_completion completion fill_up (codes " --plain") []
+        (codes " --completion utilitarian") (codes " --completion add1u") }
 {
     match (completion, fill_up) {
         (Completion::Plain, FillUp::Nothing) => " --plain",
@@ -153,59 +135,18 @@ fn completion_option(completion: Completion, fill_up: FillUp) -> &'static str
     }
 }
 
-/// The options in words, the program that made the page, and its end.
-fn put_made(page: &mut Vec<u8>, facts: &Facts, rule: &Rule) -> Result<(), NoMemory>
-    ensures { OnOk result (Grows page.old.items page.new.items (made facts.now rule.now)) }
-{
-    let language = &facts.language;
-    put_options(page, language, rule)?;
-    say_made_by(page, language, facts.program)?;
-    put(page, CLOSING, &[])
-}
-
-/// The options of the command, and the same in words.
-fn put_options(page: &mut Vec<u8>, language: &Language, rule: &Rule) -> Result<(), NoMemory>
-    ensures { OnOk result (Grows page.old.items page.new.items (options_said language.now rule.now)) }
-{
-    put_options_piece(page, rule)?;
-    say_options(page, language, rule)?;
-    put(page, MADE_BY_OPENING, &[])
-}
-
-/// The options of the command.
-fn put_options_piece(page: &mut Vec<u8>, rule: &Rule) -> Result<(), NoMemory>
-    ensures { OnOk result (Grows page.old.items page.new.items (options_piece rule.now ∷ [])) }
-{
-    let options = &rule.options;
-    put(
-        page,
-        OPTIONS,
-        &[
-            Value::Text(measure_option(options.measure)),
-            Value::Text(completion_option(options.completion, rule.fill_up)),
-            Value::Number(options.step.0),
-            Value::Number(u64::from(options.max_raises)),
-        ],
-    )
-}
-
 /// The options in words.
 fn say_options(page: &mut Vec<u8>, language: &Language, rule: &Rule) -> Result<(), NoMemory>
-    ensures { OnOk result (Grows page.old.items page.new.items
-        (say language.now key.OPTIONS (option_places language.now rule.now))) }
+    ensures { OnOk result (Grows page.old.items page.new.items (options_said language.now rule.now)) }
 {
     let options = &rule.options;
-    say(
-        page,
-        language,
-        keys::OPTIONS,
-        &[
-            Place::Text(measure_name(options.measure)),
-            Place::Text(completion_name(options.completion, rule.fill_up)),
-            Place::Amount("step", options.step, language.amounts),
-            Place::Number("limit", u64::from(options.max_raises)),
-        ],
-    )
+    let places = [
+        Place::Text(measure_name(options.measure)),
+        Place::Text(completion_name(options.completion, rule.fill_up)),
+        Place::Amount("step", options.step, language.amounts),
+        Place::Number("limit", u64::from(options.max_raises)),
+    ];
+    say_paragraph(page, language, keys::OPTIONS, &places)
 }
 
 /// Which program made the page.
@@ -214,8 +155,8 @@ fn say_made_by<'a>(
     language: &Language<'a>,
     program: &'a str,
 ) -> Result<(), NoMemory>
-    ensures { OnOk result (Grows page.old.items page.new.items
-        (say language.now key.MADE_BY (text program.now ∷ []))) }
+    ensures { OnOk result (Grows page.old.items page.new.items (made_by language.now program.now)) }
 {
-    say(page, language, keys::MADE_BY, &[Place::Text(program)])
+    let program = Place::Text(program);
+    say_paragraph(page, language, keys::MADE_BY, &[program])
 }

@@ -1,7 +1,7 @@
 //! The numbers of the whole.
 
 ghost use Rattle.std.specs.Prelude.{◌≡◌};
-ghost use Rattle.pb_page.specs.Inner.Pieces.{figures_of};
+ghost use Rattle.pb_page.specs.Inner.Counted.{figures_of};
 
 use pb_core::money::Money;
 use pb_reasons::CountedElection;

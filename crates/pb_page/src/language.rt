@@ -1,8 +1,7 @@
 //! The language of a page.
 
 ghost use Rattle.std.specs.Prelude.{◌≡◌};
-ghost use Rattle.pb_page.specs.Words.{noun};
-ghost use Rattle.pb_page.specs.Inner.Sections.{at};
+ghost use Rattle.pb_page.specs.Words.{noun, sentence};
 
 use crate::markup::{Form, Words};
 
@@ -20,7 +19,7 @@ pub struct Language<'a> {
 impl<'a> Language<'a> {
     /// The sentence at a key.
     pub(crate) fn text(&self, key: u16) -> &'a str
-        ensures { result.now ≡ at self.now key }
+        ensures { result.now ≡ sentence self.now.words key }
     {
         self.words.sentence(key)
     }

@@ -1,21 +1,23 @@
 //! The page of an outcome.
 
-ghost use Rattle.std.specs.Prelude.{◌++◌, IfOk, OnOk};
+ghost use Rattle.std.specs.Prelude.{IfOk, OnOk};
+ghost use Rattle.pb_page.specs.Inner.Counted.{KnowsPlaces, sections};
 ghost use Rattle.pb_page.specs.Inner.Grown.{Grows};
-ghost use Rattle.pb_page.specs.Inner.Pieces.{KnowsPlaces};
-ghost use Rattle.pb_page.specs.Inner.Sections.{IsMade, added, budget, others, parts, winners};
-ghost use Rattle.pb_page.specs.Page.{IsPage};
+ghost use Rattle.pb_page.specs.Page.{IsPage, parts};
 ghost use Rattle.pb_reasons.specs.RaiseEnd.{IsRaiseEnd};
 
 use crate::by_category::put_categories;
 use crate::check::put_check;
 use crate::compared::put_besides;
 use crate::facts::Facts;
-use crate::figures::Figures;
+use crate::keys;
+use crate::markup::Value;
 use crate::project_tables::{put_added, put_others, put_winners};
+use crate::put::{put, put_own};
 use crate::rule::put_rule;
-use crate::ties::put_ties;
-use crate::top::{put_blocks, put_caption, put_picture, put_summary};
+use crate::style::{META, STYLE};
+use crate::templates::{CLOSING, HEAD_OPENING, MAIN, TITLE, TOP};
+use crate::top::{put_budget, put_summary};
 use crate::voters::put_voters;
 use pb_core::gate::Gate;
 use pb_core::no_memory::NoMemory;
@@ -52,14 +54,14 @@ fn page_ended(
     end: &RaiseEnd,
 ) -> Result<Vec<u8>, NoMemory>
     requires { IsRaiseEnd count.now.election count.now.rule.options count.now.counted.outcome end.now }
-    ensures { IfOk result (λ text. IsMade count.now facts.now text.items) }
+    ensures { IfOk result (λ text. IsPage count.now facts.now text.items) }
 {
     let mut page = Vec::new(alloc);
     put_all(&mut page, facts, count, end)?;
     Ok(page)
 }
 
-/// All pieces of a page.
+/// All parts of a page.
 fn put_all(
     page: &mut Vec<u8>,
     facts: &Facts,
@@ -70,34 +72,40 @@ fn put_all(
     ensures { OnOk result (Grows page.old.items page.new.items (parts facts.now count.now end.now)) }
 {
     let language = &facts.language;
-    put_budget(page, facts, count)?;
-    put_projects(page, facts, count)?;
+    let title = facts.title;
+    let values = [
+        Value::Text(language.text(keys::LANG)),
+        Value::Text(language.text(keys::DIR)),
+    ];
+    put(page, language, HEAD_OPENING, &values)?;
+    put_own(page, META)?;
+    put(page, language, TITLE, &[Value::Text(title)])?;
+    put_own(page, STYLE)?;
+    put(page, language, TOP, &[Value::Text(title)])?;
+    put_summary(page, language, count)?;
+    put_own(page, MAIN)?;
+    put_sections(page, facts, count, end)?;
+    put_own(page, CLOSING)
+}
+
+/// Its sections, one after the other.
+fn put_sections(
+    page: &mut Vec<u8>,
+    facts: &Facts,
+    count: &CountedElection,
+    end: &RaiseEnd,
+) -> Result<(), NoMemory>
+    requires { KnowsPlaces count.now.election end.now }
+    ensures { OnOk result (Grows page.old.items page.new.items (sections facts.now count.now end.now)) }
+{
+    let language = &facts.language;
+    put_budget(page, language, count)?;
+    put_winners(page, facts, count)?;
+    put_added(page, facts, count)?;
+    put_others(page, facts, count)?;
     put_categories(page, facts, count)?;
     put_voters(page, language, count)?;
     put_besides(page, facts, count)?;
     put_rule(page, language, count, end)?;
-    put_ties(page, language, count)?;
     put_check(page, facts, &count.rule())
-}
-
-/// What was voted on, and where the budget goes.
-fn put_budget(page: &mut Vec<u8>, facts: &Facts, count: &CountedElection) -> Result<(), NoMemory>
-    ensures { OnOk result (Grows page.old.items page.new.items (budget facts.now count.now)) }
-{
-    let language = &facts.language;
-    let figures = Figures::of(count);
-    put_summary(page, language, facts.title, &figures)?;
-    put_picture(page, language, &figures)?;
-    put_blocks(page, &language.costs, count)?;
-    put_caption(page, language, &figures)
-}
-
-/// The elected, the added, and the other projects.
-fn put_projects(page: &mut Vec<u8>, facts: &Facts, count: &CountedElection) -> Result<(), NoMemory>
-    ensures { OnOk result (Grows page.old.items page.new.items
-        (winners facts.now count.now ++ (added facts.now count.now ++ others facts.now count.now))) }
-{
-    put_winners(page, facts, count)?;
-    put_added(page, facts, count)?;
-    put_others(page, facts, count)
 }

@@ -11,7 +11,7 @@ pub mod words;
 mod written;
 
 pub use form::Form;
-pub(crate) use pieces::{fill, fill_words};
+pub(crate) use pieces::fill;
 pub use plural::Plural;
 pub(crate) use value::Value;
 pub use words::Words;

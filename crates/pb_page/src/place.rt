@@ -5,11 +5,13 @@ use pb_core::money::Money;
 
 /// What stands at a place of a sentence. Each name is that of a figure, for programs.
 #[derive(Clone, Copy)]
-pub enum Place<'a> {
+pub(crate) enum Place<'a> {
     /// A text.
     Text(&'a str),
     /// A number without a name.
     Digits(u64),
+    /// The form for a number of the noun whose forms begin at a key.
+    Noun(u16, u64),
     /// An amount as people write it, alone.
     Shown(Money, Form<'a>),
     /// A number by its name.
@@ -20,6 +22,6 @@ pub enum Place<'a> {
     Nameless(Money, Form<'a>),
     /// What a project is called.
     Called(&'a str),
-    /// A link: its address, and what it is called.
-    Link(&'a str, &'a str),
+    /// A link: its address, and the key of what it is called.
+    Link(&'a str, u16),
 }

@@ -1,27 +1,34 @@
 //! The row of a project, by how it ended.
 
-ghost use Rattle.std.specs.Prelude.{◌<◌, [], ◌∷◌, OnOk, length};
+ghost use Rattle.std.specs.Prelude.{◌<◌, [], OnOk, codes, length};
+ghost use Rattle.std.specs.Option.{option_map_or};
+ghost use Rattle.pb_page.specs.Content.{attribute, cell, isolated, said};
+ghost use Rattle.pb_page.specs.Inner.Counted.{project_of};
 ghost use Rattle.pb_page.specs.Inner.Grown.{Grows};
-ghost use Rattle.pb_page.specs.Inner.Pieces.{category_cell, lost_figures, row_category, said_at, said_of};
-ghost use Rattle.pb_page.specs.Inner.Sections.{row_at};
+ghost use Rattle.pb_page.specs.Page.{category_name, category_of, ended_row, row_at};
+ghost use Rattle.pb_page.specs.declared.keys.TheConstants as key;
 
 use crate::facts::Facts;
-use crate::forms::width;
+use crate::forms::bar;
 use crate::keys;
 use crate::language::Language;
 use crate::markup::Value;
 use crate::place::Place;
-use crate::put::{put, say};
-use crate::templates::{ADDED, OTHER, OTHER_CLOSING, ROW_CATEGORY, ROW_CLOSING, WINNER};
+use crate::put::{put, put_own};
+use crate::sentences::say;
+use crate::templates::{
+    ADDED, OTHER, OTHER_CLOSING, ROW_CATEGORY, ROW_CLOSING, ROW_OPENING, WINNER,
+};
 use pb_core::money::Money;
 use pb_core::no_memory::NoMemory;
-use pb_core::project::Project;
 use pb_reasons::{Added, CountedElection, Ending, Lost, Won};
 
 /// A project, as its row has it.
 #[derive(Clone, Copy)]
 pub struct ProjectRow<'a> {
-    pub project: &'a Project,
+    pub id: &'a str,
+    pub name: &'a str,
+    pub cost: Money,
     /// How many voters chose it.
     pub votes: u32,
     /// The budget of the election.
@@ -38,40 +45,32 @@ pub(crate) fn put_row(
     requires { place < length count.now.election.projects }
     ensures { OnOk result (Grows page.old.items page.new.items (row_at facts.now count.now place)) }
 {
-    put_cells(page, &facts.language, count, place)?;
-    put_category(page, facts, place)?;
-    put(page, ROW_CLOSING, &[])
-}
-
-/// Its cells up to that of its category.
-fn put_cells(
-    page: &mut Vec<u8>,
-    language: &Language,
-    count: &CountedElection,
-    place: u32,
-) -> Result<(), NoMemory>
-    requires { place < length count.now.election.projects }
-    ensures { OnOk result (Grows page.old.items page.new.items
-        (said_at language.now count.now place)) }
-{
     let election = count.election();
+    let projects = election.projects();
+    let project = &projects[place as usize];
     let reason = count.project(place);
     let row = ProjectRow {
-        project: &election.projects()[place as usize],
+        id: project.id(),
+        name: project.name(),
+        cost: project.cost(),
         votes: reason.votes,
         budget: election.budget(),
     };
-    put_ended(page, language, &row, &reason.ending)
+    put(page, &facts.language, ROW_OPENING, &[Value::Text(row.id)])?;
+    put_ended(page, &facts.language, &row, &reason.ending)?;
+    put_category(page, facts, place)?;
+    put_own(page, ROW_CLOSING)
 }
 
-/// The cells of a project that ended so.
-fn put_ended(
+/// The cells of a project that ended so, up to that of its category.
+fn put_ended<'a>(
     page: &mut Vec<u8>,
-    language: &Language,
-    row: &ProjectRow<'_>,
+    language: &Language<'a>,
+    row: &ProjectRow<'a>,
     ending: &Ending,
 ) -> Result<(), NoMemory>
-    ensures { OnOk result (Grows page.old.items page.new.items (said_of language.now row.now ending.now)) }
+    ensures { OnOk result (Grows page.old.items page.new.items
+        (ended_row language.now row.now.budget (project_of row.now) row.now.votes ending.now)) }
 {
     match ending {
         Ending::Won(won) => put_elected(page, language, row, won),
@@ -88,31 +87,26 @@ fn put_elected<'a>(
     won: &Won,
 ) -> Result<(), NoMemory>
     ensures { OnOk result (Grows page.old.items page.new.items
-        (said_of language.now row.now (Ending.Won won.now))) }
+        (ended_row language.now row.now.budget (project_of row.now) row.now.votes (Ending.Won won.now))) }
 {
-    let project = row.project;
-    put(
-        page,
-        WINNER,
-        &[
-            Value::Text(project.id()),
-            Value::Text(language.text(keys::ROUND)),
-            Value::Number(u64::from(won.round)),
-            Value::Text(project.id()),
-            Value::Text(project.name()),
-            Value::Number(width(project.cost().0, row.budget.0)),
-            Value::Text(language.text(keys::COST)),
-            Value::Amount(project.cost()),
-            Value::Shown(project.cost(), language.costs),
-            Value::Text(language.text(keys::VOTES)),
-            Value::Number(u64::from(row.votes)),
-            Value::Text(language.text(keys::PRICE)),
-            Value::Amount(won.price),
-            Value::Shown(won.price, language.amounts),
-            Value::Text(language.text(keys::IN_FULL)),
-            Value::Number(u64::from(won.in_full)),
-        ],
-    )
+    let cells = [
+        Value::Said(keys::ROUND),
+        Value::Small(won.round),
+        Value::Text(row.id),
+        Value::Text(row.name),
+        Value::Number(bar(row.cost, row.budget)),
+        Value::Said(keys::COST),
+        Value::Amount(row.cost),
+        Value::Shown(row.cost, language.costs),
+        Value::Said(keys::VOTES),
+        Value::Small(row.votes),
+        Value::Said(keys::PRICE),
+        Value::Amount(won.price),
+        Value::Shown(won.price, language.amounts),
+        Value::Said(keys::IN_FULL),
+        Value::Small(won.in_full),
+    ];
+    put(page, language, WINNER, &cells)
 }
 
 /// Those of an added project.
@@ -123,26 +117,21 @@ fn put_added<'a>(
     added: &Added,
 ) -> Result<(), NoMemory>
     ensures { OnOk result (Grows page.old.items page.new.items
-        (said_of language.now row.now (Ending.Added added.now))) }
+        (ended_row language.now row.now.budget (project_of row.now) row.now.votes (Ending.Added added.now))) }
 {
-    let project = row.project;
-    put(
-        page,
-        ADDED,
-        &[
-            Value::Text(project.id()),
-            Value::Text(language.text(keys::NUMBER)),
-            Value::Number(added.number),
-            Value::Text(project.id()),
-            Value::Text(project.name()),
-            Value::Number(width(project.cost().0, row.budget.0)),
-            Value::Text(language.text(keys::COST)),
-            Value::Amount(project.cost()),
-            Value::Shown(project.cost(), language.costs),
-            Value::Text(language.text(keys::VOTES)),
-            Value::Number(u64::from(row.votes)),
-        ],
-    )
+    let cells = [
+        Value::Said(keys::NUMBER),
+        Value::Number(added.number),
+        Value::Text(row.id),
+        Value::Text(row.name),
+        Value::Number(bar(row.cost, row.budget)),
+        Value::Said(keys::COST),
+        Value::Amount(row.cost),
+        Value::Shown(row.cost, language.costs),
+        Value::Said(keys::VOTES),
+        Value::Small(row.votes),
+    ];
+    put(page, language, ADDED, &cells)
 }
 
 /// Those of a project that did not win.
@@ -153,67 +142,42 @@ fn put_lost<'a>(
     lost: &Lost,
 ) -> Result<(), NoMemory>
     ensures { OnOk result (Grows page.old.items page.new.items
-        (said_of language.now row.now (Ending.Lost lost.now))) }
+        (ended_row language.now row.now.budget (project_of row.now) row.now.votes (Ending.Lost lost.now))) }
 {
-    put_figures(page, language, row, lost)?;
-    say(
-        page,
-        language,
-        keys::SHORT,
-        &[Place::Shown(lost.missing, language.amounts)],
-    )?;
-    put(page, OTHER_CLOSING, &[])
-}
-
-/// These cells up to what is said of what is missing.
-fn put_figures<'a>(
-    page: &mut Vec<u8>,
-    language: &Language<'a>,
-    row: &ProjectRow<'a>,
-    lost: &Lost,
-) -> Result<(), NoMemory>
-    ensures { OnOk result (Grows page.old.items page.new.items
-        (lost_figures language.now row.now lost.now ∷ [])) }
-{
-    let project = row.project;
-    put(
-        page,
-        OTHER,
-        &[
-            Value::Text(project.id()),
-            Value::Text(project.name()),
-            Value::Number(width(lost.left.0, project.cost().0)),
-            Value::Text(language.text(keys::COST)),
-            Value::Amount(project.cost()),
-            Value::Shown(project.cost(), language.costs),
-            Value::Text(language.text(keys::VOTES)),
-            Value::Number(u64::from(row.votes)),
-            Value::Text(language.text(keys::LEFT)),
-            Value::Amount(lost.left),
-            Value::Shown(lost.left, language.amounts),
-            Value::Text(language.text(keys::MISSING)),
-            Value::Amount(lost.missing),
-        ],
-    )
+    let cells = [
+        Value::Text(row.id),
+        Value::Text(row.name),
+        Value::Number(bar(lost.left, row.cost)),
+        Value::Said(keys::COST),
+        Value::Amount(row.cost),
+        Value::Shown(row.cost, language.costs),
+        Value::Said(keys::VOTES),
+        Value::Small(row.votes),
+        Value::Said(keys::LEFT),
+        Value::Amount(lost.left),
+        Value::Shown(lost.left, language.amounts),
+        Value::Said(keys::MISSING),
+        Value::Amount(lost.missing),
+    ];
+    put(page, language, OTHER, &cells)?;
+    let missing = Place::Shown(lost.missing, language.amounts);
+    say(page, language, keys::SHORT, &[missing])?;
+    put_own(page, OTHER_CLOSING)
 }
 
 /// The cell of the category of the project at this place, where there are categories.
 #[tactic(auto, using(crate::proofs::Grown::none))]
 fn put_category(page: &mut Vec<u8>, facts: &Facts, place: u32) -> Result<(), NoMemory>
-    ensures { OnOk result (Grows page.old.items page.new.items (row_category facts.now place)) }
+    ensures { OnOk result (Grows page.old.items page.new.items (option_map_or (λ g.
+        cell (attribute (codes "data-label") (said facts.now.language key.CATEGORY))
+        (isolated (category_name g (category_of g place)))) facts.now.categories [])) }
 {
     match &facts.categories {
         Some(categories) => {
-            let label = facts.language.text(keys::CATEGORY);
-            put_own(page, label, categories.name(categories.of(place)))
+            let name = categories.name(categories.of(place));
+            let cell = [Value::Said(keys::CATEGORY), Value::Text(name)];
+            put(page, &facts.language, ROW_CATEGORY, &cell)
         }
         None => Ok(()),
     }
-}
-
-/// The cell, with this label, of this category.
-fn put_own<'a>(page: &mut Vec<u8>, label: &'a str, name: &'a str) -> Result<(), NoMemory>
-    ensures { OnOk result (Grows page.old.items page.new.items (category_cell label.now name.now)) }
-{
-    put(page, ROW_CATEGORY, &[Value::Text(label), Value::Text(name)])
 }

@@ -1,18 +1,20 @@
 //! The tables of projects: the elected, the added, and the others.
 
-ghost use Rattle.std.specs.Prelude.{◌≡◌, ◌<◌, [], ◌∷◌, All, OnOk, flat_map, if◌then◌else◌, length};
+ghost use Rattle.std.specs.Prelude.{◌≡◌, ◌<◌, [], All, OnOk, codes, flat_map, if◌then◌else◌, length};
 ghost use Rattle.std.specs.List.{range_with_len};
+ghost use Rattle.std.specs.Option.{option_map_or};
+ghost use Rattle.pb_page.specs.Content.{column};
+ghost use Rattle.pb_page.specs.Inner.Counted.{lost_row};
 ghost use Rattle.pb_page.specs.Inner.Grown.{Grows};
-ghost use Rattle.pb_page.specs.Inner.Pieces.{added_table, elected_table, head_category, lost_row};
-ghost use Rattle.pb_page.specs.Inner.Pieces.{other_table, table_head};
-ghost use Rattle.pb_page.specs.Inner.Sections.{added, others, row_at, winners};
+ghost use Rattle.pb_page.specs.Page.{added, others, row_at, winners};
 ghost use Rattle.pb_page.specs.declared.keys.TheConstants as key;
 ghost use Rattle.pb_rounds.specs.RuleNames.{fills_up};
 
 use crate::facts::Facts;
 use crate::keys;
+use crate::markup::Value;
 use crate::project_row::put_row;
-use crate::put::{put, put_labels};
+use crate::put::{put, put_own};
 use crate::templates::{
     ADDED_OPENING, HEAD_CATEGORY, HEAD_CLOSING, NONE_LOST, NONE_WON, OTHERS_OPENING, TABLE_CLOSING,
     WINNERS_OPENING,
@@ -23,7 +25,6 @@ use pb_rounds::outcome::{Elected, Outcome};
 use pb_rounds::rule::FillUp;
 
 /// The elected, in order of election.
-#[tactic(auto, unfolding(crate::specs::Inner::Sections::winners))]
 pub(crate) fn put_winners(
     page: &mut Vec<u8>,
     facts: &Facts,
@@ -31,17 +32,27 @@ pub(crate) fn put_winners(
 ) -> Result<(), NoMemory>
     ensures { OnOk result (Grows page.old.items page.new.items (winners facts.now count.now)) }
 {
-    let outcome = count.outcome();
-    if outcome.elected.is_empty() {
-        let none = no_winners(count.rule().fill_up);
-        return put_labels(
-            page,
-            &facts.language,
-            NONE_WON,
-            &[keys::WINNERS_HEADING, none],
-        );
+    let elected = elected_of(count.outcome());
+    if elected.is_empty() {
+        let none = Value::Said(no_winners(count.rule().fill_up));
+        let said = [Value::Said(keys::WINNERS_HEADING), none];
+        return put(page, &facts.language, NONE_WON, &said);
     }
-    put_elected(page, facts, count)
+    let heads = [
+        Value::Said(keys::WINNERS_HEADING),
+        Value::Said(keys::WINNERS_CAPTION),
+        Value::Said(keys::ROUND),
+        Value::Said(keys::PROJECT),
+        Value::Said(keys::COST),
+        Value::Said(keys::VOTES),
+        Value::Said(keys::PRICE),
+        Value::Said(keys::IN_FULL),
+    ];
+    put(page, &facts.language, WINNERS_OPENING, &heads)?;
+    put_head_category(page, facts)?;
+    put_own(page, HEAD_CLOSING)?;
+    put_elected_rows(page, facts, count, elected)?;
+    put_own(page, TABLE_CLOSING)
 }
 
 /// The key of what is said where nothing is elected.
@@ -53,30 +64,6 @@ fn no_winners(fill_up: FillUp) -> u16
     } else {
         keys::NO_WINNERS
     }
-}
-
-/// Their table.
-fn put_elected(page: &mut Vec<u8>, facts: &Facts, count: &CountedElection) -> Result<(), NoMemory>
-    ensures { OnOk result (Grows page.old.items page.new.items (elected_table facts.now count.now)) }
-{
-    let elected = elected_of(count.outcome());
-    put_head(
-        page,
-        facts,
-        WINNERS_OPENING,
-        &[
-            keys::WINNERS_HEADING,
-            keys::WINNERS_CAPTION,
-            keys::ROUND,
-            keys::PROJECT,
-            keys::COST,
-            keys::VOTES,
-            keys::PRICE,
-            keys::IN_FULL,
-        ],
-    )?;
-    put_elected_rows(page, facts, count, elected)?;
-    put(page, TABLE_CLOSING, &[])
 }
 
 /// The elected of this outcome.
@@ -104,7 +91,7 @@ fn put_elected_rows(
 }
 
 /// The added projects, in their order; nothing where there are none.
-#[tactic(auto, using(crate::proofs::Grown::none), unfolding(crate::specs::Inner::Sections::added))]
+#[tactic(auto, using(crate::proofs::Grown::none), unfolding(crate::specs::Page::added))]
 pub(crate) fn put_added(
     page: &mut Vec<u8>,
     facts: &Facts,
@@ -116,34 +103,21 @@ pub(crate) fn put_added(
     if places.is_empty() {
         return Ok(());
     }
-    put_added_table(page, facts, count)
-}
-
-/// Their table.
-fn put_added_table(
-    page: &mut Vec<u8>,
-    facts: &Facts,
-    count: &CountedElection,
-) -> Result<(), NoMemory>
-    ensures { OnOk result (Grows page.old.items page.new.items (added_table facts.now count.now)) }
-{
     // What is true of every count is true of the places of the added.
     let _election = count.election();
-    put_head(
-        page,
-        facts,
-        ADDED_OPENING,
-        &[
-            keys::ADDED_HEADING,
-            keys::ADDED_CAPTION,
-            keys::NUMBER,
-            keys::PROJECT,
-            keys::COST,
-            keys::VOTES,
-        ],
-    )?;
-    put_added_rows(page, facts, count, count.added())?;
-    put(page, TABLE_CLOSING, &[])
+    let heads = [
+        Value::Said(keys::ADDED_HEADING),
+        Value::Said(keys::ADDED_CAPTION),
+        Value::Said(keys::NUMBER),
+        Value::Said(keys::PROJECT),
+        Value::Said(keys::COST),
+        Value::Said(keys::VOTES),
+    ];
+    put(page, &facts.language, ADDED_OPENING, &heads)?;
+    put_head_category(page, facts)?;
+    put_own(page, HEAD_CLOSING)?;
+    put_added_rows(page, facts, count, places)?;
+    put_own(page, TABLE_CLOSING)
 }
 
 /// A row for each of the added.
@@ -164,7 +138,6 @@ fn put_added_rows(
 }
 
 /// The projects that did not win, in the order of the file.
-#[tactic(auto, unfolding(crate::specs::Inner::Sections::others))]
 pub(crate) fn put_others(
     page: &mut Vec<u8>,
     facts: &Facts,
@@ -172,38 +145,29 @@ pub(crate) fn put_others(
 ) -> Result<(), NoMemory>
     ensures { OnOk result (Grows page.old.items page.new.items (others facts.now count.now)) }
 {
-    let election = count.election();
-    if count.winners().len() == election.projects().len() {
-        return put_labels(
-            page,
-            &facts.language,
-            NONE_LOST,
-            &[keys::OTHERS_HEADING, keys::NO_OTHERS],
-        );
+    let winners = count.winners();
+    let projects = count.election().projects();
+    if winners.len() == projects.len() {
+        let said = [
+            Value::Said(keys::OTHERS_HEADING),
+            Value::Said(keys::NO_OTHERS),
+        ];
+        return put(page, &facts.language, NONE_LOST, &said);
     }
-    put_lost(page, facts, count)
-}
-
-/// Their table.
-fn put_lost(page: &mut Vec<u8>, facts: &Facts, count: &CountedElection) -> Result<(), NoMemory>
-    ensures { OnOk result (Grows page.old.items page.new.items (other_table facts.now count.now)) }
-{
-    put_head(
-        page,
-        facts,
-        OTHERS_OPENING,
-        &[
-            keys::OTHERS_HEADING,
-            keys::OTHERS_CAPTION,
-            keys::PROJECT,
-            keys::COST,
-            keys::VOTES,
-            keys::LEFT,
-            keys::MISSING,
-        ],
-    )?;
+    let heads = [
+        Value::Said(keys::OTHERS_HEADING),
+        Value::Said(keys::OTHERS_CAPTION),
+        Value::Said(keys::PROJECT),
+        Value::Said(keys::COST),
+        Value::Said(keys::VOTES),
+        Value::Said(keys::LEFT),
+        Value::Said(keys::MISSING),
+    ];
+    put(page, &facts.language, OTHERS_OPENING, &heads)?;
+    put_head_category(page, facts)?;
+    put_own(page, HEAD_CLOSING)?;
     put_lost_rows(page, facts, count)?;
-    put(page, TABLE_CLOSING, &[])
+    put_own(page, TABLE_CLOSING)
 }
 
 /// A row for each project that did not win.
@@ -237,29 +201,19 @@ fn put_row_of_lost(
     put_row(page, facts, count, place)
 }
 
-/// The head of a table of projects: this piece with the texts at these keys, and the head of the column of
-/// categories, where there are some.
-fn put_head(
-    page: &mut Vec<u8>,
-    facts: &Facts,
-    piece: &'static str,
-    keys: &[u16],
-) -> Result<(), NoMemory>
-    ensures { OnOk result (Grows page.old.items page.new.items
-        (table_head facts.now piece.now keys.now)) }
-{
-    put_labels(page, &facts.language, piece, keys)?;
-    put_head_category(page, facts)?;
-    put(page, HEAD_CLOSING, &[])
-}
-
 /// The head of the column of categories, where there are some.
 #[tactic(auto, using(crate::proofs::Grown::none))]
 fn put_head_category(page: &mut Vec<u8>, facts: &Facts) -> Result<(), NoMemory>
-    ensures { OnOk result (Grows page.old.items page.new.items (head_category facts.now)) }
+    ensures { OnOk result (Grows page.old.items page.new.items (option_map_or (λ g.
+        column facts.now.language (codes " class='category'") key.CATEGORY) facts.now.categories [])) }
 {
     match &facts.categories {
-        Some(_) => put_labels(page, &facts.language, HEAD_CATEGORY, &[keys::CATEGORY]),
+        Some(_) => put(
+            page,
+            &facts.language,
+            HEAD_CATEGORY,
+            &[Value::Said(keys::CATEGORY)],
+        ),
         None => Ok(()),
     }
 }

@@ -1,22 +1,20 @@
 //! Why the raises ended.
 
-ghost use Rattle.std.specs.Prelude.{◌<◌, [], ◌∷◌, All, OnOk, codes, length, map};
+ghost use Rattle.std.specs.Prelude.{◌<◌, All, OnOk, flat_map, length};
+ghost use Rattle.pb_page.specs.Inner.Counted.{KnowsPlaces, only_then};
 ghost use Rattle.pb_page.specs.Inner.Grown.{Grows};
-ghost use Rattle.pb_page.specs.Inner.Pieces.{KnowsPlaces, only_then, over_said};
-ghost use Rattle.pb_page.specs.Inner.Sections.{amount, project_at, raises_ended, say};
-ghost use Rattle.pb_page.specs.declared.keys.TheConstants as key;
+ghost use Rattle.pb_page.specs.Page.{raises_ended};
 
 use crate::keys;
 use crate::language::Language;
 use crate::markup::Value;
 use crate::place::Place;
-use crate::put::{put, put_labels, say};
+use crate::put::{put, put_own};
 use crate::rule::put_item;
-use crate::templates::{ITEM_OPENING, LIST_CLOSING, ONLY_THEN, ONLY_THEN_OPENING};
+use crate::sentences::say_item;
+use crate::templates::{LIST_CLOSING, ONLY_THEN, ONLY_THEN_OPENING};
 use pb_core::election::Election;
-use pb_core::money::Money;
 use pb_core::no_memory::NoMemory;
-use pb_core::project::Project;
 use pb_reasons::{NextRaise, RaiseEnd};
 
 /// Why the raises ended; nothing where the count has none.
@@ -38,7 +36,7 @@ pub(crate) fn put_end(
     }
 }
 
-/// What one raise more would elect.
+/// What one raise more would elect: that it would cost more than the budget, and which projects only then.
 fn put_over(
     page: &mut Vec<u8>,
     language: &Language,
@@ -49,82 +47,43 @@ fn put_over(
     ensures { OnOk result (Grows page.old.items page.new.items
         (raises_ended language.now election.now (RaiseEnd.Over next.now))) }
 {
-    put_sentence(page, language, next.share, next.cost)?;
-    put_projects(page, language, election, next.only_then.as_slice())?;
-    put(page, LIST_CLOSING, &[])
-}
-
-/// That it would cost more than the budget, and the head of the list of projects.
-fn put_sentence(
-    page: &mut Vec<u8>,
-    language: &Language,
-    share: Money,
-    cost: Money,
-) -> Result<(), NoMemory>
-    ensures { OnOk result (Grows page.old.items page.new.items (over_said language.now share cost)) }
-{
-    put(page, ITEM_OPENING, &[])?;
-    say_over(page, language, share, cost)?;
-    put_labels(page, language, ONLY_THEN_OPENING, &[keys::ONLY_THEN])
-}
-
-/// That it would cost more than the budget.
-fn say_over(
-    page: &mut Vec<u8>,
-    language: &Language,
-    share: Money,
-    cost: Money,
-) -> Result<(), NoMemory>
-    ensures { OnOk result (Grows page.old.items page.new.items (say language.now key.OVER
-        (amount language.now.amounts (codes "next_share") share ∷ amount language.now.costs
-        (codes "next_cost") cost ∷ []))) }
-{
-    say(
+    let places = [
+        Place::Amount("next_share", next.share, language.amounts),
+        Place::Amount("next_cost", next.cost, language.costs),
+    ];
+    say_item(page, language, keys::OVER, &places)?;
+    put(
         page,
         language,
-        keys::OVER,
-        &[
-            Place::Amount("next_share", share, language.amounts),
-            Place::Amount("next_cost", cost, language.costs),
-        ],
-    )
+        ONLY_THEN_OPENING,
+        &[Value::Said(keys::ONLY_THEN)],
+    )?;
+    put_projects(page, language, election, next.only_then.as_slice())?;
+    put_own(page, LIST_CLOSING)
 }
 
 /// The projects at these places.
-fn put_projects(
+fn put_projects<'a>(
     page: &mut Vec<u8>,
-    language: &Language,
-    election: &Election,
+    language: &Language<'a>,
+    election: &'a Election,
     places: &[u32],
 ) -> Result<(), NoMemory>
     requires { All (λ place. place < length election.now.projects) places.now }
     ensures { OnOk result (Grows page.old.items page.new.items
-        (map (λ place. only_then language.now (project_at election.now place)) places.now)) }
+        (flat_map (only_then language.now election.now) places.now)) }
 {
     let projects = election.projects();
     for place in places {
         let project = &projects[*place as usize];
-        put_project(page, &*language, project)?;
-    }
-    Ok(())
-}
-
-/// A project of the list.
-fn put_project<'a>(
-    page: &mut Vec<u8>,
-    language: &Language<'a>,
-    project: &'a Project,
-) -> Result<(), NoMemory>
-    ensures { OnOk result (Grows page.old.items page.new.items (only_then language.now project.now ∷ [])) }
-{
-    put(
-        page,
-        ONLY_THEN,
-        &[
+        let cost = project.cost();
+        let values = [
             Value::Text(project.id()),
             Value::Text(project.name()),
-            Value::Amount(project.cost()),
-            Value::Shown(project.cost(), language.costs),
-        ],
-    )
+            Value::Amount(cost),
+            Value::Shown(cost, language.costs),
+        ];
+        put(page, &*language, ONLY_THEN, &values)?;
+    }
+    Ok(())
 }

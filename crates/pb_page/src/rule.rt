@@ -1,21 +1,22 @@
 //! How it was counted, sentence by sentence.
 
-ghost use Rattle.std.specs.Prelude.{◌≡◌, [], ◌∷◌, OnOk, codes};
-ghost use Rattle.pb_core.specs.MoneyText.{money_text};
-ghost use Rattle.pb_page.specs.Amount.{shown};
+ghost use Rattle.std.specs.Prelude.{◌≡◌, ◌==◌, OnOk, if◌then◌else◌};
+ghost use Rattle.pb_page.specs.Content.{item, said};
+ghost use Rattle.pb_page.specs.Inner.Counted.{KnowsPlaces, filled_up, share_said};
 ghost use Rattle.pb_page.specs.Inner.Grown.{Grows};
-ghost use Rattle.pb_page.specs.Inner.Pieces.{KnowsPlaces, filled_up, item, method_key, method_said, order};
-ghost use Rattle.pb_page.specs.Inner.Pieces.{raises_key, rounds_said, share_rule};
-ghost use Rattle.pb_page.specs.Inner.Sections.{amount, filling, noun_at, number, rule, say};
+ghost use Rattle.pb_page.specs.Page.{rule};
 ghost use Rattle.pb_page.specs.declared.keys.TheConstants as key;
-ghost use Rattle.pb_page.specs.declared.templates.TheConstants.{NAMELESS};
+ghost use Rattle.pb_rounds.specs.RuleNames.{by_completion, by_measure};
 
 use crate::keys;
 use crate::language::Language;
+use crate::markup::Value;
 use crate::place::Place;
-use crate::put::{put_labels, say};
+use crate::put::{put, put_own};
 use crate::raises_ended::put_end;
-use crate::templates::{ITEM, NAMELESS, RULE_NEXT, RULE_OPENING};
+use crate::sentences::say_item;
+use crate::templates::{ITEM, RULE_CLOSING, RULE_OPENING};
+use crate::ties::put_ties;
 use pb_core::money::Money;
 use pb_core::no_memory::NoMemory;
 use pb_reasons::{CountedElection, RaiseEnd};
@@ -24,7 +25,7 @@ use pb_rounds::options::Completion;
 use pb_rounds::outcome::Outcome;
 use pb_rounds::rule::{FillUp, Rule};
 
-/// How it was counted, and why the raises ended.
+/// How it was counted, why the raises ended, and the ties.
 pub(crate) fn put_rule(
     page: &mut Vec<u8>,
     language: &Language,
@@ -34,24 +35,25 @@ pub(crate) fn put_rule(
     requires { KnowsPlaces count.now.election end.now }
     ensures { OnOk result (Grows page.old.items page.new.items (rule language.now count.now end.now)) }
 {
-    put_counted(page, language, count)?;
+    let rule = count.rule();
+    let options = rule.options;
+    let share = share_of(count.outcome());
+    let raised = raised_by(count.outcome());
+    put(
+        page,
+        language,
+        RULE_OPENING,
+        &[Value::Said(keys::RULE_HEADING)],
+    )?;
+    say_share(page, language, options.step, share, u64::from(raised))?;
+    put_item(page, language, keys::SUPPORTERS)?;
+    put_item(page, language, order_key(options.measure))?;
+    put_item(page, language, raises_key(&rule, raised))?;
     put_end(page, language, count.election(), end)?;
-    put_last(page, language, &count.rule())
-}
-
-/// How the rounds were held.
-fn put_counted(
-    page: &mut Vec<u8>,
-    language: &Language,
-    count: &CountedElection,
-) -> Result<(), NoMemory>
-    ensures { OnOk result (Grows page.old.items page.new.items (rounds_said language.now count.now.rule
-        count.now.counted.outcome.share count.now.counted.outcome.raised)) }
-{
-    let outcome = count.outcome();
-    let share = share_of(outcome);
-    let raised = raised_by(outcome);
-    put_rounds(page, language, &count.rule(), share, raised)
+    put_item(page, language, method_key(&rule))?;
+    put_filled_up(page, language, rule.fill_up)?;
+    put_ties(page, language, count)?;
+    put_own(page, RULE_CLOSING)
 }
 
 /// Everyone's share in this outcome.
@@ -68,45 +70,6 @@ fn raised_by(outcome: &Outcome) -> u32
     outcome.raised
 }
 
-/// The sentences on the rounds of a count with this share, after so many raises.
-fn put_rounds(
-    page: &mut Vec<u8>,
-    language: &Language,
-    rule: &Rule,
-    share: Money,
-    raised: u32,
-) -> Result<(), NoMemory>
-    ensures { OnOk result (Grows page.old.items page.new.items
-        (rounds_said language.now rule.now share raised)) }
-{
-    put_share(page, language, rule.options.step, share, raised)?;
-    put_order(page, language, rule.options.measure)?;
-    put_item(page, language, raises_key(rule, raised))
-}
-
-/// What the rule is called, and how what was left was filled up.
-fn put_last(page: &mut Vec<u8>, language: &Language, rule: &Rule) -> Result<(), NoMemory>
-    ensures { OnOk result (Grows page.old.items page.new.items (method_said language.now rule.now)) }
-{
-    put_item(page, language, method_key(rule))?;
-    put_filled_up(page, language, rule.fill_up)
-}
-
-/// How the share came about, and who can be paid.
-fn put_share(
-    page: &mut Vec<u8>,
-    language: &Language,
-    step: Money,
-    share: Money,
-    raised: u32,
-) -> Result<(), NoMemory>
-    ensures { OnOk result (Grows page.old.items page.new.items (share_rule language.now step share raised)) }
-{
-    put_labels(page, language, RULE_OPENING, &[keys::RULE_HEADING])?;
-    say_share(page, language, step, share, u64::from(raised))?;
-    put_labels(page, language, RULE_NEXT, &[keys::SUPPORTERS])
-}
-
 /// How the share came about.
 fn say_share(
     page: &mut Vec<u8>,
@@ -115,44 +78,39 @@ fn say_share(
     share: Money,
     raises: u64,
 ) -> Result<(), NoMemory>
-    ensures { OnOk result (Grows page.old.items page.new.items (say language.now key.SHARE
-        (amount language.now.amounts (codes "share") share ∷ number (codes "raises") raises
-        ∷ filling NAMELESS.now (money_text step ∷ shown language.now.amounts step ∷ [])
-        ∷ noun_at language.now key.TIMES raises ∷ []))) }
+    ensures { OnOk result (Grows page.old.items page.new.items (share_said language.now step share raises)) }
 {
-    say(
-        page,
-        language,
-        keys::SHARE,
-        &[
-            Place::Amount("share", share, language.amounts),
-            Place::Number("raises", raises),
-            Place::Nameless(step, language.amounts),
-            Place::Text(language.noun(keys::TIMES, raises)),
-        ],
-    )
+    let places = [
+        Place::Amount("share", share, language.amounts),
+        Place::Number("raises", raises),
+        Place::Nameless(step, language.amounts),
+        Place::Noun(keys::TIMES, raises),
+    ];
+    say_item(page, language, keys::SHARE, &places)
 }
 
 /// A sentence of the list.
 pub(crate) fn put_item(page: &mut Vec<u8>, language: &Language, key: u16) -> Result<(), NoMemory>
-    ensures { OnOk result (Grows page.old.items page.new.items (item language.now key ∷ [])) }
+    ensures { OnOk result (Grows page.old.items page.new.items (item (said language.now key))) }
 {
-    put_labels(page, language, ITEM, &[key])
+    put(page, language, ITEM, &[Value::Said(key)])
 }
 
-/// Which project is elected first.
-fn put_order(page: &mut Vec<u8>, language: &Language, measure: Measure) -> Result<(), NoMemory>
-    ensures { OnOk result (Grows page.old.items page.new.items (order language.now measure ∷ [])) }
+/// The key of the sentence on which project is elected first.
+fn order_key(measure: Measure) -> u16
+    ensures { result ≡ by_measure measure key.BY_VOTES key.BY_COST }
 {
     match measure {
-        Measure::Votes => put_item(page, language, keys::BY_VOTES),
-        Measure::Cost => put_item(page, language, keys::BY_COST),
+        Measure::Votes => keys::BY_VOTES,
+        Measure::Cost => keys::BY_COST,
     }
 }
 
 /// The key of the sentence on the raises.
 fn raises_key(rule: &Rule, raised: u32) -> u16
-    ensures { result ≡ raises_key rule.now raised }
+    ensures { result ≡ by_completion rule.now.options.completion rule.now.fill_up key.PLAIN
+        (if raised == 0 then key.UNRAISED else key.RAISED) key.UNUSED
+        (if raised == 0 then key.UNRAISED else key.RAISED) }
 {
     match (rule.options.completion, rule.fill_up) {
         (Completion::Plain, FillUp::Nothing) => keys::PLAIN,
@@ -169,7 +127,8 @@ fn raises_key(rule: &Rule, raised: u32) -> u16
 
 /// The key of the sentence on what the rule is called.
 fn method_key(rule: &Rule) -> u16
-    ensures { result ≡ method_key rule.now }
+    ensures { result ≡ by_completion rule.now.options.completion rule.now.fill_up key.METHOD_PLAIN
+        key.METHOD_ADD1 key.METHOD_FILLED key.METHOD_ADD1 }
 {
     match (rule.options.completion, rule.fill_up) {
         (Completion::Plain, FillUp::Nothing) => keys::METHOD_PLAIN,
@@ -179,7 +138,6 @@ fn method_key(rule: &Rule) -> u16
 }
 
 /// How what was left was filled up, where it was.
-#[tactic(auto, using(crate::proofs::Grown::none))]
 fn put_filled_up(page: &mut Vec<u8>, language: &Language, fill_up: FillUp) -> Result<(), NoMemory>
     ensures { OnOk result (Grows page.old.items page.new.items (filled_up language.now fill_up)) }
 {

@@ -1,42 +1,78 @@
 //! Sentences from outside, with markup at their places.
 
-ghost use Rattle.std.specs.Prelude.{◌≡◌, [], ◌∷◌, ◌++◌, OnOk, map};
-ghost use Rattle.pb_page.specs.Inner.Filling.{page_of};
+ghost use Rattle.std.specs.Prelude.{◌≡◌, ◌++◌, OnOk, flat_map, map};
+ghost use Rattle.pb_page.specs.Content.{item, paragraph, say};
 ghost use Rattle.pb_page.specs.Inner.Grown.{Grows};
-ghost use Rattle.pb_page.specs.Inner.Pieces.{at_place};
-ghost use Rattle.pb_page.specs.Inner.Sentence.{character_said};
+ghost use Rattle.pb_page.specs.Inner.Value.{at_place, character_said};
 
+use crate::language::Language;
 use crate::markup::{Value, write_byte};
 use crate::place::Place;
-use crate::put::put;
+use crate::put::{put, put_own};
 use crate::templates::{AMOUNT, CALLED, NAMELESS, NUMBER, RECOUNT_LINK, TEXT};
 use pb_core::no_memory::NoMemory;
 
 /// The bytes below this one are places of a sentence: byte 0 the first, byte 1 the second, and so on.
 const PLACES: u8 = 32;
 
-/// Writes a sentence after a page. Its bytes from 32 on are text, and stay text. Those below are its places:
-/// what is given for each stands there, and nothing where nothing is given.
-pub(crate) fn write_sentence(
+/// Puts the sentence at a key after a page. Its bytes from 32 on are text, and stay text. Those below are its
+/// places: what is given for each stands there, and nothing where nothing is given.
+pub(crate) fn say(
     page: &mut Vec<u8>,
-    sentence: &str,
+    language: &Language,
+    key: u16,
     places: &[Place],
 ) -> Result<(), NoMemory>
-    ensures { OnOk result (page.new.items ≡ page.old.items
-        ++ page_of (map (character_said (map at_place places.now)) sentence.now)) }
+    ensures { OnOk result (Grows page.old.items page.new.items
+        (say language.now key (map (at_place language.now) places.now))) }
 {
-    let bytes = sentence.as_bytes();
+    let bytes = language.text(key).as_bytes();
     for byte in bytes {
-        say_byte(page, *byte, places)?;
+        say_byte(page, language, *byte, places)?;
     }
     Ok(())
 }
 
-/// Writes a byte of a sentence.
+/// Puts a paragraph after a page: the sentence at a key.
+pub(crate) fn say_paragraph(
+    page: &mut Vec<u8>,
+    language: &Language,
+    key: u16,
+    places: &[Place],
+) -> Result<(), NoMemory>
+    ensures { OnOk result (Grows page.old.items page.new.items
+        (paragraph (say language.now key (map (at_place language.now) places.now)))) }
+{
+    put_own(page, "<p>")?;
+    say(page, language, key, places)?;
+    put_own(page, "</p>\n")
+}
+
+/// Puts an item of a list after a page: the sentence at a key.
+pub(crate) fn say_item(
+    page: &mut Vec<u8>,
+    language: &Language,
+    key: u16,
+    places: &[Place],
+) -> Result<(), NoMemory>
+    ensures { OnOk result (Grows page.old.items page.new.items
+        (item (say language.now key (map (at_place language.now) places.now)))) }
+{
+    put_own(page, "<li>")?;
+    say(page, language, key, places)?;
+    put_own(page, "</li>\n")
+}
+
+/// Puts a byte of a sentence after a page.
 #[tactic(auto, unfolding(crate::specs::Inner::Grown::Grows))]
-fn say_byte(page: &mut Vec<u8>, byte: u8, places: &[Place]) -> Result<(), NoMemory>
-    ensures { OnOk result (page.new.items ≡ page.old.items
-        ++ page_of (character_said (map at_place places.now) byte ∷ [])) }
+fn say_byte(
+    page: &mut Vec<u8>,
+    language: &Language,
+    byte: u8,
+    places: &[Place],
+) -> Result<(), NoMemory>
+    ensures { OnOk result (Grows page.old.items page.new.items
+        (character_said (map (at_place language.now) places.now) byte)) }
 {
     if byte >= PLACES {
         return write_byte(page, byte);
@@ -45,39 +81,38 @@ fn say_byte(page: &mut Vec<u8>, byte: u8, places: &[Place]) -> Result<(), NoMemo
     if place >= places.len() {
         return Ok(());
     }
-    put_place(page, &places[place])
+    put_place(page, language, &places[place])
 }
 
 /// Puts what stands at a place.
-fn put_place(page: &mut Vec<u8>, place: &Place) -> Result<(), NoMemory>
-    ensures { OnOk result (Grows page.old.items page.new.items (at_place place.now ∷ [])) }
+fn put_place(page: &mut Vec<u8>, language: &Language, place: &Place) -> Result<(), NoMemory>
+    ensures { OnOk result (Grows page.old.items page.new.items (at_place language.now place.now)) }
 {
     match *place {
-        Place::Text(text) => put(page, TEXT, &[Value::Text(text)]),
-        Place::Digits(number) => put(page, TEXT, &[Value::Number(number)]),
-        Place::Shown(amount, form) => put(page, TEXT, &[Value::Shown(amount, form)]),
+        Place::Text(text) => put(page, language, TEXT, &[Value::Text(text)]),
+        Place::Digits(number) => put(page, language, TEXT, &[Value::Number(number)]),
+        Place::Noun(key, number) => put(page, language, TEXT, &[Value::Noun(key, number)]),
+        Place::Shown(amount, form) => put(page, language, TEXT, &[Value::Shown(amount, form)]),
         Place::Number(name, number) => {
-            put(page, NUMBER, &[Value::Text(name), Value::Number(number)])
+            let values = [Value::Text(name), Value::Number(number)];
+            put(page, language, NUMBER, &values)
         }
-        Place::Amount(name, amount, form) => put(
-            page,
-            AMOUNT,
-            &[
+        Place::Amount(name, amount, form) => {
+            let values = [
                 Value::Text(name),
                 Value::Amount(amount),
                 Value::Shown(amount, form),
-            ],
-        ),
-        Place::Nameless(amount, form) => put(
-            page,
-            NAMELESS,
-            &[Value::Amount(amount), Value::Shown(amount, form)],
-        ),
-        Place::Called(name) => put(page, CALLED, &[Value::Text(name)]),
-        Place::Link(address, name) => put(
-            page,
-            RECOUNT_LINK,
-            &[Value::Text(address), Value::Text(name)],
-        ),
+            ];
+            put(page, language, AMOUNT, &values)
+        }
+        Place::Nameless(amount, form) => {
+            let values = [Value::Amount(amount), Value::Shown(amount, form)];
+            put(page, language, NAMELESS, &values)
+        }
+        Place::Called(name) => put(page, language, CALLED, &[Value::Text(name)]),
+        Place::Link(address, key) => {
+            let values = [Value::Text(address), Value::Said(key)];
+            put(page, language, RECOUNT_LINK, &values)
+        }
     }
 }

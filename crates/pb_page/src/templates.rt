@@ -12,13 +12,27 @@ pub(crate) const HEAD_OPENING: &str = "<!DOCTYPE html>
 pub(crate) const TITLE: &str = "<title>~</title>
 <style>";
 
-/// What stands behind that, up to the first sentence. Value: the title.
+/// What stands behind that, up to the sentences on the whole. Value: the title.
 pub(crate) const TOP: &str = "</style>
 </head>
 <body>
 <header>
 <h1 dir='auto'>~</h1>
+";
+
+/// What stands before the first sentence on the whole, between the two, and behind them.
+pub(crate) const LEAD: &str = "<p class='lead'>";
+
+pub(crate) const LEAD_NEXT: &str = "</p>
 <p class='lead'>";
+
+pub(crate) const LEAD_CLOSING: &str = "</p>
+";
+
+/// What stands before the sections.
+pub(crate) const MAIN: &str = "</header>
+<main>
+";
 
 /// A text alone. Value: the text.
 pub(crate) const TEXT: &str = "~";
@@ -32,20 +46,13 @@ pub(crate) const AMOUNT: &str = "<data class='~' value='~'>~</data>";
 /// An amount without a name. Values: the amount for programs, and as it is shown.
 pub(crate) const NAMELESS: &str = "<data value='~'>~</data>";
 
-/// What stands between the two sentences on the whole.
-pub(crate) const LEAD_NEXT: &str = "</p>
-<p class='lead'>";
-
 /// What programs read of a page on which no project won, before the sentence on that. Values: how many won;
 /// what was spent; what was paid beyond that.
 pub(crate) const NOTHING: &str =
     "<data class='won' value='~'></data><data class='spent' value='~'></data><data class='surplus' value='~'></data>";
 
 /// The head of the picture of the budget, up to its words for those who can't see it. Value: the heading.
-pub(crate) const BUDGET_OPENING: &str = "</p>
-</header>
-<main>
-<section aria-labelledby='budget'>
+pub(crate) const BUDGET_OPENING: &str = "<section aria-labelledby='budget'>
 <h2 id='budget'>~</h2>
 <figure>
 <div class='budget' role='img' aria-label='";
@@ -82,7 +89,9 @@ pub(crate) const HEAD_CLOSING: &str = "</tr></thead>
 /// The category of a project, in its row. Values: the label, and the category.
 pub(crate) const ROW_CATEGORY: &str = "<td role='cell' data-label='~'><bdi dir='auto'>~</bdi></td>";
 
-/// The end of a project's row.
+/// The start of a project's row, up to its cells, and its end. Value: the id.
+pub(crate) const ROW_OPENING: &str = "<tr role='row' data-project='~'>";
+
 pub(crate) const ROW_CLOSING: &str = "</tr>
 ";
 
@@ -94,11 +103,10 @@ pub(crate) const WINNERS_OPENING: &str = "<section class='won' aria-labelledby='
 <caption role='caption'>~</caption>
 <thead role='rowgroup'><tr role='row'><th role='columnheader' scope='col' class='n round'>~</th><th role='columnheader' scope='col'>~</th><th role='columnheader' scope='col' class='n'>~</th><th role='columnheader' scope='col' class='n'>~</th><th role='columnheader' scope='col' class='n'>~</th><th role='columnheader' scope='col' class='n'>~</th>";
 
-/// A winner, up to the end of the row. Values: id, round with its label, id again, name, width of its bar,
-/// cost, votes, price, how many paid it in full, each of these with its label before it, and an amount also
-/// as it is shown.
+/// The cells of a winner. Values: round with its label, id, name, width of its bar, cost, votes, price, how
+/// many paid it in full, each of these with its label before it, and an amount also as it is shown.
 pub(crate) const WINNER: &str =
-    "<tr role='row' data-project='~'><td role='cell' class='n' data-label='~'><data class='round' value='^'>~</data></td><th role='rowheader' scope='row'><span class='id' dir='auto'>~</span> <bdi dir='auto'>~</bdi><svg class='bar' viewBox='0 0 10000 1' preserveAspectRatio='none' aria-hidden='true'><rect width='~' height='1'/></svg></th><td role='cell' class='n' data-label='~'><data class='cost' value='~'>~</data></td><td role='cell' class='n' data-label='~'><data class='votes' value='^'>~</data></td><td role='cell' class='n' data-label='~'><data class='price' value='~'>~</data></td><td role='cell' class='n' data-label='~'><data class='in_full' value='^'>~</data></td>";
+    "<td role='cell' class='n' data-label='~'><data class='round' value='^'>~</data></td><th role='rowheader' scope='row'><span class='id' dir='auto'>~</span> <bdi dir='auto'>~</bdi><svg class='bar' viewBox='0 0 10000 1' preserveAspectRatio='none' aria-hidden='true'><rect width='~' height='1'/></svg></th><td role='cell' class='n' data-label='~'><data class='cost' value='~'>~</data></td><td role='cell' class='n' data-label='~'><data class='votes' value='^'>~</data></td><td role='cell' class='n' data-label='~'><data class='price' value='~'>~</data></td><td role='cell' class='n' data-label='~'><data class='in_full' value='^'>~</data></td>";
 
 /// The winners where there are none. Values: the heading, and that.
 pub(crate) const NONE_WON: &str = "<section aria-labelledby='winners'>
@@ -115,10 +123,10 @@ pub(crate) const ADDED_OPENING: &str = "<section class='won' aria-labelledby='ad
 <caption role='caption'>~</caption>
 <thead role='rowgroup'><tr role='row'><th role='columnheader' scope='col' class='n round'>~</th><th role='columnheader' scope='col'>~</th><th role='columnheader' scope='col' class='n'>~</th><th role='columnheader' scope='col' class='n'>~</th>";
 
-/// An added project, up to the end of the row. Values: id, number with its label, id again, name, width of
-/// its bar, cost and votes with their labels.
+/// The cells of an added project. Values: number with its label, id, name, width of its bar, cost and votes
+/// with their labels.
 pub(crate) const ADDED: &str =
-    "<tr role='row' data-project='~'><td role='cell' class='n' data-label='~'><data class='added' value='^'>~</data></td><th role='rowheader' scope='row'><span class='id' dir='auto'>~</span> <bdi dir='auto'>~</bdi><svg class='bar' viewBox='0 0 10000 1' preserveAspectRatio='none' aria-hidden='true'><rect width='~' height='1'/></svg></th><td role='cell' class='n' data-label='~'><data class='cost' value='~'>~</data></td><td role='cell' class='n' data-label='~'><data class='votes' value='^'>~</data></td>";
+    "<td role='cell' class='n' data-label='~'><data class='added' value='^'>~</data></td><th role='rowheader' scope='row'><span class='id' dir='auto'>~</span> <bdi dir='auto'>~</bdi><svg class='bar' viewBox='0 0 10000 1' preserveAspectRatio='none' aria-hidden='true'><rect width='~' height='1'/></svg></th><td role='cell' class='n' data-label='~'><data class='cost' value='~'>~</data></td><td role='cell' class='n' data-label='~'><data class='votes' value='^'>~</data></td>";
 
 /// The head of the table of the others, up to its last column. Values: its heading and caption, and the heads
 /// of its columns.
@@ -128,11 +136,11 @@ pub(crate) const OTHERS_OPENING: &str = "<section class='lost' aria-labelledby='
 <caption role='caption'>~</caption>
 <thead role='rowgroup'><tr role='row'><th role='columnheader' scope='col'>~</th><th role='columnheader' scope='col' class='n'>~</th><th role='columnheader' scope='col' class='n'>~</th><th role='columnheader' scope='col' class='n'>~</th><th role='columnheader' scope='col' class='n'>~</th>";
 
-/// A project that did not win, up to what is said of what is missing. Values: id, name, width of its bar;
+/// The cells of a project that did not win, up to what is said of what is missing. Values: id, name, width of its bar;
 /// cost, votes and what its supporters have left, with their labels; the label of what is missing, and that
 /// for programs.
 pub(crate) const OTHER: &str =
-    "<tr role='row' data-project='^'><th role='rowheader' scope='row'><span class='id' dir='auto'>~</span> <bdi dir='auto'>~</bdi><svg class='bar' viewBox='0 0 10000 1' preserveAspectRatio='none' aria-hidden='true'><rect width='~' height='1'/></svg></th><td role='cell' class='n' data-label='~'><data class='cost' value='~'>~</data></td><td role='cell' class='n' data-label='~'><data class='votes' value='^'>~</data></td><td role='cell' class='n' data-label='~'><data class='left' value='~'>~</data></td><td role='cell' class='n' data-label='~'><data class='missing' value='~'>";
+    "<th role='rowheader' scope='row'><span class='id' dir='auto'>~</span> <bdi dir='auto'>~</bdi><svg class='bar' viewBox='0 0 10000 1' preserveAspectRatio='none' aria-hidden='true'><rect width='~' height='1'/></svg></th><td role='cell' class='n' data-label='~'><data class='cost' value='~'>~</data></td><td role='cell' class='n' data-label='~'><data class='votes' value='^'>~</data></td><td role='cell' class='n' data-label='~'><data class='left' value='~'>~</data></td><td role='cell' class='n' data-label='~'><data class='missing' value='~'>";
 
 /// What stands behind that.
 pub(crate) const OTHER_CLOSING: &str = "</data></td>";
@@ -169,11 +177,10 @@ pub(crate) const CATEGORY: &str =
 /// The head of what the voters got. Value: the heading.
 pub(crate) const VOTERS_OPENING: &str = "<section class='many' aria-labelledby='voters'>
 <h2 id='voters'>~</h2>
-<p>";
+";
 
 /// The head of the histogram. Values: its caption, and the heads of its columns.
-pub(crate) const VOTERS_TABLE: &str = "</p>
-<table role='table'>
+pub(crate) const VOTERS_TABLE: &str = "<table role='table'>
 <caption role='caption'>~</caption>
 <thead role='rowgroup'><tr role='row'><th role='columnheader' scope='col'>~</th><th role='columnheader' scope='col' class='n'>~</th></tr></thead>
 <tbody role='rowgroup'>
@@ -207,11 +214,11 @@ pub(crate) const COMPARED_ROW: &str =
 pub(crate) const RULE_OPENING: &str = "<section aria-labelledby='rule'>
 <h2 id='rule'>~</h2>
 <ol>
-<li>";
+";
 
-/// What stands behind the first sentence. Value: the second.
-pub(crate) const RULE_NEXT: &str = "</li>
-<li>~</li>
+/// Its end.
+pub(crate) const RULE_CLOSING: &str = "</ol>
+</section>
 ";
 
 /// A sentence of a list. Value: the sentence.
@@ -226,20 +233,13 @@ pub(crate) const TIES_OPENING: &str = "<li>~
 <ul class='ties'>
 ";
 
-/// What stands before a sentence of a list that has places, and behind it where nothing else does.
-pub(crate) const ITEM_OPENING: &str = "<li>";
-
-pub(crate) const ITEM_CLOSING: &str = "</li>
-";
-
 /// The end of a list that is itself an item of a list.
 pub(crate) const LIST_CLOSING: &str = "</ul>
 </li>
 ";
 
-/// What stands behind such a sentence, before a list of projects. Value: what is said of these.
-pub(crate) const ONLY_THEN_OPENING: &str = "</li>
-<li>~
+/// The head of a list of projects, itself an item of a list. Value: what is said of these.
+pub(crate) const ONLY_THEN_OPENING: &str = "<li>~
 <ul>
 ";
 
@@ -249,9 +249,7 @@ pub(crate) const ONLY_THEN: &str =
 ";
 
 /// The head of what was counted. Values: the heading, and what is said of the bytes.
-pub(crate) const CHECK_OPENING: &str = "</ol>
-</section>
-<section aria-labelledby='check'>
+pub(crate) const CHECK_OPENING: &str = "<section aria-labelledby='check'>
 <h2 id='check'>~</h2>
 <p>~</p>
 <dl>
@@ -267,22 +265,22 @@ pub(crate) const CHECK_JOURNAL: &str = "<dt>JOURNAL: <bdi dir='auto'>~</bdi>, SH
 <dd><code>~</code></dd>
 ";
 
-/// The end of the sources, where a page recounts them.
-pub(crate) const RECOUNT_OPENING: &str = "</dl>
-<p>";
+/// The end of the sources.
+pub(crate) const SOURCES_CLOSING: &str = "</dl>
+";
 
-/// A link to that page. Values: its address, and what it is called.
+/// A link. Values: its address, and what it is called.
 pub(crate) const RECOUNT_LINK: &str = "<a href='~'>~</a>";
 
-/// What stands behind the sentence with the link. Value: what stands above the command.
-pub(crate) const RECOUNT_CLOSING: &str = "</p>
-<p>~</p>
-<pre><code>";
+/// A paragraph. Value: the sentence.
+pub(crate) const PARAGRAPH: &str = "<p>~</p>
+";
 
-/// The end of the sources, where no page recounts them. Value: what stands above the command.
-pub(crate) const NO_RECOUNT: &str = "</dl>
-<p>~</p>
-<pre><code>";
+/// What stands before the command, and behind it.
+pub(crate) const COMMAND_OPENING: &str = "<pre><code>";
+
+pub(crate) const COMMAND_CLOSING: &str = "</code></pre>
+";
 
 /// The command that recounts a file, and a file and a journal.
 pub(crate) const COUNT: &str = "sha256sum FILE
@@ -290,19 +288,16 @@ pb_app projects FILE";
 
 pub(crate) const AUDIT: &str = "pb_app audit FILE JOURNAL --digests --require-shut";
 
-/// Its options, and the end of the command. Values: the option for the measure and that for the completion,
-/// each with a space before it, or nothing; the step in hundredths; the limit of raises.
-pub(crate) const OPTIONS: &str = "~~ --step ~ --raises ~</code></pre>
-<p>";
+/// Its options. Values: the option for the measure and that for the completion, each with a space before it, or
+/// nothing; the step in hundredths; the limit of raises.
+pub(crate) const OPTIONS: &str = "~~ --step ~ --raises ~";
 
-/// What stands between the sentence on the options and that on the program.
-pub(crate) const MADE_BY_OPENING: &str = "</p>
-<p>";
+/// The end of how to check a result.
+pub(crate) const CHECK_CLOSING: &str = "</section>
+";
 
 /// The end of a page.
-pub(crate) const CLOSING: &str = "</p>
-</section>
-</main>
+pub(crate) const CLOSING: &str = "</main>
 </body>
 </html>
 ";

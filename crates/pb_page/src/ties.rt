@@ -1,18 +1,20 @@
 //! The ties that the order of the file decided.
 
-ghost use Rattle.std.specs.Prelude.{◌≡◌, [], ◌∷◌, OnOk, flat_map};
+ghost use Rattle.std.specs.Prelude.{◌≡◌, OnOk, flat_map};
 ghost use Rattle.pb_page.specs.Inner.Grown.{Grows};
-ghost use Rattle.pb_page.specs.Inner.Pieces.{tie_called, tie_list, tie_said, ties_told};
-ghost use Rattle.pb_rounds.specs.RuleNames.{by_measure};
-ghost use Rattle.pb_page.specs.Inner.Sections.{called, project_at, tie, ties};
+ghost use Rattle.pb_page.specs.Page.{called, project_at, tie, ties};
 ghost use Rattle.pb_page.specs.declared.keys.TheConstants as key;
+ghost use Rattle.pb_reasons.specs.Ties.{ties_of};
+ghost use Rattle.pb_rounds.specs.RuleNames.{by_measure};
 
 use crate::forms::called;
 use crate::keys;
 use crate::language::Language;
+use crate::markup::Value;
 use crate::place::Place;
-use crate::put::{put, put_labels, say};
-use crate::templates::{ITEM_CLOSING, ITEM_OPENING, LIST_CLOSING, TIES_OPENING};
+use crate::put::{put, put_own};
+use crate::sentences::say_item;
+use crate::templates::{LIST_CLOSING, TIES_OPENING};
 use pb_core::election::Election;
 use pb_core::no_memory::NoMemory;
 use pb_reasons::{CountedElection, Tie, ties_of};
@@ -32,35 +34,23 @@ pub(crate) fn put_ties(
     put
 }
 
-/// These ties.
-#[tactic(auto, using(crate::proofs::Grown::none))]
+/// The same, where these are the ties.
 fn put_list(
     page: &mut Vec<u8>,
     language: &Language,
     count: &CountedElection,
     told: &[Tie],
 ) -> Result<(), NoMemory>
-    ensures { OnOk result (Grows page.old.items page.new.items (ties_told language.now count.now told.now)) }
+    requires { told.now
+        ≡ ties_of count.now.rule.options.measure count.now.election count.now.counted.outcome }
+    ensures { OnOk result (Grows page.old.items page.new.items (ties language.now count.now)) }
 {
     if told.is_empty() {
         return Ok(());
     }
-    put_some(page, language, count, told)
-}
-
-/// These, of which there are some.
-fn put_some(
-    page: &mut Vec<u8>,
-    language: &Language,
-    count: &CountedElection,
-    told: &[Tie],
-) -> Result<(), NoMemory>
-    ensures { OnOk result (Grows page.old.items page.new.items
-        (tie_list language.now count.now told.now)) }
-{
-    put_labels(page, language, TIES_OPENING, &[keys::TIES])?;
+    put(page, language, TIES_OPENING, &[Value::Said(keys::TIES)])?;
     put_each(page, language, count, told)?;
-    put(page, LIST_CLOSING, &[])
+    put_own(page, LIST_CLOSING)
 }
 
 /// One after the other.
@@ -88,49 +78,19 @@ fn put_tie(
 ) -> Result<(), NoMemory>
     ensures { OnOk result (Grows page.old.items page.new.items (tie language.now count.now told.now)) }
 {
-    put(page, ITEM_OPENING, &[])?;
-    say_tie(page, language, count, told)?;
-    put(page, ITEM_CLOSING, &[])
-}
-
-/// What is said of a tie.
-fn say_tie(
-    page: &mut Vec<u8>,
-    language: &Language,
-    count: &CountedElection,
-    told: &Tie,
-) -> Result<(), NoMemory>
-    ensures { OnOk result (Grows page.old.items page.new.items
-        (tie_said language.now count.now told.now)) }
-{
     let election = count.election();
     let winner = called_at(election, told.winner);
     let other = called_at(election, told.other);
-    let key = key_of(count.rule().options.measure);
-    say_called(page, language, key, told.round as u64, (winner, other))
-}
-
-/// What is said of a tie of this round, between projects that are called so.
-fn say_called<'a>(
-    page: &mut Vec<u8>,
-    language: &Language,
-    key: u16,
-    round: u64,
-    names: (&'a str, &'a str),
-) -> Result<(), NoMemory>
-    ensures { OnOk result (Grows page.old.items page.new.items
-        (tie_called language.now key round names.entry.0.now names.entry.1.now)) }
-{
-    let (winner, other) = names;
-    say(
+    let places = [
+        Place::Number("round", told.round as u64),
+        Place::Called(winner),
+        Place::Called(other),
+    ];
+    say_item(
         page,
         language,
-        key,
-        &[
-            Place::Number("round", round),
-            Place::Called(winner),
-            Place::Called(other),
-        ],
+        key_of(count.rule().options.measure),
+        &places,
     )
 }
 

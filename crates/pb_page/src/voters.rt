@@ -1,18 +1,18 @@
 //! What the voters got.
 
-ghost use Rattle.std.specs.Prelude.{[], ◌∷◌, ◌<◌, ◌^◌, OnOk, decimal, flat_map, length};
+ghost use Rattle.std.specs.Prelude.{◌<◌, ◌^◌, OnOk, flat_map, length};
 ghost use Rattle.std.specs.List.{range_with_len};
+ghost use Rattle.pb_page.specs.Inner.Counted.{exact_row, got_said};
 ghost use Rattle.pb_page.specs.Inner.Grown.{Grows};
-ghost use Rattle.pb_page.specs.Inner.Pieces.{exact_row, got, got_said, histogram, row_closing, shown_row};
-ghost use Rattle.pb_page.specs.Inner.Sections.{ballots_row, say, text, voters};
+ghost use Rattle.pb_page.specs.Page.{ballots_row, choices_won, voters};
 
-use crate::forms::width;
 use crate::histogram::{BallotsRow, at_least, exactly, won_by_voter};
 use crate::keys;
 use crate::language::Language;
 use crate::markup::Value;
 use crate::place::Place;
-use crate::put::{put, put_labels, say};
+use crate::put::{put, put_own};
+use crate::sentences::{say, say_paragraph};
 use crate::templates::{
     TABLE_CLOSING, VOTERS_OPENING, VOTERS_ROW, VOTERS_ROW_CLOSING, VOTERS_TABLE,
 };
@@ -28,8 +28,7 @@ pub(crate) fn put_voters(
     language: &Language,
     count: &CountedElection,
 ) -> Result<(), NoMemory>
-    ensures { OnOk result (Grows page.old.items page.new.items
-        (voters language.now count.now)) }
+    ensures { OnOk result (Grows page.old.items page.new.items (voters language.now count.now)) }
 {
     let won = won_by_voter(*page.allocator(), count)?;
     let put = put_won(page, language, won.as_slice());
@@ -37,12 +36,20 @@ pub(crate) fn put_voters(
     put
 }
 
-/// How many voters have a winner among their choices, where so many choices of each voter won.
+/// The same, where so many choices of each voter won.
 fn put_won(page: &mut Vec<u8>, language: &Language, won: &[u32]) -> Result<(), NoMemory>
     requires { length won.now < 2 ^ 64 }
-    ensures { OnOk result (Grows page.old.items page.new.items (histogram language.now won.now)) }
+    ensures { OnOk result (Grows page.old.items page.new.items (choices_won language.now won.now)) }
 {
-    put_got(page, language, won)?;
+    let heading = [Value::Said(keys::VOTERS_HEADING)];
+    put(page, language, VOTERS_OPENING, &heading)?;
+    say_got(page, language, won)?;
+    let heads = [
+        Value::Said(keys::VOTERS_CAPTION),
+        Value::Said(keys::CHOSEN),
+        Value::Said(keys::VOTERS),
+    ];
+    put(page, language, VOTERS_TABLE, &heads)?;
     put_rows(page, language, won)?;
     let most = at_least(MOST, won);
     let last = BallotsRow {
@@ -51,49 +58,26 @@ fn put_won(page: &mut Vec<u8>, language: &Language, won: &[u32]) -> Result<(), N
         ballots: most,
     };
     put_row(page, language, last, won)?;
-    put(page, TABLE_CLOSING, &[])
-}
-
-/// How many voters have a winner among their choices, and the head of the histogram.
-fn put_got(page: &mut Vec<u8>, language: &Language, won: &[u32]) -> Result<(), NoMemory>
-    requires { length won.now < 2 ^ 64 }
-    ensures { OnOk result (Grows page.old.items page.new.items (got language.now won.now)) }
-{
-    put_labels(page, language, VOTERS_OPENING, &[keys::VOTERS_HEADING])?;
-    let with = at_least(1, won);
-    let without = exactly(0, won);
-    say_got(page, language, with, won.len() as u64, without)?;
-    put_labels(
-        page,
-        language,
-        VOTERS_TABLE,
-        &[keys::VOTERS_CAPTION, keys::CHOSEN, keys::VOTERS],
-    )
+    put_own(page, TABLE_CLOSING)
 }
 
 /// How many voters have a winner among their choices.
-fn say_got(
-    page: &mut Vec<u8>,
-    language: &Language,
-    with: u64,
-    voters: u64,
-    without: u64,
-) -> Result<(), NoMemory>
-    ensures { OnOk result (Grows page.old.items page.new.items (got_said language.now with voters without)) }
+fn say_got(page: &mut Vec<u8>, language: &Language, won: &[u32]) -> Result<(), NoMemory>
+    requires { length won.now < 2 ^ 64 }
+    ensures { OnOk result (Grows page.old.items page.new.items (got_said language.now won.now)) }
 {
-    say(
-        page,
-        language,
-        keys::GOT,
-        &[
-            Place::Digits(with),
-            Place::Number("voters", voters),
-            Place::Digits(without),
-            Place::Text(language.noun(keys::ALL, voters)),
-            Place::Text(language.noun(keys::HAVE, with)),
-            Place::Text(language.noun(keys::LACK, without)),
-        ],
-    )
+    let with = at_least(1, won);
+    let without = exactly(0, won);
+    let voters = won.len() as u64;
+    let places = [
+        Place::Digits(with),
+        Place::Number("voters", voters),
+        Place::Digits(without),
+        Place::Noun(keys::ALL, voters),
+        Place::Noun(keys::HAVE, with),
+        Place::Noun(keys::LACK, without),
+    ];
+    say_paragraph(page, language, keys::GOT, &places)
 }
 
 /// A row for each number of winners below the last.
@@ -129,49 +113,16 @@ fn put_row(
     if at_least(row.number, won) == 0 {
         return Ok(());
     }
-    put_shown_row(page, language, row, won)
-}
-
-/// The row itself.
-fn put_shown_row(
-    page: &mut Vec<u8>,
-    language: &Language,
-    row: BallotsRow,
-    won: &[u32],
-) -> Result<(), NoMemory>
-    requires { length won.now < 2 ^ 64 }
-    ensures { OnOk result (Grows page.old.items page.new.items
-        (shown_row language.now row.said row.number row.ballots won.now)) }
-{
-    put(page, VOTERS_ROW, &[Value::Number(u64::from(row.number))])?;
-    say_number(page, language, row.said, row.number)?;
-    put_ballots(page, row.ballots, won)
-}
-
-/// What is said of so many winners.
-fn say_number(
-    page: &mut Vec<u8>,
-    language: &Language,
-    said: u16,
-    number: u32,
-) -> Result<(), NoMemory>
-    ensures { OnOk result (Grows page.old.items page.new.items
-        (say language.now said (text (decimal number) ∷ []))) }
-{
-    say(page, language, said, &[Place::Digits(u64::from(number))])
-}
-
-/// The rest of a row of this many ballots.
-fn put_ballots(page: &mut Vec<u8>, ballots: u64, won: &[u32]) -> Result<(), NoMemory>
-    requires { length won.now < 2 ^ 64 }
-    ensures { OnOk result (Grows page.old.items page.new.items (row_closing ballots won.now ∷ [])) }
-{
-    put(
+    put(page, language, VOTERS_ROW, &[Value::Small(row.number)])?;
+    say(
         page,
-        VOTERS_ROW_CLOSING,
-        &[
-            Value::Number(width(ballots, won.len() as u64)),
-            Value::Number(ballots),
-        ],
-    )
+        language,
+        row.said,
+        &[Place::Digits(u64::from(row.number))],
+    )?;
+    let ballots = [
+        Value::Width(row.ballots, won.len() as u64),
+        Value::Number(row.ballots),
+    ];
+    put(page, language, VOTERS_ROW_CLOSING, &ballots)
 }

@@ -56,7 +56,7 @@ same_pairs (x ∷ xs) (y ∷ ys) fx fy same =
     )) in
     cc
 
-Contains-filter : (p : ℕ → Bool) (xs : List ℕ) (x : ℕ) → Contains xs x → p x ≡ true → Contains (filter p xs) x
+pub Contains-filter : (p : ℕ → Bool) (xs : List ℕ) (x : ℕ) → Contains xs x → p x ≡ true → Contains (filter p xs) x
 Contains-filter p [] x c passes = absurd (omega (arith, c.1))
 Contains-filter p (y ∷ xs) x c passes = at (Contains-filter p xs x) c.0 c.1 c.2
   where
@@ -68,7 +68,7 @@ Contains-filter p (y ∷ xs) x c passes = at (Contains-filter p xs x) c.0 c.1 c.
         by true rest = Contains-cons y (filter p xs) x rest
         by false rest = rest
 
-Contains-range : (n x : ℕ) → x < n → Contains (range_with_len 0 n) x
+pub Contains-range : (n x : ℕ) → x < n → Contains (range_with_len 0 n) x
 Contains-range n x below = (x, omega (arith, length-range_with_len 0 n, below), get_or-range_with_len 0 n x x below ∙ zero-add x)
 
 Contains-map : {X : Type 0} (f : X → ℕ) (xs : List X) (x : X) → Contains xs x → Contains (map f xs) (f x)

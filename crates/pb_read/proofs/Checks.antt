@@ -14,7 +14,8 @@ use Rattle.pb_read.proofs.Tracking.{ended, explained, fault_at, tracks_more, tra
 use Rattle.pb_read.specs.Inner.Checking.{EndsAt, Going, IsGoing, IsRefusal, IsVerdict, Judges, JudgesRow, LeadsTo, LeftHas, StopsAt, text_fault, without}
 use Rattle.pb_read.proofs.Uniqueness.{refused_from_outside}
 use Rattle.pb_read.specs.FirstFault.{IsFaultAt, IsFromOutside}
-use Rattle.pb_read.specs.Listed.{AreListed, IsHandedOut, IsLeftOut, leaves_out}
+use Rattle.pb_read.specs.Listed.{AreListed, leaves_out}
+use Rattle.pb_read.specs.Inner.Checking.{IsHandedOut, IsLeftOutAt}
 use Rattle.pb_read.specs.Rows.{rows_of}
 use Rattle.pb_read.proofs.Alike.{at_just}
 use Rattle.pb_read.specs.Inner.Machine.{Explains, Position, lowest_kind, row_fault, start}
@@ -59,7 +60,7 @@ fault_left now left kept p kinds.NoMemory come few has = fault_at now left kept 
 fault_left now left kept p kind come few has = fault_here now left kept p _ come few has
 
 -- whether the next record is left out, by where the file has come to
-so_here : (goes : Bool) (now left : List Fields) (kept : ℕ) (p : Position) (kind : ReadKind) → HasCome now left kept p → leaves_out p.0 kind ≡ goes → IsLeftOut goes now kind (kept + 1)
+so_here : (goes : Bool) (now left : List Fields) (kept : ℕ) (p : Position) (kind : ReadKind) → HasCome now left kept p → leaves_out p.0 kind ≡ goes → IsLeftOutAt goes now kind (kept + 1)
 so_here goes now left kept p kind come said =
     let back : kept + 1 - 1 ≡ length come.done = omega (arith, come.count_is) in
     let front : take (kept + 1 - 1) now ≡ come.done =
@@ -67,14 +68,14 @@ so_here goes now left kept p kind come said =
     (p, subst (λ (rows : List Fields). IsAt (rows_of rows) p) (sym front) (at_just (rows_of come.done) p come.reached.at), said)
 
 -- one more record is taken out
-leads_push : (out : ℕ) (records : List Fields) (faults : List ReadFault) (fault : ReadFault) (now : List Fields) (n : ℕ) → LeadsTo out records faults now → n ≡ out + length faults → n < fault.at → IsFaultAt now fault.kind (fault.at - n) → n < 999 → IsLeftOut true now fault.kind (fault.at - n) →
+leads_push : (out : ℕ) (records : List Fields) (faults : List ReadFault) (fault : ReadFault) (now : List Fields) (n : ℕ) → LeadsTo out records faults now → n ≡ out + length faults → n < fault.at → IsFaultAt now fault.kind (fault.at - n) → n < 999 → IsLeftOutAt true now fault.kind (fault.at - n) →
     LeadsTo out records (faults ++ fault ∷ []) (without (fault.at - n) now)
 leads_push out records [] fault now n leads same after is few so =
     let at_start : n ≡ out = omega (arith, same) in (
       omega (arith, after, at_start),
       subst (λ (x : List Fields). IsFaultAt x fault.kind (fault.at - out)) (sym leads) (subst (λ m. IsFaultAt now fault.kind (fault.at - m)) at_start is),
       omega (arith, few, at_start),
-      subst (λ (x : List Fields). IsLeftOut true x fault.kind (fault.at - out)) (sym leads) (subst (λ m. IsLeftOut true now fault.kind (fault.at - m)) at_start so),
+      subst (λ (x : List Fields). IsLeftOutAt true x fault.kind (fault.at - out)) (sym leads) (subst (λ m. IsLeftOutAt true now fault.kind (fault.at - m)) at_start so),
       λ i. without (fault.at - sym at_start i) (leads i),
     )
 leads_push out records (first ∷ more) fault now n leads same after is few so =
@@ -88,7 +89,7 @@ listed_all out records (first ∷ more) now e leads stands =
 
 -- the last fault that is listed
 listed_end : (out : ℕ) (records : List Fields) (faults : List ReadFault) (fault : ReadFault) (now : List Fields) (n : ℕ) → LeadsTo out records faults now → n ≡ out + length faults → n < fault.at → IsFaultAt now fault.kind (fault.at - n) →
-    (n ≡ 999) ⊎ IsLeftOut false now fault.kind (fault.at - n) → AreListed out records (faults ++ fault ∷ [])
+    (n ≡ 999) ⊎ IsLeftOutAt false now fault.kind (fault.at - n) → AreListed out records (faults ++ fault ∷ [])
 listed_end out records [] fault now n leads same after is may =
     let at_start : n ≡ out = omega (arith, same) in (
       omega (arith, after, at_start),
@@ -96,7 +97,7 @@ listed_end out records [] fault now n leads same after is may =
       inl (
         refl,
         ⊎_elim (λ last. inl (sym at_start ∙ last))
-            (λ so. inr (subst (λ (x : List Fields). IsLeftOut false x fault.kind (fault.at - out)) (sym leads) (subst (λ m. IsLeftOut false now fault.kind (fault.at - m)) at_start so))) may,
+            (λ so. inr (subst (λ (x : List Fields). IsLeftOutAt false x fault.kind (fault.at - out)) (sym leads) (subst (λ m. IsLeftOutAt false now fault.kind (fault.at - m)) at_start so))) may,
       ),
     )
 listed_end out records (first ∷ more) fault now n leads same after is may =
@@ -135,8 +136,8 @@ going_leaves (Some all) (Some (next ∷ rest)) after done kept faults p q kind g
     subst (λ n. IsFaultAt going.now kind n) (sym number) (fault_here going.now (next ∷ rest) going.kept p kind going.tracks going.few (ap (λ n. lowest_kind n p (next ∷ rest)) is ∙ judged.0.1)) in
     let come : HasCome (without (done + 1 - length faults) going.now) rest going.kept q =
     subst (λ n. HasCome (without n going.now) rest going.kept q) (sym number) (subst (HasCome (without (going.kept + 1) going.now) rest going.kept) (sym judged.1) (come_without going.now next rest going.kept p going.tracks)) in
-    let so : IsLeftOut true going.now kind (done + 1 - length faults) =
-    subst (λ n. IsLeftOut true going.now kind n) (sym number) (so_here true going.now (next ∷ rest) going.kept p kind going.tracks judged.2) in
+    let so : IsLeftOutAt true going.now kind (done + 1 - length faults) =
+    subst (λ n. IsLeftOutAt true going.now kind n) (sym number) (so_here true going.now (next ∷ rest) going.kept p kind going.tracks judged.2) in
     let one : List ReadFault = fault ∷ [] in
     record {
       now = without (done + 1 - length faults) going.now;
@@ -170,8 +171,8 @@ listed_last (Some all) (Some left) after done kept faults p q kind going same ju
     let number : done + 1 - length faults ≡ going.kept + 1 = omega (arith, going.done_is) in
     let here : IsFaultAt going.now kind (done + 1 - length faults) =
     subst (λ n. IsFaultAt going.now kind n) (sym number) (fault_left going.now left going.kept p kind going.tracks going.few (subst (λ n. LeftHas n (Some left) p kind) is judged.0)) in
-    let so : IsLeftOut false going.now kind (done + 1 - length faults) =
-    subst (λ n. IsLeftOut false going.now kind n) (sym number) (so_here false going.now left going.kept p kind going.tracks judged.1) in
+    let so : IsLeftOutAt false going.now kind (done + 1 - length faults) =
+    subst (λ n. IsLeftOutAt false going.now kind n) (sym number) (so_here false going.now left going.kept p kind going.tracks judged.1) in
     listed_end 0 all faults (record { kind = kind; at = done + 1 }) going.now (length faults) going.leads (omega arith) (omega (arith, going.done_is)) here (inr so)
 
 -- reading stops at a record that is left out

@@ -21,3 +21,4 @@ pub mod Blames
 pub mod Checks
 pub mod Showing
 pub mod Blaming
+pub mod InWords

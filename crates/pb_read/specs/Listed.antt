@@ -1,6 +1,6 @@
 -- The faults that a check of a whole file lists.
-use Rattle.std.specs.Prelude.{◌≡◌, ◌≢◌, ◌<◌, ◌+◌, ◌-◌, ◌⊎◌, ◌==◌, ◌||◌, ◌&&◌, nat_le, ℕ, Bool, true, false}
-use Rattle.std.specs.Prelude.{List, [], ◌∷◌, remove, take, MatchOption, Option}
+use Rattle.std.specs.Prelude.{◌≡◌, ◌<◌, ◌+◌, ◌-◌, ◌⊎◌, ◌==◌, ◌||◌, ◌&&◌, nat_le, ℕ, Bool, true, false}
+use Rattle.std.specs.Prelude.{List, [], ◌∷◌, remove, take}
 use Rattle.pb_core.specs.Election.{ElectionView}
 use Rattle.pb_rows.specs.Reading.{Fields}
 use Rattle.pb_read.specs.FirstFault.{IsFaultAt}
@@ -23,11 +23,10 @@ leaves_out (InProjects columns) kind = is_of_row kind
 leaves_out (InVotes columns) kind = is_of_row kind
 leaves_out stage kind = false
 
--- whether the record with this number, from 1, is left out for a fault of this kind, by what the rows before
--- it come to
-abbrev pub IsLeftOut : Bool → List Fields → ReadKind → ℕ → Type 0
-IsLeftOut is_left_out records kind at =
-    (p : Stage × ElectionView) × IsAt (rows_of (take (at - 1) records)) p × (leaves_out p.0 kind ≡ is_left_out)
+-- whether a record that comes after these is left out for a fault of this kind, by what their rows come to
+abbrev pub IsLeftOut : Bool → List Fields → ReadKind → Type 0
+IsLeftOut is_left_out before kind =
+    (p : Stage × ElectionView) × IsAt (rows_of before) p × (leaves_out p.0 kind ≡ is_left_out)
 
 -- a check lists these faults of records, of which so many were taken out before: none where they stand for an
 -- election; else their first fault, and then what it lists of them without the faulty one. It ends where that
@@ -36,12 +35,6 @@ abbrev pub AreListed : ℕ → List Fields → List ReadFault → Type 0
 AreListed out records [] = (e : ElectionView) × StandsFor records e
 AreListed out records (fault ∷ more) =
     (out < fault.at) × IsFaultAt records fault.kind (fault.at - out)
-    × (((more ≡ []) × ((out ≡ 999) ⊎ IsLeftOut false records fault.kind (fault.at - out)))
-    ⊎ ((out < 999) × IsLeftOut true records fault.kind (fault.at - out)
+    × (((more ≡ []) × ((out ≡ 999) ⊎ IsLeftOut false (take (fault.at - out - 1) records) fault.kind))
+    ⊎ ((out < 999) × IsLeftOut true (take (fault.at - out - 1) records) fault.kind
     × AreListed (out + 1) (remove records (fault.at - out - 1)) more))
-
--- what a check that lists these faults hands out: where there is none the election that the records stand
--- for, else nothing
-abbrev pub IsHandedOut : List Fields → List ReadFault → Option ElectionView → Type 0
-IsHandedOut records faults election =
-    MatchOption election (faults ≢ []) (λ e. (faults ≡ []) × StandsFor records e)

@@ -4,7 +4,7 @@ use Rattle.std.specs.List.{slice_index_or}
 use Rattle.std.specs.Str.{trim}
 use Rattle.pb_core.specs.Election.{ElectionView}
 use Rattle.pb_rows.specs.Reading.{Fields}
-use Rattle.pb_read.specs.Listed.{leaves_out}
+use Rattle.pb_read.specs.Listed.{IsLeftOut}
 use Rattle.pb_read.specs.Refusals.{refusal_of}
 use Rattle.pb_read.specs.Rows.{rows_of}
 use Rattle.pb_read.specs.Stages.{IsAt}
@@ -55,8 +55,7 @@ AreShown records (sight ∷ before) = IsNextSight records before sight × AreSho
 -- nothing is left to show: the file has ended, or was refused for good
 abbrev pub IsAll : List Fields → List Sight → Type 0
 IsAll records (ended e ∷ before) = ⊤
-IsAll records (refused r ∷ before) =
-    (p : Stage × ElectionView) × IsAt (rows_of (kept records before)) p × (leaves_out p.0 r.fault.kind ≡ false)
+IsAll records (refused r ∷ before) = IsLeftOut false (kept records before) r.fault.kind
 IsAll records sights = ⊥
 
 -- where it is known what was shown before, these records were shown after it, with these faults

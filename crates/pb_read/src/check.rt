@@ -1,12 +1,13 @@
 //! The check of a whole file: it goes on after a faulty row.
 
 ghost use Rattle.std.specs.Prelude.{◌≡◌, ◌≢◌, ◌≤◌, ◌<◌, ◌+◌, [], true, List, Option, None, Some, length};
-ghost use Rattle.std.specs.Prelude.{IfErr, IfOk, IfSome, OnOk};
+ghost use Rattle.std.specs.Prelude.{IfErr, IfOk, IfSome, MatchOption, OnOk};
 ghost use Rattle.pb_rows.specs.Reading.{Fields, records_of};
 ghost use Rattle.pb_rows.specs.Inner.Reading.{HasReadAtMost};
 ghost use Rattle.pb_read.specs.Inner.Checking.{Blames, GoesOn, IsGoing, IsRefusal, Judges, JudgesEnd, JudgesRow};
-ghost use Rattle.pb_read.specs.Inner.Checking.{Stops};
-ghost use Rattle.pb_read.specs.Listed.{AreListed, IsHandedOut};
+ghost use Rattle.pb_read.specs.Inner.Checking.{IsHandedOut, Stops};
+ghost use Rattle.pb_read.specs.Listed.{AreListed};
+ghost use Rattle.pb_read.specs.StandsFor.{StandsFor};
 ghost use Rattle.pb_read.specs.Shown.{IsAll, Sight, WereShown};
 ghost use Rattle.pb_read.specs.Inner.Showing.{IsShownNext, IsShownRow, Shows, ShowsStop};
 ghost use Rattle.pb_read.specs.Inner.Progresses.{BlamesReader, IsReady, place_of};
@@ -68,7 +69,8 @@ pub fn check_pb<R: Read + Drop, W: Watch>(
     ensures faults { IfSome (R.remaining reader) (λ bytes.
         IfOk result (λ checked. AreListed 0 (records_of bytes) checked.faults.items)) }
     ensures election { IfSome (R.remaining reader) (λ bytes.
-        IfOk result (λ checked. IsHandedOut (records_of bytes) checked.faults.items checked.election)) }
+        IfOk result (λ checked. MatchOption checked.election (checked.faults.items ≢ [])
+        (λ e. (checked.faults.items ≡ []) × StandsFor (records_of bytes) e))) }
 
     // Who looks on was shown each record that was read, with these faults, and the end unless a fault ended
     // the check; of 1,000 faults nothing is said.

@@ -1,7 +1,8 @@
 //! Laws of the definitions.
 
 ghost use Rattle.std.specs.Prelude.{◌≡◌, ◌≢◌, ◌⊎◌, ◌↔◌, ◌<◌, ◌≤◌, ◌-◌, ◌*◌, ℕ};
-ghost use Rattle.std.specs.Prelude.{List, [], ◌∷◌, length, take, Some, None, Ok, Err};
+ghost use Rattle.std.specs.Prelude.{List, [], ◌∷◌, length, take, Some, None, Ok, Err, All, Contains, slice_index_or, true};
+ghost use Rattle.std.specs.List.Sorted.{IsStrictlyIncreasing};
 ghost use Rattle.pb_core.specs.Election.{ElectionView, most_projects};
 ghost use Rattle.pb_core.specs.MoneyText.{IsMoneyText, IsWorth};
 ghost use Rattle.pb_rows.specs.Reading.{Fields};
@@ -9,6 +10,7 @@ ghost use Rattle.pb_read.specs.FirstFault.{HasNoFault, IsFaultAt, IsFromOutside}
 ghost use Rattle.pb_read.specs.Lengths.{max_length_of};
 ghost use Rattle.pb_read.specs.Listed.{AreListed};
 ghost use Rattle.pb_read.specs.StandsFor.{StandsFor};
+ghost use Rattle.pb_read.specs.Voting.{ballot_of, is_among, names_only, pieces_of};
 ghost use Rattle.pb_read.specs.declared.fault.ReadFault.{ReadFault};
 ghost use Rattle.pb_read.specs.declared.fault.ReadKind.{ReadKind};
 ghost use Rattle.pb_read.specs.declared.fault.ReadKind.TheVariants.{BadLength};
@@ -55,4 +57,15 @@ pub fn max_length_is_what_its_text_names()
     ensures bad { (text : List ℕ) → (kind : ReadKind) → max_length_of text ≡ Err kind
         ↔ ((kind ≡ BadLength) × (text ≢ []) × ((whole : List ℕ) → (decimals : List ℕ) → (n : ℕ)
         → IsMoneyText text whole decimals → ¬ IsWorth whole decimals (100 * n))) }
+{}
+
+/// The places that a vote names are those of the ids that are among its pieces, rising; and a vote names projects
+/// alone where each piece is one of their ids.
+pub fn a_vote_names_places()
+    ensures among { (ids : List (List ℕ)) (id : List ℕ) → (is_among ids id ≡ true) ↔ Contains ids id }
+    ensures names { (ids : List (List ℕ)) (vote : List ℕ) → (names_only ids vote ≡ true)
+        ↔ All (Contains ids) (pieces_of vote) }
+    ensures rising { (ids : List (List ℕ)) (vote : List ℕ) → IsStrictlyIncreasing (ballot_of ids vote) }
+    ensures voted { (ids : List (List ℕ)) (vote : List ℕ) (place : ℕ) → Contains (ballot_of ids vote) place
+        ↔ ((place < length ids) × Contains (pieces_of vote) (slice_index_or ids place [])) }
 {}

@@ -25,7 +25,7 @@ pub use check::{Checked, MOST_FAULTS, check_pb};
 pub use column::Column;
 pub use columns::{ProjectColumns, VoteColumns};
 pub use fault::{ReadFault, ReadKind};
-pub use laws::{first_listed, max_length_is_what_its_text_names, one_answer};
+pub use laws::{a_vote_names_places, first_listed, max_length_is_what_its_text_names, one_answer};
 pub use meta_key::MetaKey;
 pub use progress::Stage;
 pub use project_ids::ProjectIds;

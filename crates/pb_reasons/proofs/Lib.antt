@@ -33,3 +33,5 @@ pub mod Searches
 pub mod Tidy
 pub mod Ranges
 pub mod Doubling
+pub mod LoserOrder
+pub mod LosersSearched

@@ -2,6 +2,7 @@
 -- them.
 pub mod Comparing
 pub mod Kept
+pub mod Losers
 pub mod Numbers
 pub mod OfOutcome
 pub mod Raises

@@ -4,6 +4,7 @@ pub mod Comparison
 pub mod Counted
 pub mod CountedElection
 pub mod Fairness
+pub mod Losers
 pub mod RaiseEnd
 pub mod RaiseLimit
 pub mod Reasons

@@ -33,7 +33,10 @@ pub mod voter_teller;
 pub mod winners;
 
 pub use beside_votes::{compare_with_votes, elected_by_votes};
-pub use changes::{Change, Found, Question, Recount, Row, Verdict, WhatIf, one_change, what_if};
+pub use changes::{
+    Change, Found, Loser, ProjectGate, Question, Recount, Recounts, Row, Verdict, WhatIf,
+    one_change, what_if, what_if_losers,
+};
 pub use comparison::{Comparison, compare};
 pub use counted_election::CountedElection;
 pub use fairness::{most_spent, needed};

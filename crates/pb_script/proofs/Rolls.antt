@@ -16,7 +16,7 @@ use Rattle.pb_rows.specs.Reading.{Fields, IsNext}
 use Rattle.pb_script.specs.Inner.Roll.{HaveIds, IsFaultAfter, PutsId}
 use Rattle.pb_script.specs.Inner.ScriptReading.{HaveGone}
 use Rattle.pb_script.specs.Roll.{IsNextRollFault, IsRoll, IsRollFault, ids_of}
-use Rattle.pb_script.specs.Script.{most_rows}
+use Rattle.pb_read.specs.StandsFor.{most_records}
 use Rattle.pb_script.specs.declared.roll.RollFault.{RollFault}
 use Rattle.pb_script.specs.declared.roll.RollFault.TheVariants.{NoMemory}
 
@@ -141,8 +141,8 @@ first_is_zero n = (by, eq-eqb n 0)
 
 -- one row more, of a roll with few ids
 pub rows_more : (all left after : Option (List Fields)) (rows ids more : ℕ) (roll new : Places) (fields : Fields) (has_id : Bool) →
-    (ids ≤ most_rows) × (rows ≤ ids + 1) × HaveIds all left rows ids roll → IsNext left after true fields → AllText fields → ids < most_rows →
-    PutsId fields (rows == 0) has_id roll new → more ≡ (if has_id then ids + 1 else ids) → (more ≤ most_rows) × (rows + 1 ≤ more + 1) × HaveIds all after (rows + 1) more new
+    (ids ≤ most_records) × (rows ≤ ids + 1) × HaveIds all left rows ids roll → IsNext left after true fields → AllText fields → ids < most_records →
+    PutsId fields (rows == 0) has_id roll new → more ≡ (if has_id then ids + 1 else ids) → (more ≤ most_records) × (rows + 1 ≤ more + 1) × HaveIds all after (rows + 1) more new
 rows_more all left after rows ids more roll new fields true have next text few puts is =
     let longer = HaveIds-more all left after rows ids roll new fields (rows == 0) true have.2 next text (first_is_zero rows) puts in
     (omega (arith, is, few), omega (arith, is, have.1), subst (λ (n : ℕ). HaveIds all after (rows + 1) n new) (sym is) longer)
@@ -152,7 +152,7 @@ rows_more all left after rows ids more roll new fields false have next text few 
     (omega (arith, is, few), omega (arith, none), subst (λ (n : ℕ). HaveIds all after (rows + 1) n new) (sym is) longer)
 
 -- no row is left
-pub HaveIds-end : (all left after : Option (List Fields)) (rows ids : ℕ) (roll : Places) (fields : Fields) → HaveIds all left rows ids roll → ids ≤ most_rows → IsNext left after false fields →
+pub HaveIds-end : (all left after : Option (List Fields)) (rows ids : ℕ) (roll : Places) (fields : Fields) → HaveIds all left rows ids roll → ids ≤ most_records → IsNext left after false fields →
     IfSome all (λ rows. IsRoll rows roll)
 HaveIds-end None left after rows ids roll fields have few next = tt
 HaveIds-end (Some all) left after rows ids roll fields have few next =
@@ -164,7 +164,7 @@ HaveIds-end (Some all) left after rows ids roll fields have few next =
     all_gone (Some (row ∷ rest)) is next = let never : false ≡ true = next.0 in cc
 
 -- the next row has a fault
-pub HaveIds-fault : (all left : Option (List Fields)) (rows ids : ℕ) (roll : Places) (fault : RollFault) → HaveIds all left rows ids roll → ids ≤ most_rows →
+pub HaveIds-fault : (all left : Option (List Fields)) (rows ids : ℕ) (roll : Places) (fault : RollFault) → HaveIds all left rows ids roll → ids ≤ most_records →
     IfSome left (λ left. IsFaultAfter rows ids left fault) → IfSome all (λ rows. IsRollFault rows fault)
 HaveIds-fault None left rows ids roll fault have few next = tt
 HaveIds-fault (Some all) None rows ids roll fault have few next = absurd have.have_gone

@@ -7,7 +7,7 @@ use Rattle.std.proofs.lemmas.List.Elements.{All-head, All-tail}
 use Rattle.pb_core.specs.Request.{EntryView, RequestView}
 use Rattle.pb_desk.specs.Replay.{most_clerks}
 use Rattle.pb_shared.specs.Clerk.{entries_by}
-use Rattle.pb_script.specs.Script.{most_rows}
+use Rattle.pb_read.specs.StandsFor.{most_records}
 use Rattle.pb_script.specs.Serving.{program_room}
 use Rattle.pb_script.specs.Inner.Serving.{ServesAll, ServesUpTo, list_of}
 
@@ -31,7 +31,7 @@ total_same (suc n) f g same =
     let last = same n (omega arith) in
     omega arith
 
-total_few : (n : ℕ) (f : ℕ → ℕ) → ((k : ℕ) → k < n → f k ≤ most_rows) → total n f ≤ n * 2000000
+total_few : (n : ℕ) (f : ℕ → ℕ) → ((k : ℕ) → k < n → f k ≤ most_records) → total n f ≤ n * 2000000
 total_few zero f few = omega arith
 total_few (suc n) f few =
     let rest = total_few n f (λ k below. few k (omega arith)) in
@@ -72,13 +72,13 @@ length_is n (x ∷ xs) by =
 
 -- clerks who ask no more than a script has rows leave room
 pub few_served : (done : ℕ) (lists : List (List RequestView)) (served : List ℕ) (journal : List EntryView) → ServesUpTo done lists served journal →
-    All (λ list. length list ≤ most_rows) lists → length journal ≤ length lists * 2000000
+    All (λ list. length list ≤ most_records) lists → length journal ≤ length lists * 2000000
 few_served done lists served journal serves few =
     let is = length_is (length lists) journal serves.by_clerks in
     let all = total_few (length lists) (λ k. count_of k journal) few_of in
     omega arith
   where
-    few_of : (k : ℕ) → k < length lists → count_of k journal ≤ most_rows
+    few_of : (k : ℕ) → k < length lists → count_of k journal ≤ most_records
     few_of k below =
         let size = length-map (entries_by k journal) (λ (y : EntryView). y.request) in
         let all = few k [] below in
@@ -92,7 +92,7 @@ few_served done lists served journal serves few =
 
 -- so a journal of all that they ask leaves room for one entry more
 pub room_for_last : (lists : List (List RequestView)) (journal : List EntryView) (room : ℕ) → ServesAll lists journal →
-    All (λ list. length list ≤ most_rows) lists → length lists ≤ most_clerks → room ≡ program_room → length journal < room
+    All (λ list. length list ≤ most_records) lists → length lists ≤ most_clerks → room ≡ program_room → length journal < room
 room_for_last lists journal room serves few clerks is =
     let all = few_served (length lists) lists [] journal (record {
       whole = λ k before below. serves.in_order k below;
@@ -102,7 +102,7 @@ room_for_last lists journal room serves few clerks is =
     omega arith
 
 -- there is room for what is left of a clerk's requests
-pub room_for_rest : {X : Type 0} (f : X → RequestView) (n : ℕ) (items : List X) (list : List RequestView) (before room : ℕ) → map f items ≡ list → length list ≤ most_rows →
+pub room_for_rest : {X : Type 0} (f : X → RequestView) (n : ℕ) (items : List X) (list : List RequestView) (before room : ℕ) → map f items ≡ list → length list ≤ most_records →
     before ≤ 128000000 → room ≡ 4294967295 → before + length (take (length items - n) (drop n items)) ≤ room
 room_for_rest f n items list before room are few so_far is =
     let size = length-map items f in

@@ -10,7 +10,7 @@ use Rattle.pb_core.specs.Request.{RequestView}
 use Rattle.pb_rows.specs.Reading.{Fields, IsNext}
 use Rattle.pb_rows.specs.Inner.Reading.{HasReadAtMost}
 use Rattle.pb_script.specs.Inner.Admission.{Admits, IsAdmitted}
-use Rattle.pb_script.specs.Script.{most_rows}
+use Rattle.pb_read.specs.StandsFor.{most_records}
 use Rattle.pb_desk.specs.Rows.{ScriptRowView}
 use Rattle.pb_script.specs.declared.admission.Admission.{Admission}
 use Rattle.pb_script.specs.Inner.Script.{AreAsked, clerks_within, asked_by}
@@ -99,7 +99,7 @@ HaveAsked-more a clerks all left after count x lists new have takes is =
         rw next.2 (have ∙ ap (λ r. gone ++ r ∷ rest) (sym next.1) ∙ sym (append_assoc gone (fields ∷ []) rest))
 
 -- no row is left
-pub HaveAsked-end : (a : Admission) (clerks : ℕ) (all left : Option (List Fields)) (count : ℕ) (lists : List (List RequestView)) → HaveAsked a clerks all left count lists → NoneLeft left → count ≤ most_rows →
+pub HaveAsked-end : (a : Admission) (clerks : ℕ) (all left : Option (List Fields)) (count : ℕ) (lists : List (List RequestView)) → HaveAsked a clerks all left count lists → NoneLeft left → count ≤ most_records →
     IfSome all (λ rows. SplitsScript a clerks rows lists)
 HaveAsked-end a clerks None left count lists have none few = tt
 HaveAsked-end a clerks (Some rows) left count lists have none few =
@@ -154,7 +154,7 @@ records_are_rows a clerks (r ∷ rs) [] rows = absurd rows
 records_are_rows a clerks (r ∷ rs) (x ∷ xs) rows = let more = records_are_rows a clerks rs xs rows.1 in omega arith
 
 -- no clerk asks more than a script has rows
-pub HaveAsked-read : (a : Admission) (clerks : ℕ) (all left after : Option (List Fields)) (count : ℕ) (lists : List (List RequestView)) → HaveAsked a clerks all left count lists → count ≤ most_rows →
+pub HaveAsked-read : (a : Admission) (clerks : ℕ) (all left after : Option (List Fields)) (count : ℕ) (lists : List (List RequestView)) → HaveAsked a clerks all left count lists → count ≤ most_records →
     HasReadAtMost 1 left after → HasReadAtMost 2000001 all after
 HaveAsked-read a clerks None left after count lists have few one = tt
 HaveAsked-read a clerks (Some all) None after count lists have few one = absurd have.have_gone
@@ -162,8 +162,8 @@ HaveAsked-read a clerks (Some all) (Some rest) None count lists have few one = t
 HaveAsked-read a clerks (Some all) (Some rest) (Some more) count lists have few one =
     omega (arith, ap length have.have_gone, length-append have.gone rest, have.count_is, few, one)
 
-pub HaveAsked-few : (a : Admission) (clerks : ℕ) (all left : Option (List Fields)) (count : ℕ) (lists : List (List RequestView)) → HaveAsked a clerks all left count lists → count ≤ most_rows →
-    All (λ list. length list ≤ most_rows) lists
+pub HaveAsked-few : (a : Admission) (clerks : ℕ) (all left : Option (List Fields)) (count : ℕ) (lists : List (List RequestView)) → HaveAsked a clerks all left count lists → count ≤ most_records →
+    All (λ list. length list ≤ most_records) lists
 HaveAsked-few a clerks all left count lists have few = λ k d below.
     let are = have.lists_are in
     let size = are.one_each in

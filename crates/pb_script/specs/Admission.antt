@@ -32,17 +32,13 @@ by_places ids row = row
 abbrev pub Says : Admission → ℕ → Fields → ScriptRowView → Type 0
 Says a clerks row x = AllText row × IsScriptRow clerks (by_places a.ids row) x
 
--- a ballot that is cast, or replaces another, has this many projects at least
-abbrev pub has_enough : ℕ → RequestView → Bool
-has_enough least request = option_map_or (λ b. nat_le least (length b.1)) (brought request) true
-
 -- the first rule of the desk that a request breaks: it may not shut the desk; or its voter is not on the roll,
--- its ballot has too few projects, or its voter is one of the file, for whom no request is taken
+-- the ballot that it brings has too few projects, or its voter is one of the file, for whom no request is taken
 abbrev pub broken_rule : Admission → RequestView → Option RowRefusal
 broken_rule a Shut = if a.may_shut then None else Some NoShut
 broken_rule a request =
     if not (option_map_or (λ roll. is_some (get roll (voter_of request))) a.roll true) then Some NotOnRoll
-    else if not (has_enough a.least request) then Some TooFew
+    else if not (option_map_or (λ b. nat_le a.least (length b.1)) (brought request) true) then Some TooFew
     else if option_map_or (λ kept. is_some (get kept (voter_of request))) a.kept false then Some FromFile else None
 
 -- the first reason to refuse what a row asks: one of its ids is no project's, or it breaks a rule

@@ -1,5 +1,4 @@
 -- The words that public contracts reach, a notion a file.
-pub mod Script
 pub mod Admission
 pub mod Scripts
 pub mod ScriptFault

@@ -9,7 +9,7 @@ use Rattle.csv.specs.Records.{AllText}
 use Rattle.pb_read.specs.Rows.{field}
 use Rattle.pb_read.specs.Voting.{is_among}
 use Rattle.pb_rows.specs.Reading.{Fields}
-use Rattle.pb_script.specs.Script.{most_rows}
+use Rattle.pb_read.specs.StandsFor.{most_records}
 use Rattle.pb_script.specs.declared.roll.RollFault.{RollFault}
 use Rattle.pb_script.specs.declared.roll.RollFault.TheVariants.{ReadFailed, NotText, TooManyIds, NoMemory}
 
@@ -21,7 +21,7 @@ ids_of records = let ids = map (λ row. trim (field row 0)) records in
 
 -- the records are a roll: text, with as many ids at most as a script has rows
 abbrev pub AreRoll : List Fields → Type 0
-AreRoll records = All AllText records × (length (ids_of records) ≤ most_rows)
+AreRoll records = All AllText records × (length (ids_of records) ≤ most_records)
 
 -- the table is that of the roll which these records are: it has their ids, and no others
 abbrev pub IsRoll : List Fields → FinMap (slice_cmp nat_cmp) ℕ → Type 0
@@ -33,7 +33,7 @@ abbrev pub IsNextRollFault : List Fields → List Fields → RollFault → Type 
 IsNextRollFault before left (ReadFailed row) = row ≡ length before + 1
 IsNextRollFault before (fields ∷ rest) (NotText row) = (row ≡ length before + 1) × ¬ AllText fields
 IsNextRollFault before (fields ∷ rest) (TooManyIds row) =
-    (row ≡ length before + 1) × (length (ids_of before) ≡ most_rows) × AllText fields
+    (row ≡ length before + 1) × (length (ids_of before) ≡ most_records) × AllText fields
 IsNextRollFault before left fault = fault ≡ NoMemory
 
 -- the first fault of the records: those before it are a roll

@@ -1,6 +1,6 @@
 -- The rows of a script's faults.
 use Rattle.std.specs.Prelude.{ℕ, ◌+◌}
-use Rattle.pb_script.specs.Script.{most_rows}
+use Rattle.pb_read.specs.StandsFor.{most_records}
 use Rattle.pb_script.specs.declared.script_fault.ScriptFault.{ScriptFault}
 use Rattle.pb_script.specs.declared.script_fault.ScriptFault.TheVariants.{ReadFailed, BadRow, TooManyRows}
 use Rattle.pb_script.specs.declared.script_fault.ScriptFault.TheVariants.{NoMemory, UnknownId, NotOnRoll}
@@ -10,7 +10,7 @@ use Rattle.pb_script.specs.declared.script_fault.ScriptFault.TheVariants.{TooFew
 abbrev pub at_row : ScriptFault → ℕ
 at_row (ReadFailed row) = row
 at_row (BadRow row) = row
-at_row TooManyRows = most_rows + 1
+at_row TooManyRows = most_records + 1
 at_row NoMemory = 0
 at_row (UnknownId row) = row
 at_row (NotOnRoll row) = row

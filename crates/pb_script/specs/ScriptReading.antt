@@ -2,7 +2,7 @@
 use Rattle.std.specs.Prelude.{◌≡◌, ℕ, ⊤, ◌+◌, ◌≤◌, ◌++◌, List, [], ◌∷◌, length, All, Ok, Err}
 use Rattle.pb_rows.specs.Reading.{Fields}
 use Rattle.pb_script.specs.Admission.{Judges}
-use Rattle.pb_script.specs.Script.{most_rows}
+use Rattle.pb_read.specs.StandsFor.{most_records}
 use Rattle.pb_desk.specs.Rows.{ScriptRowView}
 use Rattle.pb_script.specs.declared.admission.Admission.{Admission}
 use Rattle.pb_script.specs.declared.admission.RowRefusal.{RowRefusal}
@@ -24,12 +24,12 @@ fault_of_row row.NoShut at = NoShut at
 -- the fault of the next record, where this many came before it: within a record a reader that fails comes
 -- first, then the limit, then why the row is refused
 abbrev pub IsNextScriptFault : Admission → ℕ → ℕ → List Fields → ScriptFault → Type 0
-IsNextScriptFault a clerks before left (ReadFailed row) = (row ≡ before + 1) × (before ≤ most_rows)
+IsNextScriptFault a clerks before left (ReadFailed row) = (row ≡ before + 1) × (before ≤ most_records)
 IsNextScriptFault a clerks before left NoMemory = ⊤
 IsNextScriptFault a clerks before [] fault = ⊥
-IsNextScriptFault a clerks before (fields ∷ rest) TooManyRows = before ≡ most_rows
+IsNextScriptFault a clerks before (fields ∷ rest) TooManyRows = before ≡ most_records
 IsNextScriptFault a clerks before (fields ∷ rest) fault = (why : RowRefusal)
-    × (fault ≡ fault_of_row why (before + 1)) × (before + 1 ≤ most_rows) × Judges a clerks fields (Err why)
+    × (fault ≡ fault_of_row why (before + 1)) × (before + 1 ≤ most_records) × Judges a clerks fields (Err why)
 
 -- the first fault of the records: those before it are admitted
 abbrev pub IsFaultOfScript : Admission → ℕ → List Fields → ScriptFault → Type 0

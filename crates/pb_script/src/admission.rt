@@ -6,8 +6,8 @@ ghost use Rattle.std.specs.Prelude.{◌≡◌, false, is_some, Some, true};
 ghost use Rattle.pb_core.specs.Request.{asked};
 ghost use Rattle.pb_read.specs.Rows.{field};
 ghost use Rattle.pb_rows.specs.Reading.{Fields};
-ghost use Rattle.pb_script.specs.Admission.{broken_rule, has_enough, open_to_all, refusal_of};
-ghost use Rattle.pb_script.specs.Inner.Admission.{broken_for, knows_ids};
+ghost use Rattle.pb_script.specs.Admission.{broken_rule, open_to_all, refusal_of};
+ghost use Rattle.pb_script.specs.Inner.Admission.{broken_for, has_enough, knows_ids};
 ghost use Rattle.pb_script.specs.ScriptReading.{fault_of_row};
 
 use crate::script_fault::ScriptFault;

@@ -8,7 +8,7 @@ ghost use Rattle.pb_read.specs.Rows.{field};
 ghost use Rattle.pb_rows.specs.Reading.{IsNext, records_of};
 ghost use Rattle.pb_script.specs.Roll.{IsRoll, IsRollFault};
 ghost use Rattle.pb_script.specs.Inner.Roll.{IsFaultAfter, PutsId};
-ghost use Rattle.pb_script.specs.Script.{most_rows};
+ghost use Rattle.pb_read.specs.StandsFor.{most_records};
 
 use csv::StringRecord;
 use pb_core::no_memory::NoMemory;
@@ -117,11 +117,11 @@ fn next_row<R: Read>(
     rows: u32,
     ids: u32,
 ) -> Result<bool, RollFault>
-    requires { rows ≤ most_rows + 1 }
+    requires { rows ≤ most_records + 1 }
     ensures next { IfOk result (λ found. IsNext records.old.left records.new.left found (fields_of row.new)) }
     ensures end { IfOk result (λ found. found ≡ false → records.new.left ≡ Some []) }
     ensures text { OnOk result (AllText (fields_of row.new)) }
-    ensures few { IfOk result (λ found. found ≡ true → ids < most_rows) }
+    ensures few { IfOk result (λ found. found ≡ true → ids < most_records) }
     ensures fault { IfErr result (λ fault. IfSome records.old.left
         (λ left. IsFaultAfter rows ids left fault)) }
 {

@@ -8,7 +8,7 @@ ghost use Rattle.pb_desk.specs.Replay.{IsLegal, most_clerks};
 ghost use Rattle.pb_desk.specs.Rows.{journal_text};
 ghost use Rattle.pb_rows.specs.Reading.{records_of};
 ghost use Rattle.pb_shared.specs.Clerk.{AreClerks, AreNewcomers};
-ghost use Rattle.pb_script.specs.Script.{most_rows};
+ghost use Rattle.pb_read.specs.StandsFor.{most_records};
 ghost use Rattle.pb_script.specs.Served.{IsServeFault, IsServed};
 ghost use Rattle.pb_script.specs.Serving.{program_room};
 ghost use Rattle.pb_script.specs.Inner.Script.{clerks_within};
@@ -68,7 +68,7 @@ fn serve_own<G: Gate>(shared: &SharedDesk, clerk: Clerk, work: &Work<'_, G>) -> 
     requires own { clerk.desk ≡ shared.now }
     requires fresh { clerk.sheet.mine ≡ [] }
     requires one_each { length work.now.lists.now ≡ shared.now.clerks }
-    requires few { All (λ list. length list ≤ most_rows) work.now.lists.now }
+    requires few { All (λ list. length list ≤ most_records) work.now.lists.now }
     ensures { HasServed shared.now clerk.sheet.number (list_of work.now.lists.now clerk.sheet.number)
         result.clerk result.served }
 {
@@ -118,7 +118,7 @@ fn serve_for(desk: &mut Desk, clerk: u32, requests: &[Request]) -> Result<(), No
 /// served. A desk of the program has room for all that 64 clerks ask in a script.
 fn serve_rest(desk: &mut Desk, lists: &[Requests], served: &[u32]) -> Result<(), NoMemory>
     requires few { length lists.now ≤ most_clerks }
-    requires few_each { All (λ list. length list ≤ most_rows) lists.now }
+    requires few_each { All (λ list. length list ≤ most_records) lists.now }
     requires room { desk.old.room ≡ program_room }
     requires counts { AreCounts lists.now served.now }
     requires so_far { ServesUpTo 0 lists.now served.now desk.old.journal }
@@ -143,7 +143,7 @@ fn serve_side_by_side<T: Threads + Sync, G: Gate>(
 ) -> Result<Vec<Returned>, AllocError>
     requires fresh { AreNewcomers shared.now clerks.items }
     requires one_each { length work.now.lists.now ≡ shared.now.clerks }
-    requires few { All (λ list. length list ≤ most_rows) work.now.lists.now }
+    requires few { All (λ list. length list ≤ most_records) work.now.lists.now }
     ensures { IfOk result (λ back. AreBack shared.now work.now.lists.now
         (map (λ r. r.clerk) back.items) (map (λ r. r.served) back.items)) }
 {
@@ -153,7 +153,7 @@ fn serve_side_by_side<T: Threads + Sync, G: Gate>(
         &|clerk: Clerk| -> Returned
             requires { (clerk.desk ≡ shared.now) × (clerk.sheet.mine ≡ [])
                 × (length work.now.lists.now ≡ shared.now.clerks)
-                × All (λ list. length list ≤ most_rows) work.now.lists.now }
+                × All (λ list. length list ≤ most_records) work.now.lists.now }
             ensures { HasServed shared.entry.now clerk.sheet.number
                 (list_of work.entry.now.lists.now clerk.sheet.number) result.clerk result.served }
         { serve_own(shared, clerk, work) },
@@ -187,7 +187,7 @@ fn serve_together<T: Threads + Sync, G: Gate>(
 ) -> Result<(Vec<Clerk>, Vec<u32>), NoMemory>
     requires fresh { AreNewcomers shared.now clerks.items }
     requires one_each { length work.now.lists.now ≡ shared.now.clerks }
-    requires few { All (λ list. length list ≤ most_rows) work.now.lists.now }
+    requires few { All (λ list. length list ≤ most_records) work.now.lists.now }
     ensures { IfOk result (λ both. AreBack shared.now work.now.lists.now both.0.items both.1.items) }
 {
     let back = serve_side_by_side(rt, shared, clerks, work)?;
@@ -205,7 +205,7 @@ fn closed(
     requires room { shared.start.room ≡ program_room }
     requires range { shared.clerks ≤ most_clerks }
     requires one_each { length lists.now ≡ shared.clerks }
-    requires few { All (λ list. length list ≤ most_rows) lists.now }
+    requires few { All (λ list. length list ≤ most_records) lists.now }
     requires back { AreBack shared lists.now clerks.items served.now }
     ensures start { IfOk result (λ desk. desk ≡ desk_with shared.start desk.journal) }
     ensures serves { IfOk result (λ desk. ServesAll lists.now desk.journal) }
@@ -234,7 +234,7 @@ fn serve_shared<T: Threads + Sync, G: Gate>(
     requires fresh { AreNewcomers shared clerks.items }
     requires range { shared.clerks ≤ most_clerks }
     requires one_each { length work.now.lists.now ≡ shared.clerks }
-    requires few { All (λ list. length list ≤ most_rows) work.now.lists.now }
+    requires few { All (λ list. length list ≤ most_records) work.now.lists.now }
     ensures start { IfOk result (λ desk. desk ≡ desk_with shared.start desk.journal) }
     ensures serves { IfOk result (λ desk. ServesAll work.now.lists.now desk.journal) }
 {
@@ -294,7 +294,7 @@ fn serve_all<T: Threads + Sync, G: Gate>(
     work: &Work<'_, G>,
 ) -> Result<Desk, ServeFault>
     requires one_each { length work.now.lists.now ≡ clerks_within clerks }
-    requires few { All (λ list. length list ≤ most_rows) work.now.lists.now }
+    requires few { All (λ list. length list ≤ most_records) work.now.lists.now }
     ensures opening { IfOk result (λ desk. desk.opening ≡ opening_of election) }
     ensures room { IfOk result (λ desk. desk.room ≡ program_room) }
     ensures serves { IfOk result (λ desk. ServesAll work.now.lists.now desk.journal) }

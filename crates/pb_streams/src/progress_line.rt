@@ -5,6 +5,7 @@ use pb_command_line::TextSource;
 use pb_core::gate::Gate;
 use pb_core::money::Money;
 use pb_faults::{AppFault, RunText};
+use pb_reasons::ProjectGate;
 use std::io::{Read, Result};
 use std::rt::{Clock, Files};
 use std::sync::atomic::AtomicU64;
@@ -24,6 +25,9 @@ pub struct ProgressLine<'a, R> {
     lines: AtomicU64,
     /// The milliseconds after the start at which the line was shown last.
     shown: AtomicU64,
+    /// The number of the project that is asked about, from 1, and of how many; 0 where it is none of several.
+    project: AtomicU64,
+    projects: AtomicU64,
 }
 
 impl<'a, R: Eprint + Clock> ProgressLine<'a, R> {
@@ -34,6 +38,8 @@ impl<'a, R: Eprint + Clock> ProgressLine<'a, R> {
             start: if shows { Instant::now(rt).ok() } else { None },
             lines: AtomicU64::new(0),
             shown: AtomicU64::new(0),
+            project: AtomicU64::new(0),
+            projects: AtomicU64::new(0),
         }
     }
 
@@ -78,13 +84,30 @@ impl<R: Eprint + Clock + Sync> Gate for ProgressLine<'_, R> {
     fn at(&self, _worker: u32, _piece: u32) {}
 
     fn raised(&self, raises: u32, share: Money) {
-        if self.is_due() {
-            let (whole, hundredths) = (share.0 / 100, share.0 % 100);
-            let _ = eprint!(self.rt;
+        if !self.is_due() {
+            return;
+        }
+        let (whole, hundredths) = (share.0 / 100, share.0 % 100);
+        let (project, projects) = (self.project.load(Relaxed), self.projects.load(Relaxed));
+        let _ = if projects > 0 {
+            eprint!(self.rt;
+                "\r{:40}\rproject {project} of {projects}: {raises} raises",
+                ""
+            )
+        } else {
+            eprint!(self.rt;
                 "\r{:40}\r{raises} raises, share {whole}.{hundredths:02}",
                 ""
-            );
-        }
+            )
+        };
+    }
+}
+
+impl<R> ProjectGate for ProgressLine<'_, R> {
+    fn begins(&self, searched: usize, projects: usize) {
+        self.project
+            .store((searched as u64).saturating_add(1), Relaxed);
+        self.projects.store(projects as u64, Relaxed);
     }
 }
 

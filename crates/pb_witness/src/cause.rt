@@ -5,7 +5,7 @@ use crate::changed::{
     is_tick, is_word, without_hidden,
 };
 use crate::ids::Ids;
-use crate::projects::Projects;
+use crate::projects::{By, Projects};
 use crate::unknown::Unknown;
 use crate::witness::Witness;
 use pb_read::Column;
@@ -52,9 +52,12 @@ pub enum Cause {
     Alike(Difference, bool),
     /// It is alike the ids of several projects.
     Several,
-    /// It is a project's name, or stands in one, or is an id and more.
+    /// It is a project's name, or stands in one; or is an id and more: a range, several with a word between,
+    /// or another.
     Name,
     Mentioned,
+    Range,
+    Joined,
     More,
     /// The id of a project was changed.
     ChangedProject,
@@ -108,8 +111,8 @@ const BETWEEN: [(char, Cause); 9] = [
     ('&', Cause::Marks),
 ];
 
-/// Why a vote names this id, which no project has, and the place of the project that it is about. The file has
-/// a column for each project, or not.
+/// Why a vote names this id, which no project has, and the place of the project that it is about. The file
+/// has a column for each project, or not.
 pub(crate) fn cause_of(
     unknown: &Unknown,
     witness: &Witness,
@@ -117,35 +120,21 @@ pub(crate) fn cause_of(
     has_columns: bool,
 ) -> Result<(Cause, Option<u32>), AllocError> {
     let id = unknown.id.as_str();
-    if witness.are_coded() {
-        return Ok((Cause::Coded, None));
+    let plain = plain_cause(id, &witness.ids, projects, has_columns);
+    let plain = match plain {
+        _ if witness.are_coded() => Some(Cause::Coded),
+        Some(Cause::Nothing) if unknown.is_beside && id == "0" => Some(Cause::Places),
+        Some(Cause::Nothing) if unknown.is_beside => Some(Cause::Beside),
+        Some(Cause::Brackets) if !unknown.is_in_brackets => Some(Cause::OneInBrackets),
+        plain => plain,
+    };
+    if let Some(cause) = plain {
+        return Ok((cause, None));
     }
-    match plain_cause(id, &witness.ids, projects, has_columns) {
-        Some(Cause::Nothing) if unknown.is_beside && id == "0" => return Ok((Cause::Places, None)),
-        Some(Cause::Nothing) if unknown.is_beside => return Ok((Cause::Beside, None)),
-        Some(Cause::Brackets) if !unknown.is_in_brackets => {
-            return Ok((Cause::OneInBrackets, None));
+    for by in [By::Id, By::Digits, By::Number, By::Name, By::Mention] {
+        if let Some(place) = projects.find(by, id)? {
+            return Ok(cause_by(by, id, projects, place));
         }
-        Some(cause) => return Ok((cause, None)),
-        None => {}
-    }
-    if let Some(place) = projects.alike(id)? {
-        let (difference, is_changed) = how_differs(id, projects.id(place));
-        return Ok(of_project(projects, place, Cause::Alike(difference, is_changed)));
-    }
-    if let Some(place) = projects.similar(id)? {
-        let cause = Cause::Alike(Difference::Letters, false);
-        return Ok(of_project(projects, place, cause));
-    }
-    if let Some(place) = projects.numbered(id)? {
-        let cause = Cause::Alike(Difference::Front, false);
-        return Ok(of_project(projects, place, cause));
-    }
-    if let Some(place) = projects.named(id)? {
-        return Ok(of_project(projects, place, Cause::Name));
-    }
-    if let Some(place) = projects.mentioned(id) {
-        return Ok(of_project(projects, place, Cause::Mentioned));
     }
     match last_cause(id, witness, projects) {
         (Cause::Unknown, _)
@@ -158,12 +147,22 @@ pub(crate) fn cause_of(
     }
 }
 
-/// The cause with the project at this place; several share one that is none's.
-fn of_project(projects: &Projects, place: u32, cause: Cause) -> (Cause, Option<u32>) {
-    if projects.row(place).is_some() {
-        return (cause, Some(place));
-    }
-    (Cause::Several, None)
+/// The cause of an id by which this project is found, or several are.
+fn cause_by(by: By, id: &str, projects: &Projects, place: u32) -> (Cause, Option<u32>) {
+    let Some(row) = projects.row(place) else {
+        return (Cause::Several, None);
+    };
+    let cause = match by {
+        By::Id => {
+            let (difference, is_changed) = how_differs(id, row.id.as_str());
+            Cause::Alike(difference, is_changed)
+        }
+        By::Digits => Cause::Alike(Difference::Letters, false),
+        By::Number => Cause::Alike(Difference::Front, false),
+        By::Name => Cause::Name,
+        _ => Cause::Mentioned,
+    };
+    (cause, Some(place))
 }
 
 /// The cause that an id shows by itself, or beside ids of projects.
@@ -188,8 +187,8 @@ fn plain_cause(id: &str, ids: &Ids, projects: &Projects, has_columns: bool) -> O
         *cause
     } else if let Some(cause) = wrapped(id, ids) {
         cause
-    } else if let Some(cause) = between(id, ids) {
-        cause
+    } else if let Some((_, cause)) = BETWEEN.iter().find(|(mark, _)| ids.are_apart_by(id, *mark)) {
+        *cause
     } else if has_columns && is_tick(id) {
         Cause::Columns
     } else if is_nothing(id) {
@@ -216,16 +215,6 @@ fn wrapped(id: &str, ids: &Ids) -> Option<Cause> {
     }
     if open.len() < bare.len() {
         return Some(Cause::Quotes);
-    }
-    None
-}
-
-/// What is between several ids, so that they are one piece.
-fn between(id: &str, ids: &Ids) -> Option<Cause> {
-    for (mark, cause) in BETWEEN {
-        if ids.are_apart_by(id, mark) {
-            return Some(cause);
-        }
     }
     None
 }
@@ -258,44 +247,42 @@ fn is_together(text: &str, ids: &Ids, length: usize) -> bool {
     if length < 2 || text.len() <= length {
         return false;
     }
-    for piece in text.as_bytes().chunks(length) {
-        match str::from_utf8(piece) {
-            Ok(id) if ids.projects.has(id) => {}
-            _ => return false,
-        }
-    }
-    true
+    let is_id = |piece: &[u8]| str::from_utf8(piece).is_ok_and(|id| ids.projects.has(id));
+    text.as_bytes().chunks(length).all(is_id)
 }
 
 /// The cause of an id that is like none of a project.
 fn last_cause(id: &str, witness: &Witness, projects: &Projects) -> (Cause, Option<u32>) {
     let is_beside = |c: char| !c.is_alphanumeric() && (":=(#".contains(c) || projects.lacks(c));
-    for part in id.split(is_beside) {
-        if witness.ids.projects.has(part) {
-            return (Cause::More, None);
-        }
-    }
-    if projects.changed().is_some() {
-        (Cause::ChangedProject, projects.changed())
+    let is_id = |part: &str| witness.ids.projects.has(part.trim());
+    let parts = id.split(is_beside).filter(|part| is_id(part)).count();
+    let is_dash = |c: char| c == '-' || c == '\u{2013}';
+    let is_other = |word: &str| !word.is_empty() && !is_id(word) && !has_digit(word);
+    let ends = id.split_once(is_dash).unwrap_or(("", ""));
+    let cause = if is_id(ends.0) && is_id(ends.1) {
+        Cause::Range
+    } else if parts > 1 && id.split(|c: char| c.is_whitespace()).any(is_other) {
+        Cause::Joined
+    } else if parts > 0 {
+        Cause::More
+    } else if projects.changed.is_some() {
+        return (Cause::ChangedProject, projects.changed);
     } else if witness.is_of_other_projects() {
-        (Cause::OtherElection, None)
+        Cause::OtherElection
     } else if is_tick(id) && id.len() > 1 {
-        (Cause::Tick, None)
+        Cause::Tick
     } else if is_word(id) || (projects.have_digits && !has_digit(id)) {
-        (Cause::Word, None)
+        Cause::Word
     } else if odd_letter(id, projects).is_some() {
-        (Cause::OddLetter, None)
+        Cause::OddLetter
     } else {
-        (Cause::Unknown, None)
-    }
+        Cause::Unknown
+    };
+    (cause, None)
 }
 
 /// The first character of an id that no project's id has, and that is no letter or digit of ASCII.
 pub fn odd_letter(id: &str, projects: &Projects) -> Option<char> {
-    for c in id.chars() {
-        if !c.is_ascii_alphanumeric() && projects.lacks(c) {
-            return Some(c);
-        }
-    }
-    None
+    id.chars()
+        .find(|c| !c.is_ascii_alphanumeric() && projects.lacks(*c))
 }

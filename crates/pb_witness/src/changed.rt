@@ -55,18 +55,12 @@ pub(crate) fn is_word(text: &str) -> bool {
 
 /// Whether a text has a word in it, in any case.
 pub(crate) fn has_word(text: &str, word: &str) -> bool {
-    let (bytes, first) = (text.as_bytes(), word.as_bytes().first());
-    for start in 0..bytes.len() {
-        let is_first = first.is_some_and(|byte| byte.eq_ignore_ascii_case(&bytes[start]));
-        if !is_first {
-            continue;
-        }
-        match bytes.get(start..start.saturating_add(word.len())) {
-            Some(part) if part.eq_ignore_ascii_case(word.as_bytes()) => return true,
-            _ => {}
-        }
-    }
-    false
+    let (bytes, word) = (text.as_bytes(), word.as_bytes());
+    let is_here = |start: usize| {
+        let part = bytes.get(start..start.saturating_add(word.len()));
+        part.is_some_and(|part| part.eq_ignore_ascii_case(word))
+    };
+    !word.is_empty() && (0..bytes.len()).any(is_here)
 }
 
 /// Whether a text has one of these words in it, also as a part of a longer one, in any case.
@@ -82,10 +76,8 @@ pub fn has_one_of(words: &str, text: &str) -> bool {
 
 /// Whether a text begins with this word, in any case.
 pub(crate) fn begins(text: &str, word: &str) -> bool {
-    match text.as_bytes().get(..word.len()) {
-        Some(start) => start.eq_ignore_ascii_case(word.as_bytes()),
-        None => false,
-    }
+    let start = text.as_bytes().get(..word.len());
+    start.is_some_and(|start| start.eq_ignore_ascii_case(word.as_bytes()))
 }
 
 /// Whether a text is a code in base64 that ends with `=`.
@@ -97,10 +89,8 @@ pub(crate) fn is_base64(text: &str) -> bool {
 /// A text without what is neither a letter nor a digit.
 pub(crate) fn letters_of(alloc: Global, text: &str) -> Result<String, AllocError> {
     let mut out = String::new(alloc);
-    for c in text.chars() {
-        if c.is_alphanumeric() {
-            out.push(c)?;
-        }
+    for c in text.chars().filter(|c| c.is_alphanumeric()) {
+        out.push(c)?;
     }
     Ok(out)
 }
@@ -147,39 +137,32 @@ pub(crate) fn is_in_brackets(vote: &str) -> bool {
 
 /// Whether a text is one or more digits.
 pub(crate) fn is_digits(text: &str) -> bool {
-    for byte in text.as_bytes() {
-        if !byte.is_ascii_digit() {
-            return false;
-        }
-    }
-    !text.is_empty()
+    !text.is_empty() && text.as_bytes().iter().all(|byte| byte.is_ascii_digit())
 }
 
 /// Whether a text is digits on both sides of a point or a comma.
 pub(crate) fn is_decimal(text: &str) -> bool {
-    match text.split_once(|c: char| c == '.' || c == ',') {
-        Some((whole, part)) => is_digits(whole) && is_digits(part),
-        None => false,
-    }
+    let (whole, part) = parts_of(text);
+    is_digits(whole) && is_digits(part)
 }
 
 /// Whether an amount has three decimals, or a group of thousands.
 pub fn has_thousandths(text: &str) -> bool {
-    match text.split_once(|c: char| c == '.' || c == ',') {
-        Some((whole, part)) => whole.len() <= 3 && part.len() == 3 && is_digits(part),
-        None => false,
-    }
+    let (whole, part) = parts_of(text);
+    whole.len() <= 3 && part.len() == 3 && is_digits(part)
+}
+
+/// What is before the first point or comma of a text and behind it; none where there is no such mark.
+fn parts_of(text: &str) -> (&str, &str) {
+    text.split_once(|c: char| c == '.' || c == ',')
+        .unwrap_or((text, ""))
 }
 
 /// Whether a text is a number as a spreadsheet shortens it, such as `1.23E+11`.
 pub(crate) fn is_power(text: &str) -> bool {
-    let Some((number, power)) = text.split_once(|c: char| c == 'E' || c == 'e') else {
-        return false;
-    };
-    match power.strip_prefix('+') {
-        Some(power) => is_digits(power) && (is_digits(number) || is_decimal(number)),
-        None => false,
-    }
+    let parts = text.split_once("E+").or(text.split_once("e+"));
+    let (number, power) = parts.unwrap_or(("", ""));
+    is_digits(power) && (is_digits(number) || is_decimal(number))
 }
 
 /// Whether a text seems to be a long number that a spreadsheet shortened.
@@ -218,13 +201,8 @@ pub(crate) fn is_date(text: &str, is_sure: bool) -> bool {
 
 /// Whether a word is a month's name, or its beginning.
 fn is_month(word: &str) -> bool {
-    for month in MONTHS.split('|') {
-        let begin = word.as_bytes().get(..month.len()).unwrap_or(b"");
-        if begin.eq_ignore_ascii_case(month.as_bytes()) {
-            return word.len() <= 10 && !word.contains(|c: char| c.is_ascii_digit());
-        }
-    }
-    false
+    let is_begun = MONTHS.split('|').any(|month| begins(word, month));
+    is_begun && word.len() <= 10 && !has_digit(word)
 }
 
 /// Whether a text is an amount with groups of thousands that no other reading has.
@@ -307,8 +285,8 @@ pub(crate) fn with_digits(alloc: Global, id: &str) -> Result<String, AllocError>
     Ok(out)
 }
 
-/// The form of an id: a mark for each digit, or for each number if it need not be exact; without digits a mark for
-/// each letter, or for all of them.
+/// The form of an id: a mark for each digit, or for each number if it need not be exact; without digits a
+/// mark for each letter, or for all of them.
 pub(crate) fn form_of(alloc: Global, id: &str, is_exact: bool) -> Result<String, AllocError> {
     let mut out = String::new(alloc);
     let has_digits = has_digit(id);

@@ -6,21 +6,12 @@ use std::rt::Files;
 
 /// Whether a path names a folder.
 pub fn is_folder<R: Files>(rt: &R, path: &str) -> bool {
-    match fs::metadata(rt, path) {
-        Ok(metadata) => metadata.is_dir(),
-        Err(_) => false,
-    }
+    fs::metadata(rt, path).is_ok_and(|metadata| metadata.is_dir())
 }
 
 /// Why the file with this path cannot be opened; none where it can.
 pub fn opening_failure<R: Files>(rt: &R, path: &str) -> Option<Error> {
-    match fs::open(rt, path) {
-        Ok(file) => {
-            drop(file);
-            None
-        }
-        Err(error) => Some(error),
-    }
+    fs::open(rt, path).err()
 }
 
 /// Why the file with this path cannot be read to its end; none where it can.

@@ -3,19 +3,15 @@
 use crate::changed::{
     has_digit, has_word, is_digits, is_nothing, is_power, letters_of, without_hidden,
 };
-use crate::fields::{JoinedBy, column_of, has_more, joined, raw_text, text_at};
+use crate::fields::{JoinedBy, has_more, joined};
 use crate::heads::{OddHead, head_of, is_column, odd_head_of, section_of};
 use crate::ids::Ids;
-use crate::mark::Mark;
+use crate::prelude::*;
 use crate::quote::Span;
 use crate::records::TextRecords;
 use crate::seen::Seen;
-use crate::text::Text;
-use csv::ByteRecord;
-use pb_core::money::Money;
-use pb_read::{Column, ReadKind, Refusal, Section, Stage};
-use std::alloc::{AllocError, Global};
-use std::rt::Files;
+use crate::witness::Witness;
+use pb_read::Refusal;
 
 /// A record that the reader refused.
 #[derive(Drop)]
@@ -39,7 +35,7 @@ impl FaultyRecord {
     }
 
     /// The places of its id, and of the other value that a row of its section needs.
-    fn places(&self) -> (usize, usize) {
+    pub(crate) fn places(&self) -> (usize, usize) {
         match self.stage {
             Stage::InProjects(columns) => (columns.id, columns.cost),
             Stage::InVotes(columns) => (columns.voter, columns.vote),
@@ -49,7 +45,7 @@ impl FaultyRecord {
 
     /// The row's id; the empty text where it has none.
     pub fn id(&self) -> &str {
-        text_at(&self.record, self.places().0)
+        self.at(self.places().0)
     }
 
     /// Whether the row has a field for its id.
@@ -59,7 +55,7 @@ impl FaultyRecord {
 
     /// The row's other value; the empty text where it has none.
     pub fn value(&self) -> &str {
-        text_at(&self.record, self.places().1)
+        self.at(self.places().1)
     }
 
     /// The piece of its vote that is no project's id; the empty text where its fault is about none.
@@ -77,16 +73,37 @@ impl FaultyRecord {
         text_at(&self.record, self.places().1.saturating_add(surplus))
     }
 
-    /// Whether a space is before a quotation mark, in the refused value or in a field before it.
-    pub fn is_spaced_quote(&self) -> bool {
-        let (id, value) = self.places();
-        for place in 0..=value.max(id).min(self.record.len()) {
-            let field = raw_text(&self.record, place);
-            if field.starts_with(' ') && field.trim().starts_with('"') {
+    /// The field at this place.
+    pub fn at(&self, place: usize) -> &str {
+        text_at(&self.record, place)
+    }
+
+    /// Whether one of its fields is so.
+    fn has<P: Fn(&str) -> bool>(&self, is_so: P) -> bool
+        requires { P.IsAlwaysCallable is_so }
+    {
+        for place in 0..self.record.len() {
+            if is_so(self.at(place)) {
                 return true;
             }
         }
         false
+    }
+
+    /// Whether it is a row of PROJECTS, or of VOTES.
+    pub fn is_of_projects(&self) -> bool {
+        matches!(self.stage, Stage::InProjects(_))
+    }
+
+    pub fn is_of_votes(&self) -> bool {
+        matches!(self.stage, Stage::InVotes(_))
+    }
+
+    /// Whether a space is before a quotation mark, in the refused value or in a field before it.
+    pub fn is_spaced_quote(&self) -> bool {
+        let (id, value) = self.places();
+        let is_it = |field: &str| field.starts_with(' ') && field.trim().starts_with('"');
+        (0..=value.max(id)).any(|place| is_it(raw_text(&self.record, place)))
     }
 
     /// The line of the first quotation mark behind a backslash, if the record may be broken by it.
@@ -99,14 +116,10 @@ impl FaultyRecord {
 
     /// Whether the name of a needed column is there, but for characters beside it that can't be seen.
     pub fn has_hidden_column(&self) -> bool {
-        for place in 0..self.record.len() {
-            let name = text_at(&self.record, place);
+        self.has(|name| {
             let bare = without_hidden(name);
-            if bare.len() < name.len() && is_column(bare) {
-                return true;
-            }
-        }
-        false
+            bare.len() < name.len() && is_column(bare)
+        })
     }
 
     /// The place of the first column name that has this one in it, but for spaces and punctuation.
@@ -123,21 +136,14 @@ impl FaultyRecord {
         Ok(None)
     }
 
-    /// Whether a row that is short, or has no amount, ends with `=`, or the row before it, as e-mail programs break
-    /// lines.
+    /// Whether a row that is short, or has no amount, ends with `=`, or the row before it, as e-mail programs
+    /// break lines.
     pub fn is_of_mail<R: Files>(&self, text: &Text<'_, R>) -> bool {
-        match self.kind() {
-            ReadKind::BadMoney | ReadKind::MissingField if is_broken(&self.record) => true,
-            ReadKind::BadMoney | ReadKind::MissingField => match text.record_at(self.seen.last) {
-                Some(records) => {
-                    let is_it = is_broken(&records.last);
-                    drop(records);
-                    is_it
-                }
-                None => false,
-            },
-            _ => false,
-        }
+        let is_kind = matches!(self.kind(), ReadKind::BadMoney | ReadKind::MissingField);
+        let is_above = || text
+            .row_at(self.seen.last)
+            .is_some_and(|row| is_broken(&row));
+        is_kind && (is_broken(&self.record) || is_above())
     }
 
     /// Whether it is a mark of a merge conflict, between two versions of some rows.
@@ -162,62 +168,59 @@ impl FaultyRecord {
     /// Whether it is a project's row whose cost seems to stand further right, because of a `;` in a text
     /// before it.
     pub fn is_split(&self) -> bool {
-        match (self.kind(), self.stage) {
-            (ReadKind::BadMoney, Stage::InProjects(_)) => Money::read(self.shifted()).is_ok(),
-            _ => false,
-        }
+        let is_kind = self.kind() == ReadKind::BadMoney && self.is_of_projects();
+        is_kind && Money::read(self.shifted()).is_ok()
     }
 
     /// The place of a field beside the vote that names projects, and is more than a number, where the vote
     /// names none.
     pub fn moved(&self, ids: &Ids) -> Option<usize> {
         let (_, vote) = self.places();
+        let names = |field: &str| !is_digits(field) && ids.have_one(field) && ids.are_all(field);
         if ids.have_one(self.value()) {
             return None;
         }
-        for place in 0..self.record.len() {
-            let field = text_at(&self.record, place);
-            if place != vote && !is_digits(field) && ids.have_one(field) && ids.are_all(field) {
-                return Some(place);
-            }
-        }
-        None
+        (0..self.record.len()).find(|place| *place != vote && names(self.at(*place)))
     }
 
     /// Whether it is the first row of VOTES, and all its fields are texts without a digit, as titles are.
     pub fn has_titles(&self) -> bool {
-        let mut has_texts = self.record.len() > 1 && self.seen.last.at == self.seen.names.at;
-        for place in 0..self.record.len() {
-            let field = text_at(&self.record, place);
-            has_texts &= !field.is_empty() && !has_digit(field);
-        }
-        has_texts && !is_nothing(self.value()) && matches!(self.stage, Stage::InVotes(_))
+        let is_first = self.record.len() > 1 && self.seen.last.at == self.seen.names.at;
+        let has_other = self.has(|field| field.is_empty() || has_digit(field));
+        is_first && !has_other && !is_nothing(self.value()) && self.is_of_votes()
     }
 
     /// Whether it is a row of VOTES with an id like that of the first project, and an amount where PROJECTS
     /// has the cost.
     pub fn is_like_project<R: Files>(&self, text: &Text<'_, R>) -> bool {
-        if !matches!(self.stage, Stage::InVotes(_)) {
-            return false;
-        }
-        let Some(mut records) = text.record_at(self.seen.project_names) else {
+        let (Some(names), Some(first)) = (
+            text.row_at(self.seen.project_names),
+            text.row_behind(self.seen.project_names),
+        ) else {
             return false;
         };
-        let id = column_of(&records.last, Column::ProjectId.name()).unwrap_or(0);
-        let cost = column_of(&records.last, Column::Cost.name()).unwrap_or(0);
-        let is_like = records.advance()
-            && are_alike(text_at(&records.last, id), text_at(&self.record, id))
-            && Money::read(text_at(&self.record, cost)).is_ok();
-        drop(records);
-        is_like
+        let id = column_of(&names, Column::ProjectId.name()).unwrap_or(0);
+        let cost = column_of(&names, Column::Cost.name()).unwrap_or(0);
+        self.is_of_votes()
+            && are_alike(text_at(&first, id), self.at(id))
+            && Money::read(self.at(cost)).is_ok()
     }
 
-    /// What separates the fields of a row in place of `;`, if it is one field with tabs, or with as many commas as
-    /// it should have `;`.
+    /// Whether it may be the rest of the vote in the row above, which alone ends in a comma: one field with
+    /// ids of projects.
+    pub fn is_rest_of_vote<R: Files>(&self, text: &Text<'_, R>, witness: &Witness) -> bool {
+        let is_one = self.record.len() == 1 && self.is_of_votes() && witness.rows.cut == 1;
+        let above = text.row_at(self.seen.last).filter(|_| is_one);
+        let is_cut = above.is_some_and(|row| text_at(&row, self.places().1).ends_with(','));
+        is_cut && witness.ids.are_all(self.at(0))
+    }
+
+    /// What separates the fields of a row in place of `;`, if it is one field with tabs, or with as many
+    /// commas as it should have `;`.
     pub fn marks(&self) -> Option<JoinedBy> {
         let text = text_at(&self.record, 0);
         let is_word = |piece: &str| piece.trim().contains(|c: char| c.is_whitespace());
-        let are_words = matches!(self.stage, Stage::InVotes(_)) && text.split(',').any(is_word);
+        let are_words = self.is_of_votes() && text.split(',').any(is_word);
         let are_few = text.split(',').count() < self.seen.columns;
         match joined(&self.record) {
             _ if self.kind() != ReadKind::MissingField => None,
@@ -227,46 +230,36 @@ impl FaultyRecord {
         }
     }
 
-    /// Where the other half of a short row begins, if a line break in a text seems to have cut one row into this one
-    /// and the one before it or behind it.
+    /// Where the other half of a short row begins, if a line break in a text seems to have cut one row into
+    /// this one and the one before it or behind it.
     pub fn half<R: Files>(&self, text: &Text<'_, R>) -> Option<Mark> {
         let is_kind = matches!(self.kind(), ReadKind::MissingField | ReadKind::BadMoney);
-        if !is_kind || !self.is_half_with(self.record.len()) {
+        if !is_kind || self.record.len() >= self.seen.columns {
             return None;
         }
-        let before = text.record_at(self.seen.last)?;
-        let (mark, fields) = (before.mark(), before.last.len());
-        drop(before);
-        if self.seen.last.at > self.seen.names.at && self.is_other_half(fields) {
-            return Some(mark);
+        let before = text.row_at(self.seen.last)?;
+        if self.seen.last.at > self.seen.names.at && self.is_other_half(before.len()) {
+            return Some(self.seen.last);
         }
         let mut behind = text.record_at(self.mark)?;
-        let has_next = behind.advance();
-        let (mark, fields) = (behind.mark(), behind.last.len());
+        let is_it = behind.advance() && self.is_other_half(behind.last.len());
+        let mark = behind.mark();
         drop(behind);
-        if has_next && self.is_other_half(fields) {
-            return Some(mark);
-        }
-        None
+        is_it.then_some(mark)
     }
 
-    /// Whether a row with so many fields has less than there are column names.
-    fn is_half_with(&self, fields: usize) -> bool {
-        fields < self.seen.columns
-    }
-
-    /// Whether a row with so many fields is short, and has with this one as many as there are column names, if the
-    /// field that was cut counts once.
+    /// Whether a row with so many fields is short, and has with this one as many as there are column names,
+    /// if the field that was cut counts once.
     fn is_other_half(&self, fields: usize) -> bool {
         let together = self.record.len().saturating_add(fields);
-        self.is_half_with(fields) && together == self.seen.columns.saturating_add(1)
+        fields < self.seen.columns && together == self.seen.columns.saturating_add(1)
     }
 
     /// Whether it is a row of VOTES with one field in which words stand.
     pub fn is_line_of_words(&self) -> bool {
         let has_words = text_at(&self.record, 0).contains(|c: char| c.is_whitespace());
         let is_one = self.record.len() == 1 && self.kind() == ReadKind::MissingField;
-        is_one && has_words && matches!(self.stage, Stage::InVotes(_))
+        is_one && has_words && self.is_of_votes()
     }
 
     /// Whether a quotation mark stands alone at the end of its line, so that its field begins with the next.
@@ -274,8 +267,8 @@ impl FaultyRecord {
         (0..self.record.len()).any(|place| raw_text(&self.record, place).starts_with('\n'))
     }
 
-    /// Whether two rows may stand on one line: only the last field of the first, and the first of the second, are
-    /// one.
+    /// Whether two rows may stand on one line: only the last field of the first, and the first of the second,
+    /// are one.
     pub fn is_two_rows(&self) -> bool {
         let columns = self.seen.columns;
         columns > 2 && self.record.len() == columns.saturating_mul(2).saturating_sub(1)
@@ -284,7 +277,7 @@ impl FaultyRecord {
     /// Whether it is a project's row with an id alone.
     pub fn is_id_alone(&self) -> bool {
         let is_missing = self.kind() == ReadKind::BadMoney && self.value().is_empty();
-        is_missing && matches!(self.stage, Stage::InProjects(_)) && !has_more(&self.record)
+        is_missing && self.is_of_projects() && !has_more(&self.record)
     }
 
     /// Whether it is the first record that is not blank.
@@ -294,29 +287,20 @@ impl FaultyRecord {
 
     /// Whether it is the head of the section that has just begun.
     pub fn is_same_head(&self) -> bool {
-        match self.stage {
-            Stage::Header(section) => {
-                text_at(&self.record, 0).eq_ignore_ascii_case(head_of(section))
-            }
-            _ => false,
-        }
+        let head = head_of(section_of(&self.stage));
+        matches!(self.stage, Stage::Header(_)) && self.at(0).eq_ignore_ascii_case(head)
     }
 
     /// Whether it is META's head, behind a quotation mark that is closed on another line or never.
     pub fn is_quoted_meta(&self) -> bool {
-        let first = text_at(&self.record, 0).split_once('\n');
-        match (self.kind(), first) {
-            (ReadKind::NoSection, Some((line, _))) => line.trim().eq_ignore_ascii_case("META"),
-            _ => false,
-        }
+        let is_meta = |(line, _): (&str, &str)| line.trim().eq_ignore_ascii_case("META");
+        self.kind() == ReadKind::NoSection && self.at(0).split_once('\n').is_some_and(is_meta)
     }
 
     /// The section whose head and column names this one row seems to be.
     pub fn head_with_names(&self) -> Option<Section> {
-        match self.odd_head() {
-            Some(odd) if odd.has_names && odd.mark.at == self.mark.at => Some(odd.section),
-            _ => None,
-        }
+        let odd = self.odd_head()?;
+        (odd.has_names && odd.mark.at == self.mark.at).then_some(odd.section)
     }
 
     /// The row, read again, that has further fields and is read as a head which can't be there: this one, or
@@ -350,31 +334,22 @@ impl FaultyRecord {
     /// Whether it has only one field, and nothing in it that can be seen.
     pub fn is_invisible(&self) -> bool {
         let text = text_at(&self.record, 0);
-        for c in text.chars() {
-            if !is_hidden(u32::from(c)) {
-                return false;
-            }
-        }
-        self.record.len() == 1 && !text.is_empty()
+        let are_hidden = text.chars().all(|c| is_hidden(u32::from(c)));
+        self.record.len() == 1 && !text.is_empty() && are_hidden
     }
 
     /// Whether it lacks a field, and more is there than one word of PROJECTS or what can't be seen.
     pub fn is_short(&self) -> bool {
-        let is_word = self.record.len() == 1 && matches!(self.stage, Stage::InProjects(_));
-        matches!(self.kind(), ReadKind::MissingField) && !is_word && !self.is_invisible()
+        let is_word = self.record.len() == 1 && self.is_of_projects();
+        self.kind() == ReadKind::MissingField && !is_word && !self.is_invisible()
     }
 
     /// The row that seems to be meant as a section's head: one before it in the section, or this one.
     pub fn odd_head(&self) -> Option<OddHead> {
-        if self.is_behind_mark() {
-            return None;
-        }
-        if self.seen.odd_head.is_some() {
-            return self.seen.odd_head;
-        }
-        match section_of(&self.stage) {
-            Section::Votes => None,
-            Section::Meta | Section::Projects => odd_head_of(&self.record, self.mark),
+        match (self.seen.odd_head, section_of(&self.stage)) {
+            _ if self.is_behind_mark() => None,
+            (None, Section::Meta | Section::Projects) => odd_head_of(&self.record, self.mark),
+            (odd, _) => odd,
         }
     }
 
@@ -390,10 +365,10 @@ impl FaultyRecord {
     /// What separates its column names in place of `;`, if it is a row of them that seems to be one field by
     /// that.
     pub fn separators(&self) -> Option<&'static str> {
-        match (self.kind(), self.joined()) {
-            (ReadKind::MissingColumn, Some(joined)) => joined.separators(),
-            _ => None,
-        }
+        let joined = self
+            .joined()
+            .filter(|_| self.kind() == ReadKind::MissingColumn);
+        joined?.separators()
     }
 }
 
@@ -434,10 +409,5 @@ pub fn is_hidden(code: u32) -> bool {
 
 /// Whether a text has no such character but line ends.
 pub fn is_plain(text: &str) -> bool {
-    for c in text.chars() {
-        if c != '\n' && is_hidden(u32::from(c)) {
-            return false;
-        }
-    }
-    true
+    !text.contains(|c: char| c != '\n' && is_hidden(u32::from(c)))
 }

@@ -27,50 +27,27 @@ pub fn text_at(record: &ByteRecord, place: usize) -> &str {
 
 /// Whether a field behind the first has a text.
 pub fn has_more(record: &ByteRecord) -> bool {
-    for place in 1..record.len() {
-        if !text_at(record, place).is_empty() {
-            return true;
-        }
-    }
-    false
+    (1..record.len()).any(|place| !text_at(record, place).is_empty())
 }
 
 /// Whether a record has nothing but white space.
 pub fn is_blank(record: &ByteRecord) -> bool {
-    for place in 0..record.len() {
-        if !text_at(record, place).is_empty() {
-            return false;
-        }
-    }
-    true
+    (0..record.len()).all(|place| text_at(record, place).is_empty())
 }
 
 /// The first place at which the record has this word, in any case.
 pub fn column_of(record: &ByteRecord, name: &str) -> Option<usize> {
-    for place in 0..record.len() {
-        if text_at(record, place).eq_ignore_ascii_case(name) {
-            return Some(place);
-        }
-    }
-    None
+    (0..record.len()).find(|place| text_at(record, *place).eq_ignore_ascii_case(name))
 }
 
 /// The first place of a field that is no text.
 pub fn place_of_no_text(record: &ByteRecord) -> Option<usize> {
-    for place in 0..record.len() {
-        if str::from_utf8(bytes_at(record, place)).is_err() {
-            return Some(place);
-        }
-    }
-    None
+    (0..record.len()).find(|place| str::from_utf8(bytes_at(record, *place)).is_err())
 }
 
 /// The number that a field is, if it is one.
 pub fn number_in(field: &[u8]) -> Option<u32> {
-    match str::from_utf8(field) {
-        Ok(text) => read_number(text),
-        Err(_) => None,
-    }
+    read_number(str::from_utf8(field).ok()?)
 }
 
 /// Whether a row seems to be one of a journal: that of its version, or an entry.
@@ -100,19 +77,19 @@ impl JoinedBy {
     }
 }
 
+/// What may be in a field that is a whole row.
+const MARKS: [(u8, JoinedBy); 3] = [
+    (b';', JoinedBy::Quotes),
+    (b'\t', JoinedBy::Tabs),
+    (b',', JoinedBy::Commas),
+];
+
 /// Why a record is one field that seems to be a whole row, if it is one.
 pub fn joined(record: &ByteRecord) -> Option<JoinedBy> {
     if record.len() != 1 {
         return None;
     }
     let field = bytes_at(record, 0);
-    if field.contains(&b';') {
-        Some(JoinedBy::Quotes)
-    } else if field.contains(&b'\t') {
-        Some(JoinedBy::Tabs)
-    } else if field.contains(&b',') {
-        Some(JoinedBy::Commas)
-    } else {
-        None
-    }
+    let (_, joined) = MARKS.iter().find(|(mark, _)| field.contains(mark))?;
+    Some(*joined)
 }

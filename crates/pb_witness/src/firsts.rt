@@ -1,8 +1,6 @@
 //! Where each of some ids stood first.
 
-use crate::mark::Mark;
-use pb_ids::IdTable;
-use std::alloc::{AllocError, Global};
+use crate::prelude::*;
 
 /// Ids, each with where it stood first.
 #[derive(Drop)]

@@ -3,14 +3,8 @@
 
 use crate::changed::is_one_of;
 use crate::faulty_record::is_hidden;
-use crate::fields::{joined, text_at};
-use crate::mark::Mark;
-use crate::records::TextRecords;
-use crate::text::Text;
-use csv::ByteRecord;
-use pb_read::{Column, Section, Stage};
-use std::io::Read;
-use std::rt::Files;
+use crate::fields::joined;
+use crate::prelude::*;
 
 /// META's head is looked for in so many records after a first one that is none.
 const MOST_BEFORE_META: u64 = 1_000;
@@ -87,34 +81,21 @@ pub fn odd_head_of(record: &ByteRecord, mark: Mark) -> Option<OddHead> {
     if name.len() == field.len() || field.starts_with('>') {
         return None;
     }
-    for section in SECTIONS {
-        if name.eq_ignore_ascii_case(head_of(section)) {
-            return Some(OddHead {
-                section,
-                mark,
-                has_names,
-            });
-        }
-    }
-    None
+    let is_it = |section: &&Section| name.eq_ignore_ascii_case(head_of(**section));
+    let section = *SECTIONS.iter().find(is_it)?;
+    Some(OddHead {
+        section,
+        mark,
+        has_names,
+    })
 }
 
 /// Where META's head stands behind the record with this mark.
 pub fn late_meta<R: Files>(text: &Text<'_, R>, first: Mark) -> Option<Mark> {
     let mut records = text.record_at(first)?;
-    let mark = next_meta(&mut records);
+    let is_meta = |row: &ByteRecord| text_at(row, 0).eq_ignore_ascii_case("META");
+    let is_found = records.find(MOST_BEFORE_META, is_meta);
+    let mark = records.mark();
     drop(records);
-    mark
-}
-
-fn next_meta<F: Read>(records: &mut TextRecords<F>) -> Option<Mark> {
-    for _ in 0..MOST_BEFORE_META {
-        if !records.advance() {
-            return None;
-        }
-        if text_at(&records.last, 0).eq_ignore_ascii_case("META") {
-            return Some(records.mark());
-        }
-    }
-    None
+    if is_found { Some(mark) } else { None }
 }

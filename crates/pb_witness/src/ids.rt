@@ -1,12 +1,7 @@
 //! The ids of a file's projects, as far as a witness was shown them.
 
-use crate::fields::{raw_text, text_at};
-use crate::firsts::Firsts;
-use crate::mark::Mark;
+use crate::prelude::*;
 use crate::swallowed::later_lines;
-use csv::ByteRecord;
-use pb_read::{Part, Stage};
-use std::alloc::{AllocError, Global};
 
 /// The ids of projects, each with where its first row stands.
 #[derive(Drop)]
@@ -92,13 +87,7 @@ impl Ids {
 
     /// Whether a text names projects alone.
     pub fn are_all(&self, vote: &str) -> bool {
-        for piece in vote.split(',') {
-            let id = piece.trim();
-            if !id.is_empty() && !self.projects.has(id) {
-                return false;
-            }
-        }
-        true
+        vote.split(',').all(|piece| piece.trim().is_empty() || self.projects.has(piece.trim()))
     }
 
     /// Whether a piece of a text names a project.
@@ -108,17 +97,12 @@ impl Ids {
 
     /// Whether column names are ids of several projects.
     pub fn are_columns(&self, names: &ByteRecord) -> bool {
-        let mut count = 0u64;
-        for place in 0..names.len() {
-            if self.projects.has(text_at(names, place)) {
-                count = count.saturating_add(1);
-            }
-        }
-        count > 1
+        let is_id = |place: &usize| self.projects.has(text_at(names, *place));
+        (0..names.len()).filter(is_id).count() > 1
     }
 
-    /// Whether a piece of a vote is ids of projects that this character separates; a blank stands for all white
-    /// space.
+    /// Whether a piece of a vote is ids of projects that this character separates; a blank stands for all
+    /// white space.
     pub(crate) fn are_apart_by(&self, piece: &str, mark: char) -> bool {
         let mut count = 0u64;
         for id in piece.split(|c: char| c == mark || (mark == ' ' && c.is_whitespace())) {

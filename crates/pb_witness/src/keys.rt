@@ -33,15 +33,9 @@ impl Keys {
     pub fn take(&mut self, key: &str, mark: Mark) -> Option<Mark> {
         let key = MetaKey::of(key)?;
         let before = self.given(key);
-        let first = match before {
-            Some(given) => given.first,
-            None => mark,
-        };
+        let first = before.map_or(mark, |given| given.first);
         self.given[key as usize] = Some(Given { first, last: mark });
-        match before {
-            Some(given) => Some(given.last),
-            None => None,
-        }
+        Some(before?.last)
     }
 
     /// The rows that gave this key.

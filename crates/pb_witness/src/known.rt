@@ -3,16 +3,12 @@
 use crate::cause::{Cause, cause_of};
 use crate::changed::{has_time, is_nothing, is_one_of, is_shortened};
 use crate::faulty_record::FaultyRecord;
-use crate::fields::{bytes_at, text_at};
-use crate::mark::Mark;
+use crate::prelude::*;
 use crate::projects::Projects;
-use crate::text::Text;
 use crate::unknown::{Unknown, Votes};
 use crate::voters::{FirstRows, first_rows};
 use crate::witness::Witness;
-use pb_read::{ReadKind, Refusal};
-use std::alloc::AllocError;
-use std::rt::Files;
+use pb_read::Refusal;
 
 /// What a log says was done to a vote.
 const DONE: &str =
@@ -29,6 +25,8 @@ pub struct ReadAgain {
     causes: Vec<FoundCause>,
     /// How many votes META says there are.
     claimed: Option<u32>,
+    /// If each row names one project, a further column that differs between the rows of a voter.
+    varying: Option<usize>,
 }
 
 /// Why an id is unknown.
@@ -57,8 +55,9 @@ pub enum Repeat {
     Shortened,
     /// The id says that there is none.
     Nothing,
-    /// VOTES has a row for each voter and project.
+    /// Each row names one project, for all that is known of a voter, or for a person each.
     ByProject,
+    Apart,
     /// META counts all rows as votes, or many rows have one id.
     OtherPeople,
     OneId,
@@ -73,7 +72,7 @@ pub enum Repeat {
 
 impl Repeat {
     /// How many reasons there are.
-    pub const COUNT: usize = 10;
+    pub const COUNT: usize = 11;
 
     /// Whether the reason is one for all rows of VOTES, and not for each of them.
     pub fn is_shared(&self) -> bool {
@@ -94,11 +93,16 @@ impl ReadAgain {
             None
         };
         let causes = causes_of(text, witness, &projects)?;
+        let voters = first_rows(text, witness)?;
+        let is_by_project = witness.rows.is_by_project();
+        let mut refused = witness.refused.iter().filter(|_| is_by_project);
+        let varying = refused.find_map(|faulty| varying(text, &voters, faulty));
         Ok(ReadAgain {
-            voters: first_rows(text, witness)?,
+            voters,
             projects,
             causes,
             claimed,
+            varying,
         })
     }
 }
@@ -130,7 +134,12 @@ impl Known<'_> {
         } else if is_nothing(faulty.id()) {
             Repeat::Nothing
         } else if is_voter && rows.is_by_project() {
-            Repeat::ByProject
+            let is_apart = rows.name_twice() || rows.begin_anew() || self.again.varying.is_some();
+            if is_apart {
+                Repeat::Apart
+            } else {
+                Repeat::ByProject
+            }
         } else if is_voter && self.again.claimed.map(u64::from) == Some(rows.count()) {
             Repeat::OtherPeople
         } else if is_voter && rows.voters_repeated == 1 && rows.rows_repeated > 2 {
@@ -138,6 +147,11 @@ impl Known<'_> {
         } else {
             self.beside_earlier(text, faulty)
         }
+    }
+
+    /// If each row names one project, a further column that differs between the rows of a voter.
+    pub fn varying(&self) -> Option<usize> {
+        self.again.varying
     }
 
     /// The rows among the first that are refused which repeat a voter's id for this reason.
@@ -154,13 +168,11 @@ impl Known<'_> {
 
     /// Why a row has the id of an earlier one, by what stands in both.
     fn beside_earlier<R: Files>(&self, text: &Text<'_, R>, faulty: &FaultyRecord) -> Repeat {
-        let Some(mark) = self.earlier(&faulty.refusal) else {
+        let mark = self.earlier(&faulty.refusal);
+        let Some(earlier) = mark.and_then(|mark| text.row_at(mark)) else {
             return Repeat::Unknown;
         };
-        let Some(records) = text.record_at(mark) else {
-            return Repeat::Unknown;
-        };
-        let (row, earlier) = (&faulty.record, &records.last);
+        let (row, earlier) = (&faulty.record, &earlier);
         let mut is_same = earlier.len() == row.len();
         let (mut has_times, mut is_log) = (false, false);
         for place in 0..row.len() {
@@ -172,7 +184,6 @@ impl Known<'_> {
                 || is_one_of(DONE, text_at(row, place));
             is_log |= differs && is_done;
         }
-        drop(records);
         match faulty.kind() {
             ReadKind::RepeatedVoter if is_log => Repeat::Log,
             _ if is_same => Repeat::Copy,
@@ -182,6 +193,24 @@ impl Known<'_> {
     }
 }
 
+/// The place of a further column in which a row differs from the first row of its voter, times aside.
+fn varying<R: Files>(
+    text: &Text<'_, R>,
+    voters: &FirstRows,
+    faulty: &FaultyRecord,
+) -> Option<usize> {
+    let (id, vote) = faulty.places();
+    let first = text.row_at(voters.mark(faulty.refusal.earlier?)?)?;
+    let differs = |place: usize| {
+        let (one, other) = (text_at(&first, place), faulty.at(place));
+        one != other && !(has_time(one) && has_time(other))
+    };
+    let is_voter = faulty.kind() == ReadKind::RepeatedVoter;
+    (0..faulty.record.len()).find(|place| {
+        is_voter && *place != id && *place != vote && differs(*place)
+    })
+}
+
 /// Why each id is unknown, with the votes that are refused for the same cause.
 fn causes_of<R: Files>(
     text: &Text<'_, R>,
@@ -189,23 +218,28 @@ fn causes_of<R: Files>(
     projects: &Projects,
 ) -> Result<Vec<FoundCause>, AllocError> {
     let mut causes: Vec<FoundCause> = Vec::new(text.alloc);
-    if witness.unknown.found.is_empty() {
-        return Ok(causes);
-    }
-    let has_columns = has_columns(text, witness);
-    for unknown in witness.unknown.found.as_slice() {
+    let ids = witness.unknown.found.as_slice();
+    let names = text.row_at(witness.seen.names).filter(|_| !ids.is_empty());
+    let has_columns = names.is_some_and(|names| witness.ids.are_columns(&names));
+    let mut has_cause = false;
+    for unknown in ids {
         let (cause, project) = cause_of(unknown, witness, projects, has_columns)?;
-        let votes = unknown.votes;
+        has_cause |= !matches!(cause, Cause::OtherElection | Cause::Unknown);
         causes.push(FoundCause {
             cause,
             project,
-            votes,
+            votes: unknown.votes,
         })?;
     }
-    leave_open(causes.as_mut_slice());
+    // What could be of another election is left open where other ids have a cause.
+    for found in causes.iter_mut() {
+        if has_cause && found.cause == Cause::OtherElection {
+            found.cause = Cause::Unknown;
+        }
+    }
     for place in 0..causes.len() {
         let cause = causes.get(place).map(|found| found.cause);
-        let votes = votes_of(causes.as_slice(), witness.unknown.found.as_slice(), cause);
+        let votes = votes_of(causes.as_slice(), ids, cause);
         if let Some(found) = causes
             .get_mut(place)
             .filter(|found| found.cause.is_shared())
@@ -216,36 +250,13 @@ fn causes_of<R: Files>(
     Ok(causes)
 }
 
-/// Leaves open why ids are unknown that could be of another election, where others have a cause.
-fn leave_open(causes: &mut [FoundCause]) {
-    let mut has_cause = false;
-    for found in causes.iter() {
-        has_cause |= !matches!(found.cause, Cause::OtherElection | Cause::Unknown);
-    }
-    for found in causes.iter_mut() {
-        if has_cause && found.cause == Cause::OtherElection {
-            found.cause = Cause::Unknown;
-        }
-    }
-}
-
 /// The votes that are refused for this cause.
 fn votes_of(causes: &[FoundCause], unknown: &[Unknown], cause: Option<Cause>) -> Votes {
     let mut votes = Votes::none();
-    for (found, unknown) in causes.iter().zip(unknown.iter()) {
+    for (found, unknown) in causes.iter().zip(unknown) {
         if Some(found.cause) == cause {
             votes.join(&unknown.votes);
         }
     }
     votes
-}
-
-/// Whether the column names that were read last are ids of several projects.
-fn has_columns<R: Files>(text: &Text<'_, R>, witness: &Witness) -> bool {
-    let Some(records) = text.record_at(witness.seen.names) else {
-        return false;
-    };
-    let has_some = witness.ids.are_columns(&records.last);
-    drop(records);
-    has_some
 }

@@ -1,23 +1,20 @@
-//! The last row of VOTES where it has a vote: whether it may be a total or a note, and whether the file may be cut
-//! off in it.
+//! The last row of VOTES where it has a vote: whether it may be a total or a note, and whether the file may
+//! be cut off in it.
 
 use crate::changed::has_digit;
-use crate::fields::bytes_at;
-use crate::mark::Mark;
 use crate::meta_oddities::whole_number;
-use crate::oddities::{Odd, Oddities};
+use crate::prelude::*;
 use crate::project_oddities::has_total;
-use crate::vote_oddities::{VoteRow, has_space};
-use pb_core::election::Election;
-use pb_read::{Oddity, VoteColumns};
+use crate::vote_oddities::has_space;
 
 /// The fewest voters above a row that is no voter.
 const FEWEST: usize = 2;
 
 /// What is known of the last row of VOTES so far.
-#[derive(Clone, Copy)]
+#[derive(Clone, Copy, Default)]
 pub(crate) struct LastVote {
-    row: Option<(Mark, VoteColumns)>,
+    /// Whether there is one.
+    is_there: bool,
     /// Whether it has a text beside its id and its vote, and whether the first row has one.
     has_more: bool,
     first_has_more: bool,
@@ -27,89 +24,65 @@ pub(crate) struct LastVote {
 }
 
 impl LastVote {
-    /// No row yet.
-    pub(crate) fn none() -> LastVote {
-        LastVote {
-            row: None,
-            has_more: false,
-            first_has_more: false,
-            is_cut: false,
-            cut: 0,
-        }
-    }
-
     /// Takes the next row.
-    pub(crate) fn take(&mut self, row: VoteRow<'_>) {
-        let (record, columns) = (row.record, row.columns);
-        let (id, vote) = (
-            bytes_at(record, columns.voter),
-            bytes_at(record, columns.vote),
-        );
+    pub(crate) fn take(&mut self, row: &Row<'_>) {
+        let (record, (id_place, vote_place)) = (row.record, row.places());
+        let (id, vote) = (bytes_at(record, id_place), bytes_at(record, vote_place));
         self.has_more = record.as_slice().len() > id.len().saturating_add(vote.len());
-        if self.row.is_none() {
-            self.first_has_more = self.has_more;
-        }
-        self.row = Some((row.mark, columns));
-        let is_end = columns.vote.saturating_add(1) == record.len();
+        self.first_has_more |= !self.is_there && self.has_more;
+        self.is_there = true;
+        let is_end = vote_place.saturating_add(1) == record.len();
         self.is_cut = is_end && vote.last() == Some(&b',');
         self.cut = self.cut.saturating_add(u64::from(self.is_cut));
     }
 
-    /// Takes the end of the file, whose accepted rows give this election.
-    pub(crate) fn end(&self, election: &Election, found: &mut Oddities) {
-        let Some((mark, columns)) = self.row else {
+    /// Takes the end of the file, whose accepted rows give this election; the last may be odd.
+    pub(crate) fn end(&self, election: &Election, odd: Option<Odd>, found: &mut Oddities) {
+        let Some(odd) = odd else {
             return;
         };
-        let odd = Odd::of_vote(Oddity::FooterRow, mark, columns);
         if self.is_cut && self.cut == 1 {
             found.take(odd.as_a(Oddity::VotesMissing).in_form(3));
         }
         if self.is_note(election) {
-            found.take(odd.in_form(3));
+            found.take(odd.as_a(Oddity::FooterRow).in_form(3));
         }
     }
 
-    /// Whether the last row has a vote and is probably no voter: its id is unlike those above, and it has a word
-    /// for a total, or its vote is the number of voters or projects, or its other fields are empty.
+    /// Whether the last row has a vote and is probably no voter: its id is unlike those above, and it has a
+    /// word for a total, or its vote is the number of voters or projects, or its other fields are empty.
     fn is_note(&self, election: &Election) -> bool {
-        let voters = election.voters();
-        let above = voters.len().saturating_sub(1);
-        let Some(last) = voters.last() else {
+        let Some((last, above)) = election.voters().split_last() else {
             return false;
         };
         let id = last.id.text();
         let (is_total, is_spaced, is_word) = (has_total(id), has_space(id), !has_digit(id));
         let may_be = !id.is_empty() && (is_total || is_spaced || is_word);
-        if above < FEWEST || last.ballot.places().is_empty() || !may_be {
+        if above.len() < FEWEST || last.ballot.places().is_empty() || !may_be {
             return false;
         }
         let (mut has_totals, mut has_spaces, mut has_words) = (false, false, false);
-        for (place, voter) in voters.iter().enumerate() {
+        for voter in above {
             let other = voter.id.text();
-            let is_above = place < above;
-            has_totals |= is_above && is_total && has_total(other);
-            has_spaces |= is_above && has_space(other);
-            has_words |= is_above && !has_digit(other);
+            has_totals |= is_total && has_total(other);
+            has_spaces |= has_space(other);
+            has_words |= !has_digit(other);
         }
-        let is_number = is_number_of(election, above);
+        let is_number = is_number_of(election, last.ballot.places(), above.len());
         let is_bare = self.first_has_more && !self.has_more;
         let is_unlike = is_spaced && !has_spaces && (is_number || is_bare);
         (is_total && !has_totals) || is_unlike || (is_word && !has_words && is_number)
     }
 }
 
-/// Whether the last vote names one project alone, by the number of the voters above it or of all projects.
-fn is_number_of(election: &Election, above: usize) -> bool {
-    let places = match election.voters().last() {
-        Some(voter) => voter.ballot.places(),
-        None => &[],
+/// Whether a vote names one project alone, by the number of the voters above it or of all projects.
+fn is_number_of(election: &Election, vote: &[u32], above: usize) -> bool {
+    let projects = election.projects();
+    let number = match vote {
+        [place] => projects
+            .get(*place as usize)
+            .and_then(|project| whole_number(project.id())),
+        _ => None,
     };
-    let [place] = places else {
-        return false;
-    };
-    let number = match election.projects().get(*place as usize) {
-        Some(project) => whole_number(project.id()),
-        None => None,
-    };
-    number == Some(above as u64) || number == Some(election.projects().len() as u64)
+    number.is_some_and(|number| number == above as u64 || number == projects.len() as u64)
 }

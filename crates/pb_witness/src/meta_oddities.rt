@@ -1,16 +1,11 @@
 //! What in META can change a result, and what META says that other warnings rest on.
 
 use crate::changed::{begins, has_one_of, is_one_of};
-use crate::fields::text_at;
 use crate::keys::Keys;
-use crate::mark::Mark;
-use crate::oddities::{Odd, Oddities};
-use csv::ByteRecord;
-use pb_core::election::Election;
-use pb_core::money::Money;
+use crate::prelude::*;
+use crate::row::Limits;
 use pb_core::money_fault::MoneyFault;
-use pb_read::{MetaKey, Oddity};
-use std::alloc::{AllocError, Global};
+use pb_read::MetaKey;
 use std::mem;
 
 /// Words in a key beside `budget` that make it no budget of a district or category.
@@ -51,16 +46,6 @@ struct ClaimedNumber {
     is_usual: bool,
 }
 
-/// What META asks of ballots, beside the most projects that one may name.
-#[derive(Clone, Copy)]
-pub(crate) struct Limits {
-    /// The fewest projects.
-    pub(crate) min_length: Option<u64>,
-    /// The least and the most that its projects may cost together, in hundredths.
-    pub(crate) min_cost: Option<u64>,
-    pub(crate) max_cost: Option<u64>,
-}
-
 /// What META says; of a repeated key the last value counts.
 #[derive(Drop)]
 pub(crate) struct MetaOddities {
@@ -78,9 +63,9 @@ pub(crate) struct MetaOddities {
     /// The row of the budget, and whether three digits stand behind its mark.
     budget: Mark,
     has_thousands: bool,
-    /// The first row of a budget beside it, how many there are, and whether one is of each district.
-    further: Option<Mark>,
-    further_count: u64,
+    /// The first row of a budget beside it, measured by how many there are, and whether one is of each
+    /// district.
+    further: Option<Odd>,
     has_budget_per: bool,
 }
 
@@ -91,11 +76,7 @@ impl MetaOddities {
             alloc,
             votes: None,
             projects: None,
-            limits: Limits {
-                min_length: None,
-                min_cost: None,
-                max_cost: None,
-            },
+            limits: Limits::default(),
             third_is_other: false,
             fewest: None,
             rule: String::new(alloc),
@@ -103,7 +84,6 @@ impl MetaOddities {
             budget: Mark::start(),
             has_thousands: false,
             further: None,
-            further_count: 0,
             has_budget_per: false,
         }
     }
@@ -111,10 +91,7 @@ impl MetaOddities {
     /// The rule that META names, and where, if it does.
     pub(crate) fn rule(&self) -> Option<(&str, Mark)> {
         let rule = self.rule.as_str();
-        if rule.is_empty() {
-            return None;
-        }
-        Some((rule, self.rule_mark))
+        (!rule.is_empty()).then_some((rule, self.rule_mark))
     }
 
     /// Takes META's row of column names.
@@ -134,10 +111,9 @@ impl MetaOddities {
         let (key, value) = (text_at(row, 0), text_at(row, 1));
         if let Some(used) = MetaKey::of(key) {
             if let Some(given) = keys.given(used) {
-                found.take(Odd {
-                    before: Some(given.last),
-                    ..Odd::of_key(Oddity::RepeatedKey, mark)
-                });
+                let before = Some(given.last);
+                let odd = Odd::of_key(Oddity::RepeatedKey, mark);
+                found.take(Odd { before, ..odd });
             }
             if used == MetaKey::Budget {
                 let has_third = row.len() > 2 && !self.third_is_other;
@@ -179,10 +155,8 @@ impl MetaOddities {
             return;
         }
         self.has_budget_per |= is_per;
-        self.further_count = self.further_count.saturating_add(1);
-        if self.further.is_none() {
-            self.further = Some(mark);
-        }
+        let odd = Odd::of_key(Oddity::DistrictBudgets, mark);
+        self.further = Some(odd.behind(self.further));
     }
 
     /// Takes the end of META: now its budget is known.
@@ -204,12 +178,8 @@ impl MetaOddities {
         let may_be = |claim: &ClaimedNumber| {
             claim.is_usual || (is_whole && claim.number != Some(approvals))
         };
-        take_broken(
-            Oddity::VotesMissing,
-            self.votes.filter(may_be),
-            rows.0,
-            found,
-        );
+        let votes = self.votes.filter(may_be);
+        take_broken(Oddity::VotesMissing, votes, rows.0, found);
         take_broken(Oddity::ProjectsMissing, self.projects, rows.1, found);
         let below = Odd::of_key(Oddity::BudgetBelowCosts, self.budget);
         if is_below_costs(election) {
@@ -219,51 +189,47 @@ impl MetaOddities {
         } else if let Some(sum) = sum_below_budget(election) {
             found.take(below.as_a(Oddity::BudgetAboveCosts).by(sum));
         }
-        match self.further {
-            Some(mark) if self.has_budget_per || has_districts || self.further_count > 1 => {
-                found.take(Odd::of_key(Oddity::DistrictBudgets, mark))
+        if let Some(odd) = self.further {
+            if self.has_budget_per || has_districts || odd.number > 1 {
+                found.take(odd.by(0));
             }
-            _ => {}
         }
     }
 }
 
 /// Takes a claim that is of other than so many rows.
 fn take_broken(oddity: Oddity, claim: Option<ClaimedNumber>, count: u64, found: &mut Oddities) {
-    match claim {
-        Some(claim) if claim.number != Some(count) => {
-            let form = match claim.number {
-                Some(said) if said >= count => 0,
-                Some(_) => 1,
-                None => 2,
-            };
-            found.take(Odd {
-                limit: claim.number,
-                ..Odd::of_key(oddity, claim.mark).by(count).in_form(form)
-            })
-        }
-        _ => {}
-    }
+    let Some(claim) = claim else {
+        return;
+    };
+    let form = match claim.number {
+        Some(said) if said == count => return,
+        Some(said) => usize::from(said < count),
+        None => 2,
+    };
+    found.take(Odd {
+        limit: claim.number,
+        ..Odd::of_key(oddity, claim.mark).by(count).in_form(form)
+    });
 }
 
 /// Whether there are projects, and the budget is less than what each of them costs.
 fn is_below_costs(election: &Election) -> bool {
-    for project in election.projects() {
-        if project.cost().0 <= election.budget().0 {
-            return false;
-        }
-    }
-    !election.projects().is_empty()
+    let count = above_budget(election);
+    count > 0 && count == election.projects().len()
 }
 
 /// Whether there are five projects or more, and the budget is less than what more than half of them cost.
 fn is_below_most(election: &Election) -> bool {
-    let mut above = 0usize;
-    for project in election.projects() {
-        above = above.saturating_add(usize::from(project.cost().0 > election.budget().0));
-    }
     let count = election.projects().len();
-    count >= MANY && above.saturating_mul(2) > count
+    count >= MANY && above_budget(election).saturating_mul(2) > count
+}
+
+/// How many projects cost more than the budget.
+fn above_budget(election: &Election) -> usize {
+    let budget = election.budget().0;
+    let projects = election.projects().iter();
+    projects.filter(|project| project.cost().0 > budget).count()
 }
 
 /// What all projects cost together.
@@ -278,8 +244,7 @@ pub(crate) fn sum_of_costs(election: &Election) -> u64 {
 /// What all projects cost together, if there are any and it is less than a hundredth of the budget.
 fn sum_below_budget(election: &Election) -> Option<u64> {
     let sum = sum_of_costs(election);
-    let is_below = 0 < sum && sum.saturating_mul(100) < election.budget().0;
-    if is_below { Some(sum) } else { None }
+    (0 < sum && sum.saturating_mul(100) < election.budget().0).then_some(sum)
 }
 
 /// Whether a key has `budget` at its start or its end.
@@ -297,16 +262,13 @@ fn is_of_no_district(key: &str) -> bool {
 
 /// Whether a value is amounts, with `,` between them.
 fn are_amounts(value: &str) -> bool {
-    for piece in value.split(',') {
-        if Money::read(piece.trim()).is_err() {
-            return false;
-        }
-    }
-    true
+    value
+        .split(',')
+        .all(|piece| Money::read(piece.trim()).is_ok())
 }
 
-/// What is claimed after a value of this key, whose record begins here. An empty value claims nothing; that of an
-/// unusual key claims something only if it is a whole number, and the usual key does not.
+/// What is claimed after a value of this key, whose record begins here. An empty value claims nothing; that
+/// of an unusual key claims something only if it is a whole number, and the usual key does not.
 fn claim_of(
     before: Option<ClaimedNumber>,
     key: &str,
@@ -340,18 +302,14 @@ fn approvals_of(election: &Election) -> u64 {
 
 /// The hundredths of the amount that a value is; none if it is no amount or 0, which sets no limit.
 fn hundredths(value: &str) -> Option<u64> {
-    match Money::read(value) {
-        Ok(Money(hundredths)) if hundredths > 0 => Some(hundredths),
-        _ => None,
-    }
+    let Money(hundredths) = Money::read(value).ok()?;
+    (hundredths > 0).then_some(hundredths)
 }
 
 /// The whole number that a value names, perhaps with zeros as decimals.
 pub(crate) fn whole_number(value: &str) -> Option<u64> {
-    match Money::read(value) {
-        Ok(Money(hundredths)) if hundredths % 100 == 0 => Some(hundredths / 100),
-        _ => None,
-    }
+    let Money(hundredths) = Money::read(value).ok()?;
+    (hundredths % 100 == 0).then_some(hundredths / 100)
 }
 
 /// Whether exactly three digits stand behind an amount's mark, and at most three before it.
@@ -366,13 +324,6 @@ pub(crate) fn has_decimals(amount: &str) -> bool {
 
 /// One more than how many characters stand behind an amount's mark; 0 if it has none.
 fn behind_mark(amount: &str) -> usize {
-    let mut behind = 0usize;
-    for byte in amount.as_bytes() {
-        if *byte == b'.' || *byte == b',' {
-            behind = 1;
-        } else if behind > 0 {
-            behind = behind.saturating_add(1);
-        }
-    }
-    behind
+    let last = amount.rsplit_once(|c: char| c == '.' || c == ',');
+    last.map_or(0, |(_, behind)| behind.len().saturating_add(1))
 }

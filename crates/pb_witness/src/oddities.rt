@@ -1,9 +1,8 @@
 //! What is accepted in a .pb file and probably not meant, as it is found.
 
-use crate::mark::Mark;
+use crate::prelude::*;
 use pb_core::no_memory::NoMemory;
-use pb_read::{Oddity, Part, ProjectColumns, VoteColumns, Warning, WarningRow};
-use std::alloc::{AllocError, Global};
+use pb_read::{Warning, WarningRow};
 
 /// The kinds in the order in which a check lists them. Where no record is named behind a kind, its record is
 /// the row of the project or the voter that it is about.
@@ -37,7 +36,8 @@ const LISTED: [Oddity; 27] = [
     Oddity::SeveralBallots, // the row of column names, or once a column the first row that repeats a number
 ];
 
-/// The kinds that can change a result, in the order in which a count tells them; `--strict` refuses the first.
+/// The kinds that can change a result, in the order in which a count tells them; `--strict` refuses the
+/// first.
 const TOLD: [Oddity; 22] = [
     Oddity::VotesMissing,
     Oddity::ProjectsMissing,
@@ -141,21 +141,15 @@ impl Odd {
         Odd::of(oddity, mark, Subject::Column, (place, place))
     }
 
-    /// A row of PROJECTS that is odd.
-    pub fn of_project(oddity: Oddity, mark: Mark, columns: ProjectColumns) -> Odd {
-        Odd::of(oddity, mark, Subject::Project, (columns.id, columns.cost))
-    }
-
-    /// A row of VOTES that is odd.
-    pub fn of_vote(oddity: Oddity, mark: Mark, columns: VoteColumns) -> Odd {
-        Odd::of(oddity, mark, Subject::Voter, (columns.voter, columns.vote))
-    }
-
     /// A row of this part that is odd.
-    pub fn of_part(oddity: Oddity, mark: Mark, part: Part) -> Odd {
+    pub fn of_row(oddity: Oddity, mark: Mark, part: Part) -> Odd {
         match part {
-            Part::Project(columns) => Odd::of_project(oddity, mark, columns),
-            Part::Vote(columns) => Odd::of_vote(oddity, mark, columns),
+            Part::Project(columns) => {
+                Odd::of(oddity, mark, Subject::Project, (columns.id, columns.cost))
+            }
+            Part::Vote(columns) => {
+                Odd::of(oddity, mark, Subject::Voter, (columns.voter, columns.vote))
+            }
             _ => Odd::of_key(oddity, mark),
         }
     }
@@ -218,7 +212,8 @@ pub struct Oddities {
     pub has_no_length: bool,
     /// How many voters the file has.
     pub voters: u64,
-    /// How many ballots are too long or too short by what their projects cost together, and not by their number.
+    /// How many ballots are too long or too short by what their projects cost together, and not by their
+    /// number.
     pub costly: u64,
     is_whole: bool,
 }
@@ -316,41 +311,28 @@ impl Oddities {
 
     /// The first of the first kind that is told.
     pub fn first(&self) -> Option<Warning> {
-        for oddity in self.kinds.iter().copied() {
-            if self.has(oddity) {
-                let at = self.firsts[oddity as usize];
-                return Some(Warning { oddity, at });
-            }
-        }
-        None
+        let oddity = *self.kinds.iter().find(|oddity| self.has(**oddity))?;
+        let at = self.firsts[oddity as usize];
+        Some(Warning { oddity, at })
     }
 
     /// The rows of all, by their kinds, with how many more there are of each.
     pub fn rows(&self) -> Result<Vec<WarningRow>, NoMemory> {
-        if !self.is_whole {
-            return Err(NoMemory);
-        }
         let mut rows = Vec::new(self.alloc);
         for oddity in self.kinds.iter().copied() {
-            if self.put_rows(oddity, &mut rows).is_err() {
-                drop(rows);
-                return Err(NoMemory);
-            }
-        }
-        Ok(rows)
-    }
-
-    fn put_rows(&self, oddity: Oddity, rows: &mut Vec<WarningRow>) -> Result<(), NoMemory> {
-        for odd in &self.found {
-            if odd.oddity == oddity {
+            for odd in self.found.iter().filter(|odd| odd.oddity == oddity) {
                 let at = odd.mark.at;
                 rows.push(WarningRow::Of(Warning { oddity, at }))?;
             }
+            let more = self.more(oddity);
+            if more > 0 {
+                rows.push(WarningRow::MoreOf(oddity, more))?;
+            }
         }
-        let more = self.more(oddity);
-        if more > 0 {
-            rows.push(WarningRow::MoreOf(oddity, more))?;
+        if self.is_whole {
+            Ok(rows)
+        } else {
+            Err(NoMemory)
         }
-        Ok(())
     }
 }

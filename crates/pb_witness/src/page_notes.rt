@@ -1,12 +1,8 @@
 //! What a page shows of a .pb file that no count uses: META's currency, and the categories of the projects.
 
-use crate::fields::{column_of, text_at};
-use csv::ByteRecord;
-use pb_core::election::Election;
+use crate::prelude::*;
 use pb_core::no_memory::NoMemory;
-use pb_ids::IdTable;
-use pb_read::{Part, Refusal, Section, Stage, Watch};
-use std::alloc::{AllocError, Global};
+use pb_read::{Refusal, Watch};
 use std::mem;
 
 /// Looks on while a .pb file is read, and keeps what its page shows that no count uses.

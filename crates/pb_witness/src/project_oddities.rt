@@ -1,19 +1,11 @@
 //! What is odd in PROJECTS.
 
 use crate::behind_vote::names_other;
-use crate::changed::{has_digit, has_one_of, is_decimal};
-use crate::fields::{column_of, text_at};
-use crate::firsts::Firsts;
-use crate::mark::Mark;
+use crate::changed::{has_digit, has_one_of, is_decimal, is_one_of};
+use crate::columns::FurtherColumns;
 use crate::meta_oddities::{has_decimals, has_thousands_mark, sum_of_costs, whole_number};
-use crate::oddities::{Odd, Oddities};
-use crate::other_ids::{IdColumns, Twins};
-use crate::valid_columns::{ValidColumn, says_withdrawn};
-use csv::ByteRecord;
-use pb_core::election::Election;
-use pb_core::money::Money;
-use pb_read::{Oddity, ProjectColumns};
-use std::alloc::{AllocError, Global};
+use crate::prelude::*;
+use crate::twins::Twins;
 
 /// What a row of totals is called.
 const TOTALS: &str =
@@ -22,22 +14,24 @@ const TOTALS: &str =
 /// The fewest projects above a last one that is their sum by its cost alone.
 const MANY: usize = 4;
 
-/// A row of PROJECTS that is accepted.
-#[derive(Clone, Copy)]
-pub(crate) struct AcceptedProject<'a> {
-    pub(crate) record: &'a ByteRecord,
-    /// Where it begins.
-    pub(crate) mark: Mark,
-    pub(crate) columns: ProjectColumns,
-    /// The ids of the projects before it, each with its place.
-    pub(crate) projects: &'a Firsts,
-}
+/// What columns are called that name a part of the city.
+const DISTRICTS: &str = "district|subdistrict|neighborhood|subunit";
 
-/// What is kept of it.
+/// What the name of a project says that can't win, and what may stand behind that, or in brackets or before a
+/// number.
+const WITHDRAWN: &str =
+    "withdrawn|rejected|cancelled|canceled|disqualified|wycofany|wycofane|odrzucony|odrzucone|\
+    zurückgezogen|abgelehnt";
+
+const BEHIND: &str = "|-|\u{2013}|\u{2014}";
+
+const SAID_BY: &str = "by|on|in|from|since";
+
+/// What is kept of a project.
 #[derive(Clone, Copy)]
 struct CheckedProject {
-    mark: Mark,
-    columns: ProjectColumns,
+    /// Its row, as one that may be odd.
+    odd: Odd,
     /// What it says in the columns `votes` and `selected`: nothing, a whole number, or something else.
     votes: Option<Option<u64>>,
     selected: Option<Option<u64>>,
@@ -47,118 +41,100 @@ struct CheckedProject {
     is_winner: bool,
 }
 
-impl CheckedProject {
-    fn odd(&self, oddity: Oddity) -> Odd {
-        Odd::of_project(oddity, self.mark, self.columns)
-    }
-}
-
 /// What is odd in PROJECTS, as its rows are read.
 #[derive(Drop)]
 pub(crate) struct ProjectOddities {
     alloc: Global,
-    /// Where the row of column names begins, and how many there are.
-    header: Mark,
+    /// How many column names there are.
     pub(crate) names: usize,
-    /// Whether there is a column `name`.
-    has_names: bool,
-    /// The places of the columns that claim a result.
+    /// The places of the columns with names, and of those that claim a result.
+    name: Option<usize>,
     votes: Option<usize>,
     selected: Option<usize>,
     /// Whether a column names a part of the city.
     pub(crate) has_districts: bool,
     /// The fewest ballots that have to approve a project, where META says so.
     fewest: Option<u64>,
-    valid: Vec<ValidColumn>,
     twins: Twins,
-    id_columns: IdColumns,
+    further: FurtherColumns,
     /// The first project whose name says that it is withdrawn, measured by how many there are.
     withdrawn: Option<Odd>,
     accepted: Vec<CheckedProject>,
 }
 
 impl ProjectOddities {
-    /// Nothing was read yet but the row of column names.
+    /// Nothing was read yet but the row of column names, which begins here.
     pub(crate) fn of(
         alloc: Global,
         names: &ByteRecord,
         header: Mark,
         fewest: Option<u64>,
     ) -> Result<ProjectOddities, AllocError> {
+        let is_of_district = |place: usize| is_one_of(DISTRICTS, text_at(names, place));
         Ok(ProjectOddities {
             alloc,
-            header,
             names: names.len(),
-            has_names: column_of(names, "name").is_some(),
+            name: column_of(names, "name"),
             votes: column_of(names, "votes"),
             selected: column_of(names, "selected"),
-            has_districts: "district|subdistrict|neighborhood|subunit"
-                .split('|')
-                .any(|word| column_of(names, word).is_some()),
+            has_districts: (0..names.len()).any(is_of_district),
             fewest,
-            valid: ValidColumn::all_of(alloc, names)?,
             twins: Twins::new(alloc),
-            id_columns: IdColumns::of(alloc, names)?,
+            further: FurtherColumns::of(alloc, names, header, Section::Projects)?,
             withdrawn: None,
             accepted: Vec::new(alloc),
         })
     }
 
     /// Takes a row that is accepted.
-    pub(crate) fn take(
-        &mut self,
-        row: AcceptedProject<'_>,
-        found: &mut Oddities,
-    ) -> Result<(), AllocError> {
-        let (row, mark, columns, projects) = (row.record, row.mark, row.columns, row.projects);
-        let odd = Odd::of_project(Oddity::ThousandsMark, mark, columns);
-        found.has_decimals |= has_decimals(text_at(row, columns.cost));
-        if has_thousands_mark(text_at(row, columns.cost)) {
-            found.take(odd);
+    pub(crate) fn take(&mut self, row: &Row<'_>, found: &mut Oddities) -> Result<(), AllocError> {
+        found.has_decimals |= has_decimals(row.value());
+        if has_thousands_mark(row.value()) {
+            found.take(row.odd(Oddity::ThousandsMark));
         }
-        self.take_cut(row, odd.as_a(Oddity::CutName), projects, found);
-        self.twins.take(row, mark, columns, found)?;
-        self.id_columns.take(row, columns)?;
-        let name = columns.name.unwrap_or(usize::MAX);
-        if says_withdrawn(text_at(row, name)) {
-            let odd = odd.as_a(Oddity::ValidColumn).in_form(4).at(name);
+        self.take_cut(row, found);
+        let name = row.at(self.name.unwrap_or(usize::MAX));
+        self.twins.take(row, name, found)?;
+        if says_withdrawn(name) {
+            let odd = row.odd(Oddity::ValidColumn).in_form(4);
+            let odd = odd.at(self.name.unwrap_or(usize::MAX));
             self.withdrawn = Some(odd.behind(self.withdrawn));
         }
-        for column in self.valid.iter_mut() {
-            let odd = odd.as_a(Oddity::ValidColumn).named_in(self.header);
-            column.take(row, odd, found)?;
-        }
+        self.further.take(row, found)?;
         self.accepted.push(CheckedProject {
-            mark,
-            columns,
+            odd: row.odd(Oddity::FooterRow),
             votes: claimed(row, self.votes),
             selected: claimed(row, self.selected),
-            is_total: has_total(text_at(row, columns.id))
-                || has_total(text_at(row, columns.name.unwrap_or(columns.id))),
+            is_total: has_total(row.id()) || has_total(name),
             is_winner: false,
         })?;
         Ok(())
     }
 
     /// Takes a row, which is odd so if it has a text behind its columns, or a field like a vote.
-    fn take_cut(&self, row: &ByteRecord, odd: Odd, projects: &Firsts, found: &mut Oddities) {
-        let is_long = (self.names..row.len()).any(|place| !text_at(row, place).is_empty());
-        if is_long && self.has_names {
+    fn take_cut(&self, row: &Row<'_>, found: &mut Oddities) {
+        let odd = row.odd(Oddity::CutName);
+        let is_long = (self.names..row.record.len()).any(|place| !row.at(place).is_empty());
+        if is_long && self.name.is_some() {
             found.take(odd.by(self.names as u64));
         }
-        for place in 0..row.len() {
-            let value = text_at(row, place);
+        for place in 0..row.record.len() {
+            let value = row.at(place);
             let is_other = place != odd.id_place && place != odd.value_place;
             let is_list = is_other && value.contains(',') && Money::read(value).is_err();
-            if is_list && names_other(value, &[], projects).is_some() {
+            if is_list && names_other(value, &[], row.projects).is_some() {
                 found.take(odd.in_form(1).at(place));
             }
         }
     }
 
     /// Takes the end of PROJECTS, whose accepted rows give this election.
-    pub(crate) fn end_rows(&self, election: &Election, found: &mut Oddities) {
-        self.id_columns.end(election, self.header, found);
+    pub(crate) fn end_rows(
+        &self,
+        election: &Election,
+        found: &mut Oddities,
+    ) -> Result<(), AllocError> {
+        self.further.end(election, found)
     }
 
     /// Takes the end of a file that has a fault or not, whose accepted rows give this election.
@@ -174,30 +150,27 @@ impl ProjectOddities {
             found.take(odd);
         }
         let compares = self.votes.is_some() && !has_fault;
-        if !compares && self.fewest.is_none() && !found.tells(Oddity::NoSupporter) {
+        let is_check = found.tells(Oddity::NoSupporter);
+        if !compares && self.fewest.is_none() && !is_check {
             return Ok(());
         }
         let supporters = supporters_of(self.alloc, election)?;
         let rows = self.accepted.iter().zip(election.projects());
         for ((row, project), number) in rows.zip(&supporters) {
             if project.id().contains(',') {
-                found.take(row.odd(Oddity::CommaInId));
+                found.take(row.odd.as_a(Oddity::CommaInId));
             }
             if project.cost().0 > election.budget().0 {
-                found.take(row.odd(Oddity::OverBudget));
+                found.take(row.odd.as_a(Oddity::OverBudget));
             }
             if *number == 0 && !found.refuses_votes {
-                let odd = row.odd(Oddity::NoSupporter).at(row.columns.id);
-                let is_told = found.tells(Oddity::NoSupporter);
-                let form = usize::from(is_told && is_shortened(project.id(), projects));
+                let odd = row.odd.as_a(Oddity::NoSupporter).at(row.odd.id_place);
+                let form = usize::from(is_check && is_shortened(project.id(), projects));
                 found.take(odd.in_form(form));
             }
-            let odd = row.odd(Oddity::VotesOf).by(*number);
-            match (row.votes, self.votes) {
-                (Some(votes), Some(place)) if compares && votes != Some(*number) => {
-                    found.take(odd.at(place))
-                }
-                _ => {}
+            let odd = row.odd.as_a(Oddity::VotesOf).by(*number);
+            if compares && row.votes.is_some_and(|votes| votes != Some(*number)) {
+                found.take(odd.at(self.votes.unwrap_or(0)));
             }
             if *number < self.fewest.unwrap_or(0) && !has_fault {
                 found.take(Odd {
@@ -218,11 +191,11 @@ impl ProjectOddities {
         let place = self.accepted.len().saturating_sub(1);
         let fewest = if last.is_total { 2 } else { MANY };
         if place >= fewest && is_sum(election, place) {
-            found.take(last.odd(Oddity::FooterRow));
+            found.take(last.odd);
         } else if place >= 2 && first.is_total && is_sum(election, 0) {
-            found.take(first.odd(Oddity::FooterRow).in_form(2));
+            found.take(first.odd.in_form(2));
         } else if place >= 2 && is_total(election) {
-            found.take(last.odd(Oddity::FooterRow).in_form(4));
+            found.take(last.odd.in_form(4));
         }
     }
 
@@ -234,11 +207,12 @@ impl ProjectOddities {
                 row.is_winner = true;
             }
         }
+        let place = self.selected.unwrap_or(0);
         for row in &self.accepted {
             let number = u64::from(row.is_winner);
-            match (row.selected, self.selected) {
-                (Some(Some(said)), Some(place)) if said.saturating_add(number) == 1 => {
-                    found.take(row.odd(Oddity::SelectedOf).at(place).by(number))
+            match row.selected {
+                Some(Some(said)) if said.saturating_add(number) == 1 => {
+                    found.take(row.odd.as_a(Oddity::SelectedOf).at(place).by(number))
                 }
                 _ => {}
             }
@@ -247,12 +221,9 @@ impl ProjectOddities {
 }
 
 /// What a row says in a column, where there is one; the empty field claims nothing.
-fn claimed(row: &ByteRecord, column: Option<usize>) -> Option<Option<u64>> {
-    let value = text_at(row, column?);
-    if value.is_empty() {
-        return None;
-    }
-    Some(whole_number(value))
+fn claimed(row: &Row<'_>, column: Option<usize>) -> Option<Option<u64>> {
+    let value = row.at(column?);
+    (!value.is_empty()).then_some(whole_number(value))
 }
 
 /// Whether an id is a number with zeros at its end, and without them that of another project.
@@ -280,13 +251,38 @@ pub(crate) fn has_total(text: &str) -> bool {
     has_one_of(TOTALS, text)
 }
 
+/// Whether the name of a project says that it is withdrawn or the like: with such a word at its start or in
+/// brackets, which is alone there, in capitals, or has a sign behind it, or `by` or the like (at the start with a
+/// number).
+fn says_withdrawn(name: &str) -> bool {
+    let has_small = name.contains(|c: char| c.is_lowercase());
+    let parts = name.split(|c: char| "()[]".contains(c));
+    for (place, part) in parts.enumerate() {
+        let (first, rest) = first_word(part);
+        let word = first.trim_matches(|c: char| "*:!-".contains(c));
+        let is_loud = has_small && !word.contains(|c: char| c.is_lowercase());
+        let next = first_word(rest).0;
+        let is_said = is_one_of(SAID_BY, next) && (place > 0 || has_digit(rest));
+        let is_apart = word.len() < first.len() || is_one_of(BEHIND, next) || is_said;
+        if is_one_of(WITHDRAWN, word) && (is_loud || is_apart) {
+            return true;
+        }
+    }
+    false
+}
+
+/// The first word of a text, and what is behind it.
+fn first_word(text: &str) -> (&str, &str) {
+    let text = text.trim();
+    text.split_once(|c: char| c.is_whitespace())
+        .unwrap_or((text, ""))
+}
+
 /// Whether the project at this place costs as much as all others together, and no ballot approves it.
 fn is_sum(election: &Election, place: usize) -> bool {
     let sum = sum_of_costs(election);
-    let cost = match election.projects().get(place) {
-        Some(project) => project.cost().0,
-        None => 0,
-    };
+    let project = election.projects().get(place);
+    let cost = project.map_or(0, |project| project.cost().0);
     cost == sum.saturating_sub(cost) && !is_named(election, place)
 }
 
@@ -306,10 +302,7 @@ fn is_total(election: &Election) -> bool {
 
 /// Whether a ballot approves the project at this place.
 fn is_named(election: &Election, place: usize) -> bool {
-    for voter in election.voters() {
-        if voter.ballot.places().iter().any(|it| *it as usize == place) {
-            return true;
-        }
-    }
-    false
+    let place = u32::try_from(place).unwrap_or(u32::MAX);
+    let mut voters = election.voters().iter();
+    voters.any(|voter| voter.ballot.places().contains(&place))
 }

@@ -1,17 +1,9 @@
 //! The rows of PROJECTS, read again for what an unknown id may mean.
 
 use crate::changed::{form_of, has_digit, is_date, is_digits, is_power, plain, with_digits};
-use crate::fields::{column_of, text_at};
-use crate::mark::Mark;
+use crate::prelude::*;
 use crate::records::TextRecords;
-use crate::text::Text;
 use crate::witness::Witness;
-use csv::ByteRecord;
-use pb_ids::IdTable;
-use pb_read::Column;
-use std::alloc::{AllocError, Global};
-use std::io::Read;
-use std::rt::Files;
 
 /// The place that a text has which several projects share.
 const SHARED: u32 = u32::MAX;
@@ -23,28 +15,35 @@ pub struct ProjectIdRow {
     pub mark: Mark,
 }
 
+/// By what a project is found.
+#[derive(Clone, Copy, PartialEq, Eq)]
+pub(crate) enum By {
+    /// Its id in plain form; the same with digits in place of letters that look like them, and without the
+    /// letters before its number.
+    Id,
+    Digits,
+    Number,
+    /// Its name in plain form, and a word of it that is an unknown id.
+    Name,
+    Mention,
+    /// The form of its id, exact and not.
+    Exact,
+    Form,
+}
+
 /// The projects that were accepted.
 #[derive(Drop)]
 pub struct Projects {
     alloc: Global,
     rows: Vec<ProjectIdRow>,
-    /// The places of the ids in plain form, of these with digits in place of letters that look like them, and of
-    /// the names in plain form.
-    alike: IdTable,
-    similar: IdTable,
-    /// The same of the ids without the letters before their number.
-    numbers: IdTable,
-    names: IdTable,
-    /// The unknown ids that a name has in it, each with the place of the project.
-    mentions: IdTable,
-    /// The forms of the ids, exact and not, and the number of bytes of the longest.
-    exact: IdTable,
-    forms: IdTable,
+    /// The places of the projects by all of these texts.
+    places: IdTable,
+    /// The number of bytes of the longest id.
     longest: usize,
     /// The number of bytes of each id; 0 where they differ.
     pub(crate) length: usize,
-    /// The first id that seems to be changed by a spreadsheet.
-    changed: Option<u32>,
+    /// The place of the first whose id a spreadsheet seems to have changed.
+    pub(crate) changed: Option<u32>,
     /// Whether each id has a digit.
     pub(crate) have_digits: bool,
 }
@@ -52,18 +51,11 @@ pub struct Projects {
 impl Projects {
     /// The projects of a text, if it is a file; none if no vote names an unknown id.
     pub fn of<R: Files>(text: &Text<'_, R>, witness: &Witness) -> Result<Projects, AllocError> {
-        let alloc = text.alloc;
         let mut projects = Projects {
-            alloc,
-            rows: Vec::new(alloc),
-            alike: IdTable::new(alloc),
-            similar: IdTable::new(alloc),
-            numbers: IdTable::new(alloc),
-            mentions: IdTable::new(alloc),
-            exact: IdTable::new(alloc),
-            forms: IdTable::new(alloc),
+            alloc: text.alloc,
+            rows: Vec::new(text.alloc),
+            places: IdTable::new(text.alloc),
             longest: 0,
-            names: IdTable::new(alloc),
             length: 0,
             changed: None,
             have_digits: true,
@@ -92,54 +84,43 @@ impl Projects {
                 return Ok(());
             }
             let mark = records.mark();
-            self.take(&records.last, mark, (id, name), witness)?;
+            let first = witness.ids.projects.mark(text_at(&records.last, id));
+            if first.is_some_and(|first| first.at == mark.at) {
+                let texts = (text_at(&records.last, id), text_at(&records.last, name));
+                self.take(texts, mark, witness)?;
+            }
         }
         Ok(())
     }
 
-    /// Takes a row with its id and name at these places, if it is the row of a project.
+    /// Takes a project with this id and name.
     fn take(
         &mut self,
-        record: &ByteRecord,
+        (id, name): (&str, &str),
         mark: Mark,
-        (id_place, name_place): (usize, usize),
         witness: &Witness,
     ) -> Result<(), AllocError> {
-        let id = text_at(record, id_place);
-        match witness.ids.projects.mark(id) {
-            Some(first) if first.at == mark.at => {}
-            _ => return Ok(()),
-        }
         let place = u32::try_from(self.rows.len()).unwrap_or(u32::MAX);
-        if place == 0 {
-            self.length = id.len();
-        } else if self.length != id.len() {
-            self.length = 0;
-        }
-        let is_changed = (is_date(id, true) || is_power(id)) && !witness.rows.is_named(place);
-        if self.changed.is_none() && is_changed {
-            self.changed = Some(place);
-        }
+        let is_as_long = place == 0 || self.length == id.len();
+        self.length = if is_as_long { id.len() } else { 0 };
+        self.longest = self.longest.max(id.len());
         self.have_digits &= has_digit(id);
-        note(self.alloc, &mut self.alike, id, place)?;
-        let similar = with_digits(self.alloc, id)?;
-        note(self.alloc, &mut self.similar, similar.as_str(), place)?;
+        if (is_date(id, true) || is_power(id)) && !witness.rows.is_named(place) {
+            self.changed = self.changed.or(Some(place));
+        }
+        for by in [By::Id, By::Digits, By::Exact, By::Form] {
+            self.note(by, id, place)?;
+        }
         let number = id.trim_start_matches(|c: char| !c.is_ascii_digit());
         if number.len() < id.len() && is_digits(number) {
-            note(self.alloc, &mut self.numbers, number, place)?;
+            self.note(By::Number, number, place)?;
         }
-        self.longest = self.longest.max(id.len());
-        let form = form_of(self.alloc, id, true)?;
-        let _ = self.exact.insert(self.alloc, form.as_str(), place)?;
-        let form = form_of(self.alloc, id, false)?;
-        let _ = self.forms.insert(self.alloc, form.as_str(), place)?;
-        let name = text_at(record, name_place);
         if !name.is_empty() {
-            note(self.alloc, &mut self.names, name, place)?;
-            for word in name.split(|c: char| c.is_whitespace() || "()[],;:/+".contains(c)) {
-                if witness.unknown.place(word).is_some() {
-                    let _ = self.mentions.insert(self.alloc, word, place)?;
-                }
+            self.note(By::Name, name, place)?;
+        }
+        for word in name.split(|c: char| c.is_whitespace() || "()[],;:/+".contains(c)) {
+            if witness.unknown.place(word).is_some() {
+                self.note(By::Mention, word, place)?;
             }
         }
         let id = String::from_str(self.alloc, id)?;
@@ -147,90 +128,56 @@ impl Projects {
         Ok(())
     }
 
+    /// Keeps the place of a project by a text of it. Of several with one id or name none's is kept.
+    fn note(&mut self, by: By, text: &str, place: u32) -> Result<(), AllocError> {
+        let key = self.key(by, text)?;
+        let is_one = !matches!(by, By::Mention | By::Exact | By::Form);
+        let is_shared = is_one && self.places.get(key.as_str()).is_some();
+        let place = if is_shared { SHARED } else { place };
+        let _ = self.places.insert(self.alloc, key.as_str(), place)?;
+        Ok(())
+    }
+
+    /// What stands in the table for a text by which a project is found.
+    fn key(&self, by: By, text: &str) -> Result<String, AllocError> {
+        let alloc = self.alloc;
+        let (begin, rest) = match by {
+            By::Id => ("id ", plain(alloc, text)?),
+            By::Digits => ("digits ", plain(alloc, with_digits(alloc, text)?.as_str())?),
+            By::Number => ("number ", plain(alloc, text)?),
+            By::Name => ("name ", plain(alloc, text)?),
+            By::Mention => ("mention ", String::from_str(alloc, text)?),
+            By::Exact => ("exact ", form_of(alloc, text, true)?),
+            By::Form => ("form ", form_of(alloc, text, false)?),
+        };
+        let mut key = String::from_str(alloc, begin)?;
+        key.push_str(rest.as_str())?;
+        Ok(key)
+    }
+
+    /// The place of a project that is found by this; of several with one id or name a place that is none's.
+    /// By its number it is found only if the text is digits.
+    pub(crate) fn find(&self, by: By, text: &str) -> Result<Option<u32>, AllocError> {
+        if by == By::Number && !is_digits(text) {
+            return Ok(None);
+        }
+        Ok(self.places.get(self.key(by, text)?.as_str()))
+    }
+
+    /// Whether an id of a project has the form of this one, exactly or nearly.
+    pub(crate) fn has_form(&self, id: &str, is_exact: bool) -> Result<bool, AllocError> {
+        let by = if is_exact { By::Exact } else { By::Form };
+        let is_short = is_exact || id.len() <= self.longest.saturating_add(1);
+        Ok(is_short && self.find(by, id)?.is_some())
+    }
+
     /// The project at this place.
     pub fn row(&self, place: u32) -> Option<&ProjectIdRow> {
         self.rows.get(place as usize)
     }
 
-    /// The id of the project at this place; the empty text if there is none.
-    pub(crate) fn id(&self, place: u32) -> &str {
-        match self.row(place) {
-            Some(row) => row.id.as_str(),
-            None => "",
-        }
-    }
-
     /// Whether no id has this character.
     pub(crate) fn lacks(&self, c: char) -> bool {
-        for row in self.rows.as_slice() {
-            if row.id.contains(c) {
-                return false;
-            }
-        }
-        true
+        !self.rows.iter().any(|row| row.id.contains(c))
     }
-
-    /// The place of the project whose id is the same but for what gets changed; of several projects one that
-    /// is none's.
-    pub(crate) fn alike(&self, id: &str) -> Result<Option<u32>, AllocError> {
-        find(self.alloc, &self.alike, id)
-    }
-
-    /// The same, but for letters that look like digits.
-    pub(crate) fn similar(&self, id: &str) -> Result<Option<u32>, AllocError> {
-        let id = with_digits(self.alloc, id)?;
-        find(self.alloc, &self.similar, id.as_str())
-    }
-
-    /// The same, but for the letters before a number; none if the id has other characters than digits.
-    pub(crate) fn numbered(&self, id: &str) -> Result<Option<u32>, AllocError> {
-        if is_digits(id) {
-            find(self.alloc, &self.numbers, id)
-        } else {
-            Ok(None)
-        }
-    }
-
-    /// The place of a project whose name has this unknown id in it.
-    pub(crate) fn mentioned(&self, id: &str) -> Option<u32> {
-        self.mentions.get(id)
-    }
-
-    /// Whether an id of a project has the form of this one, exactly or nearly.
-    pub(crate) fn has_form(&self, id: &str, is_exact: bool) -> Result<bool, AllocError> {
-        let form = form_of(self.alloc, id, is_exact)?;
-        if is_exact {
-            return Ok(self.exact.get(form.as_str()).is_some());
-        }
-        let is_short = id.len() <= self.longest.saturating_add(1);
-        Ok(is_short && self.forms.get(form.as_str()).is_some())
-    }
-
-    /// The place of the project that has this name; of several projects one that is none's.
-    pub(crate) fn named(&self, name: &str) -> Result<Option<u32>, AllocError> {
-        find(self.alloc, &self.names, name)
-    }
-
-    /// The place of the first project whose id a spreadsheet seems to have changed.
-    pub(crate) fn changed(&self) -> Option<u32> {
-        self.changed
-    }
-}
-
-/// Gives a text in plain form this place, or that it is shared.
-fn note(alloc: Global, table: &mut IdTable, text: &str, place: u32) -> Result<(), AllocError> {
-    let plain = plain(alloc, text)?;
-    let place = if table.get(plain.as_str()).is_some() {
-        SHARED
-    } else {
-        place
-    };
-    let _ = table.insert(alloc, plain.as_str(), place)?;
-    Ok(())
-}
-
-/// The place of a text in plain form.
-fn find(alloc: Global, table: &IdTable, text: &str) -> Result<Option<u32>, AllocError> {
-    let plain = plain(alloc, text)?;
-    Ok(table.get(plain.as_str()))
 }

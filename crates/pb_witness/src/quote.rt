@@ -1,10 +1,7 @@
 //! The line of the text at which a record begins, and the quotation mark that makes it run over several
 //! lines.
 
-use crate::mark::Mark;
-use crate::text::Text;
-use std::io::Read;
-use std::rt::Files;
+use crate::prelude::*;
 
 /// How far the bytes of a record were looked at.
 #[derive(Clone, Copy, PartialEq, Eq)]

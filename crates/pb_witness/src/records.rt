@@ -1,9 +1,7 @@
 //! The records of a file that is read again, each with the place at which it begins.
 
-use crate::mark::Mark;
-use csv::{ByteRecord, Position, Reader, ReaderBuilder};
-use std::alloc::Global;
-use std::io::Read;
+use crate::prelude::*;
+use csv::{Reader, ReaderBuilder};
 
 /// The records of a text, read one at a time.
 #[derive(Drop)]
@@ -35,17 +33,10 @@ impl<F: Read> TextRecords<F> {
 
     /// Reads the next record, and answers whether there was one; a reader that fails has none.
     pub fn advance(&mut self) -> bool {
-        match self.reader.read_byte_record(&mut self.last) {
-            Ok(true) => {
-                self.at = self.at.saturating_add(1);
-                true
-            }
-            Ok(false) => false,
-            Err(error) => {
-                drop(error);
-                false
-            }
-        }
+        let is_read = self.reader.read_byte_record(&mut self.last);
+        let has_next = is_read.unwrap_or(false);
+        self.at = self.at.saturating_add(u64::from(has_next));
+        has_next
     }
 
     /// Reads on to the record with this number, and answers whether there is one.
@@ -58,17 +49,28 @@ impl<F: Read> TextRecords<F> {
         true
     }
 
+    /// Reads on to the next record that is so, among so many, and answers whether there is one.
+    pub fn find<P: Fn(&ByteRecord) -> bool>(&mut self, most: u64, is_so: P) -> bool
+        requires { P.IsAlwaysCallable is_so }
+    {
+        for _ in 0..most {
+            if !self.advance() {
+                return false;
+            }
+            if is_so(&self.last) {
+                return true;
+            }
+        }
+        false
+    }
+
     /// Where the record begins that was read last.
     pub fn mark(&self) -> Mark {
-        let position = self.last.position().unwrap_or(Position::new());
+        let Mark { at, byte, line } = Mark::of(&self.last, self.at);
         Mark {
-            at: self.at,
-            byte: self.start.byte.saturating_add(position.byte()),
-            line: self
-                .start
-                .line
-                .saturating_add(position.line())
-                .saturating_sub(1),
+            at,
+            byte: self.start.byte.saturating_add(byte),
+            line: self.start.line.saturating_add(line).saturating_sub(1),
         }
     }
 }

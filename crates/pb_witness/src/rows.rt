@@ -1,7 +1,12 @@
 //! The rows of VOTES, as far as their number says why voters stand in several of them.
 
-use pb_core::election::Election;
-use std::alloc::{AllocError, Global};
+use crate::prelude::*;
+
+/// The place of no voter and no project.
+const NONE: u32 = u32::MAX;
+
+/// The fewest rows of a first list.
+const FEWEST: u64 = 3;
 
 /// The rows of VOTES that were read.
 #[derive(Drop)]
@@ -9,13 +14,21 @@ pub struct VoteRows {
     /// How many rows are accepted, and how many are refused.
     pub accepted: u64,
     pub refused: u64,
-    /// How many of these name no project, and something else than words for nothing: without their unknown ids
-    /// they are empty.
+    /// How many of these name no project, and something else than words for nothing: without their unknown
+    /// ids they are empty.
     pub(crate) emptied: u64,
     /// Whether a vote names a project that the file has.
     pub names_project: bool,
-    /// The places of the voters to whom each further row belongs.
-    repeated: Vec<u32>,
+    /// Of each further row the place of the voter, and of the project that it names, or `NONE`.
+    repeated: Vec<(u32, u32)>,
+    /// How many rows were accepted before the first of them; and whether these are a second list: they follow
+    /// each other as the first rows of these voters do, from the first row of the file on.
+    before: u64,
+    is_second_list: bool,
+    /// How many rows name a project that another row of their voter names.
+    twice: u64,
+    /// How many votes that are accepted end in a comma.
+    pub(crate) cut: u64,
     /// How many rows repeat an id, and how many voters stand in several rows, once the file has ended.
     pub rows_repeated: u64,
     pub voters_repeated: u64,
@@ -34,6 +47,10 @@ impl VoteRows {
             emptied: 0,
             names_project: false,
             repeated: Vec::new(alloc),
+            before: 0,
+            is_second_list: true,
+            twice: 0,
+            cut: 0,
             rows_repeated: 0,
             voters_repeated: 0,
             has_long: false,
@@ -41,11 +58,41 @@ impl VoteRows {
         }
     }
 
-    /// Takes a further row of the voter at this place, with this vote.
-    pub(crate) fn repeat(&mut self, place: u32, vote: &str) -> Result<(), AllocError> {
+    /// Takes a further row of the voter at this place, with this vote, which may be the project at this
+    /// place.
+    pub(crate) fn repeat(
+        &mut self,
+        place: u32,
+        vote: &str,
+        project: Option<u32>,
+    ) -> Result<(), AllocError> {
         self.has_long |= vote.contains(',');
-        self.repeated.push(place)?;
+        let is_next = match self.repeated.last() {
+            None => {
+                self.before = self.accepted;
+                place == 0
+            }
+            Some((before, _)) => {
+                self.before == self.accepted && place == before.saturating_add(1)
+            }
+        };
+        self.is_second_list &= is_next;
+        self.repeated.push((place, project.unwrap_or(NONE)))?;
         Ok(())
+    }
+
+    /// Whether so many rows name a project that another row of their voter names that these are no copies:
+    /// one for each three voters.
+    pub fn name_twice(&self) -> bool {
+        self.twice > 0 && self.twice.saturating_mul(3) >= self.accepted
+    }
+
+    /// Whether the ids begin anew in a later row, as in two lists, and not as in one that is sorted by
+    /// projects.
+    pub fn begin_anew(&self) -> bool {
+        let first = self.repeated.first().map(|row| row.1);
+        let is_other = |row: &(u32, u32)| Some(row.1) != first;
+        self.is_second_list && self.before >= FEWEST && self.repeated.iter().any(is_other)
     }
 
     /// Takes a project that a vote names.
@@ -82,8 +129,16 @@ impl VoteRows {
         }
         self.rows_repeated = self.repeated.len() as u64;
         self.repeated.sort_unstable();
-        self.repeated.dedup();
-        self.voters_repeated = self.repeated.len() as u64;
+        let mut before = (NONE, NONE);
+        for row in &self.repeated {
+            let is_other = u64::from(row.0 != before.0);
+            self.voters_repeated = self.voters_repeated.saturating_add(is_other);
+            let first = election.voters().get(row.0 as usize);
+            let is_twice = first.is_some_and(|first| first.ballot.places().contains(&row.1));
+            let is_again = row.1 != NONE && (*row == before || is_twice);
+            self.twice = self.twice.saturating_add(u64::from(is_again));
+            before = *row;
+        }
         for voter in election.voters() {
             self.has_long |= voter.ballot.places().len() > 1;
         }
@@ -99,8 +154,8 @@ impl VoteRows {
         self.accepted.saturating_add(self.refused)
     }
 
-    /// Whether the file seems to have a row for each voter and project: most voters stand in several rows, and
-    /// no row names several projects.
+    /// Whether the file seems to have a row for each voter and project: most voters stand in several rows,
+    /// and no row names several projects.
     pub fn is_by_project(&self) -> bool {
         !self.has_long
             && self.voters_repeated > 1

@@ -1,7 +1,7 @@
 //! How many rows each rule of a desk has refused.
 
 /// How many rows each rule of a desk has refused.
-#[derive(Clone, Copy)]
+#[derive(Clone, Copy, Default)]
 pub struct RuleCounts {
     /// Those with an id that no project has.
     pub unknown_id: u64,
@@ -18,28 +18,13 @@ pub struct RuleCounts {
 impl RuleCounts {
     /// No row yet.
     pub fn new() -> RuleCounts {
-        RuleCounts {
-            unknown_id: 0,
-            not_on_roll: 0,
-            too_few: 0,
-            from_file: 0,
-            no_shut: 0,
-        }
+        RuleCounts::default()
     }
 
     /// How many rows they have refused together.
     pub fn all(&self) -> u64 {
-        let RuleCounts {
-            unknown_id,
-            not_on_roll,
-            too_few,
-            from_file,
-            no_shut,
-        } = *self;
-        unknown_id
-            .saturating_add(not_on_roll)
-            .saturating_add(too_few)
-            .saturating_add(from_file)
-            .saturating_add(no_shut)
+        let desk = self.from_file.saturating_add(self.no_shut);
+        let ballot = self.unknown_id.saturating_add(self.too_few);
+        ballot.saturating_add(self.not_on_roll).saturating_add(desk)
     }
 }

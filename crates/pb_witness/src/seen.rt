@@ -1,12 +1,9 @@
 //! What a witness keeps of the records of a .pb file that it was shown.
 
-use crate::fields::text_at;
 use crate::heads::{OddHead, odd_head_of, section_of};
 use crate::keys::Keys;
-use crate::mark::Mark;
+use crate::prelude::*;
 use crate::swallowed::swallows_head;
-use csv::ByteRecord;
-use pb_read::{Part, Section, Stage};
 
 /// What the records say that were shown so far.
 #[derive(Clone, Copy)]

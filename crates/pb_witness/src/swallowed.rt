@@ -1,40 +1,27 @@
 //! Rows that a quotation mark swallowed: a field in quotes that runs over several lines has them in it.
 
 use crate::behind_vote::names_other;
-use crate::fields::raw_text;
-use crate::firsts::Firsts;
 use crate::heads::is_head;
-use csv::ByteRecord;
-use pb_core::money::Money;
-use pb_read::{MetaKey, Part};
+use crate::prelude::*;
+use pb_read::MetaKey;
 
 /// The lines of a field behind its first; the empty text where it has no others.
 pub(crate) fn later_lines(record: &ByteRecord, place: usize) -> &str {
-    match raw_text(record, place).split_once('\n') {
-        Some((_, later)) => later,
-        None => "",
-    }
+    raw_text(record, place)
+        .split_once('\n')
+        .map_or("", |(_, later)| later)
 }
 
 /// Whether a field of a row has a line in it that seems to be a section's head, or a row of META that the
 /// count uses.
 pub(crate) fn swallows_head(record: &ByteRecord) -> bool {
-    for place in 0..record.len() {
-        for line in later_lines(record, place).split('\n') {
-            let word = match line.split_once(';') {
-                Some((word, _)) => word.trim(),
-                None => line.trim(),
-            };
-            if is_head(word) || MetaKey::of(word).is_some() {
-                return true;
-            }
-        }
-    }
-    false
+    let is_one = |line: &str| is_head(field_of(line, 0))
+        || MetaKey::of(field_of(line, 0)).is_some();
+    (0..record.len()).any(|place| later_lines(record, place).split('\n').any(is_one))
 }
 
-/// Whether a field of a row has a line in it that seems to be a row of the same part of the file, which has so
-/// many column names. The ids of the projects before it are given.
+/// Whether a field of a row has a line in it that seems to be a row of the same part of the file, which has
+/// so many column names. The ids of the projects before it are given.
 pub(crate) fn swallows_row(
     record: &ByteRecord,
     part: Part,
@@ -45,22 +32,21 @@ pub(crate) fn swallows_row(
         return false;
     }
     for place in 0..record.len() {
-        let mut lines = later_lines(record, place);
-        for _ in 0..lines.len() {
-            let (line, rest) = lines.split_once('\n').unwrap_or((lines, ""));
-            let behind = if rest.is_empty() {
-                record.len().saturating_sub(place).saturating_sub(1)
+        let lines = later_lines(record, place);
+        let lines = lines.strip_suffix('\n').unwrap_or(lines);
+        let last = lines.split('\n').count();
+        for (number, line) in lines.split('\n').enumerate() {
+            // Behind the last line the fields of the row go on.
+            let is_last = number.saturating_add(1) == last;
+            let behind = if is_last {
+                record.len().saturating_sub(place)
             } else {
-                0
+                1
             };
             let fields = line.split(';').count().saturating_add(behind);
-            if fields >= names && is_row(line, part, projects) {
+            if fields > names && is_row(line, part, projects) {
                 return true;
             }
-            if rest.is_empty() {
-                break;
-            }
-            lines = rest;
         }
     }
     false

@@ -1,11 +1,9 @@
 //! The text that words speak of. Where it is a file it is read again.
 
-use crate::fields::{JoinedBy, joined, number_in, text_at};
-use crate::mark::Mark;
+use crate::fields::{JoinedBy, joined, number_in};
+use crate::prelude::*;
 use crate::records::TextRecords;
-use std::alloc::{AllocError, Global};
-use std::io::{Read, Seek, SeekFrom};
-use std::rt::Files;
+use std::io::{Seek, SeekFrom};
 use std::{fs, str};
 
 /// The text that words speak of, with what it takes to read it again.
@@ -34,10 +32,7 @@ impl<'a, R> Text<'a, R> {
 impl<'a, R: Files> Text<'a, R> {
     /// Whether it is a file, which can be read again.
     pub fn is_file(&self) -> bool {
-        match self.path {
-            Some(path) => is_file(self.rt, path),
-            None => false,
-        }
+        self.path.is_some_and(|path| is_file(self.rt, path))
     }
 
     /// Opens the text again behind so many bytes, if it is a file.
@@ -70,35 +65,34 @@ impl<'a, R: Files> Text<'a, R> {
         Ok(line?)
     }
 
-    /// Why the record with this mark is one field that seems to be a whole row, if it is one.
-    pub fn joined_at(&self, mark: Mark) -> Option<JoinedBy> {
-        let records = self.record_at(mark)?;
-        let joined = joined(&records.last);
-        drop(records);
-        joined
+    /// The record with this mark, if it can be read again.
+    pub fn row_at(&self, mark: Mark) -> Option<ByteRecord> {
+        Some(self.record_at(mark)?.last)
     }
 
-    /// Why the record behind the one with this mark is one field that seems to be a whole row, if it is one.
-    /// Behind the start of the text it is the first record.
-    pub fn joined_behind(&self, mark: Mark) -> Option<JoinedBy> {
+    /// The record behind the one with this mark, if there is one that can be read again. Behind the start of
+    /// the text it is the first record.
+    pub fn row_behind(&self, mark: Mark) -> Option<ByteRecord> {
         let mut records = self.record_at(mark)?;
-        let joined = if records.advance() {
-            joined(&records.last)
-        } else {
-            None
-        };
-        drop(records);
-        joined
+        let has_next = records.advance();
+        let row = records.last;
+        if has_next { Some(row) } else { None }
+    }
+
+    /// Why the record with this mark is one field that seems to be a whole row, if it is one.
+    pub fn joined_at(&self, mark: Mark) -> Option<JoinedBy> {
+        joined(&self.row_at(mark)?)
+    }
+
+    /// The same of the record behind it.
+    pub fn joined_behind(&self, mark: Mark) -> Option<JoinedBy> {
+        joined(&self.row_behind(mark)?)
     }
 
     /// Whether the record with this mark begins with this word, in any case.
     pub fn begins_with(&self, mark: Mark, word: &str) -> bool {
-        let Some(records) = self.record_at(mark) else {
-            return false;
-        };
-        let is_it = text_at(&records.last, 0).eq_ignore_ascii_case(word);
-        drop(records);
-        is_it
+        self.row_at(mark)
+            .is_some_and(|row| text_at(&row, 0).eq_ignore_ascii_case(word))
     }
 
     /// The number that the last row of META with this key gives, if it gives one.
@@ -111,12 +105,7 @@ impl<'a, R: Files> Text<'a, R> {
 
     /// Whether the record with this mark is the last one.
     pub fn is_last(&self, mark: Mark) -> bool {
-        let Some(mut records) = self.record_at(mark) else {
-            return false;
-        };
-        let has_next = records.advance();
-        drop(records);
-        !has_next
+        self.row_at(mark).is_some() && self.row_behind(mark).is_none()
     }
 
     /// Its records from this mark on, if it is a file that can be read again.
@@ -156,22 +145,14 @@ fn last_number<F: Read>(records: &mut TextRecords<F>, key: &str) -> Option<u32> 
 
 /// Whether a path names a file. A pipe or a device is none: it has given what it had.
 pub fn is_file<R: Files>(rt: &R, path: &str) -> bool {
-    match fs::metadata(rt, path) {
-        Ok(metadata) => metadata.is_file(),
-        Err(_) => false,
-    }
+    fs::metadata(rt, path).is_ok_and(|metadata| metadata.is_file())
 }
 
 /// The line with this number, from 1; the empty text where it is none.
 fn nth_line(bytes: &[u8], number: u32) -> &str {
-    let mut at: u32 = 0;
-    for line in bytes.split(|byte| *byte == b'\n') {
-        at = at.saturating_add(1);
-        if at == number {
-            return str::from_utf8(line).unwrap_or("");
-        }
-    }
-    ""
+    let place = (number as usize).saturating_sub(1);
+    let line = bytes.split(|byte| *byte == b'\n').nth(place);
+    str::from_utf8(line.unwrap_or(b"")).unwrap_or("")
 }
 
 /// A file behind so many bytes.
@@ -183,28 +164,22 @@ fn behind<F: Seek + Drop>(mut file: F, byte: u64) -> Option<F> {
     None
 }
 
-/// Whether a text begins as JSON does: with an opening bracket, and a further one or a quotation mark behind it.
+/// Whether a text begins as JSON does: with an opening bracket, and a further one or a quotation mark behind
+/// it.
 pub fn is_json(bytes: &[u8]) -> bool {
-    let mut is_open = false;
-    for byte in bytes {
-        match byte {
-            b' ' | b'\t' | b'\r' | b'\n' | 0xef | 0xbb | 0xbf => {}
-            b'{' | b'[' if !is_open => is_open = true,
-            b'{' | b'[' | b'"' => return is_open,
-            _ => return false,
-        }
-    }
-    false
+    let (first, rest) = without_blanks(bytes).split_first().unwrap_or((&0, b""));
+    let next = without_blanks(rest).first();
+    matches!(first, b'{' | b'[') && matches!(next, Some(b'{' | b'[' | b'"'))
 }
 
 /// Whether a text begins as a web page does: with a `<` behind white space and perhaps a byte order mark.
 pub fn is_web_page(bytes: &[u8]) -> bool {
-    for byte in bytes {
-        match byte {
-            b'<' => return true,
-            b' ' | b'\t' | b'\r' | b'\n' | 0xef | 0xbb | 0xbf => {}
-            _ => return false,
-        }
-    }
-    false
+    without_blanks(bytes).starts_with(b"<")
+}
+
+/// A text without the white space and the byte order marks at its start.
+fn without_blanks(bytes: &[u8]) -> &[u8] {
+    let is_blank = |byte: &u8| matches!(byte, b' ' | b'\t' | b'\r' | b'\n' | 0xef | 0xbb | 0xbf);
+    let first = bytes.iter().position(|byte| !is_blank(byte));
+    bytes.get(first.unwrap_or(bytes.len())..).unwrap_or(b"")
 }

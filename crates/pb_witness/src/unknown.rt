@@ -1,11 +1,9 @@
 //! The votes that are refused since they name an id that no project has, by that id.
 
 use crate::changed::is_in_brackets;
-use crate::mark::Mark;
 use crate::meta_oddities::whole_number;
-use pb_ids::IdTable;
+use crate::prelude::*;
 use pb_read::MOST_FAULTS;
-use std::alloc::{AllocError, Global};
 
 /// So many of the refused votes are shown.
 const SHOWN: usize = 3;
@@ -39,19 +37,14 @@ impl Votes {
     /// Takes these votes as well.
     pub fn join(&mut self, others: &Votes) {
         self.count = self.count.saturating_add(others.count);
-        for mark in others.first {
-            if let Some(mark) = mark {
-                self.show(mark);
-            }
+        for mark in others.first.iter().flatten() {
+            self.show(*mark);
         }
     }
 
     /// Whether the record with this mark is the first of them.
     pub fn begin_at(&self, mark: Mark) -> bool {
-        match self.first[0] {
-            Some(first) => first.at == mark.at,
-            None => false,
-        }
+        self.first[0].is_some_and(|first| first.at == mark.at)
     }
 
     /// Keeps where a vote stands, if it is one of the first.
@@ -113,32 +106,27 @@ impl UnknownIds {
     ) -> Result<(), AllocError> {
         self.votes = self.votes.saturating_add(1);
         let is_beside = id.len() < vote.len();
-        if let Some(place) = self.places.get(id) {
-            if let Some(unknown) = self.found.get_mut(place as usize) {
-                unknown.votes.take(mark);
-                unknown.is_beside |= is_beside;
-                unknown.is_in_brackets &= is_in_brackets(vote);
-            }
-            return Ok(());
-        }
-        if self.found.len() < MOST_FAULTS {
+        if self.places.get(id).is_none() && self.found.len() < MOST_FAULTS {
             let place = u32::try_from(self.found.len()).unwrap_or(u32::MAX);
             self.places.insert(alloc, id, place)?;
-            let mut votes = Votes::none();
-            votes.take(mark);
-            let id = String::from_str(alloc, id)?;
             self.found.push(Unknown {
-                id,
-                is_beside,
-                is_in_brackets: is_in_brackets(vote),
-                votes,
+                id: String::from_str(alloc, id)?,
+                is_beside: false,
+                is_in_brackets: true,
+                votes: Votes::none(),
             })?;
+        }
+        let place = self.places.get(id).unwrap_or(u32::MAX);
+        if let Some(unknown) = self.found.get_mut(place as usize) {
+            unknown.votes.take(mark);
+            unknown.is_beside |= is_beside;
+            unknown.is_in_brackets &= is_in_brackets(vote);
         }
         Ok(())
     }
 
-    /// Whether the numbers of three of them, or more, follow each other from row to row, as a spreadsheet continues a
-    /// series.
+    /// Whether the numbers of three of them, or more, follow each other from row to row, as a spreadsheet
+    /// continues a series.
     pub fn are_series(&self) -> bool {
         let (mut before, mut run) = (None, 0u64);
         for unknown in &self.found {
@@ -147,11 +135,8 @@ impl UnknownIds {
             let at = unknown.votes.first[0].map_or(0, |mark| mark.at);
             let place = whole_number(number).map(|number| (number, at));
             let next = place.map(|(number, at)| (number.saturating_add(1), at.saturating_add(1)));
-            run = if place.is_some() && place == before {
-                run.saturating_add(1)
-            } else {
-                1
-            };
+            let is_next = place.is_some() && place == before;
+            run = if is_next { run.saturating_add(1) } else { 1 };
             if run >= SERIES {
                 return true;
             }

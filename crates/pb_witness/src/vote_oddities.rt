@@ -1,70 +1,12 @@
 //! What is odd in VOTES.
 
 use crate::behind_vote::BehindVote;
-use crate::cards::Cards;
-use crate::changed::without_hidden;
-use crate::fields::{bytes_at, column_of, text_at};
-use crate::firsts::Firsts;
+use crate::changed::{form_of, without_hidden};
+use crate::columns::FurtherColumns;
 use crate::last_vote::LastVote;
-use crate::mark::Mark;
-use crate::meta_oddities::Limits;
-use crate::oddities::{Odd, Oddities};
+use crate::prelude::*;
 use crate::project_oddities::has_total;
 use crate::rankings::Rankings;
-use crate::valid_columns::ValidColumn;
-use csv::ByteRecord;
-use pb_core::election::Election;
-use pb_core::money::Money;
-use pb_ids::IdTable;
-use pb_read::{Oddity, VoteColumns};
-use std::alloc::{AllocError, Global};
-
-/// The columns of VOTES whose numbers no count reads: those of points, and then those that say how many ballots
-/// a row is.
-pub(crate) const NUMBERS: &str =
-    "points|score|weight|weights|count|ballots|ballot_count|num_ballots|number_of_ballots|\
-    number_of_votes|voters|quantity|times";
-
-/// How many of them give points.
-const POINTS: usize = 2;
-
-/// A row of VOTES that is accepted.
-#[derive(Clone, Copy)]
-pub(crate) struct VoteRow<'a> {
-    pub(crate) record: &'a ByteRecord,
-    /// Where it begins.
-    pub(crate) mark: Mark,
-    pub(crate) columns: VoteColumns,
-    /// What is accepted so far; its voter is the last.
-    pub(crate) election: &'a Election,
-    /// The ids of the projects, each with its place.
-    pub(crate) projects: &'a Firsts,
-    /// What META asks of it.
-    pub(crate) limits: Limits,
-}
-
-impl VoteRow<'_> {
-    fn odd(&self, oddity: Oddity) -> Odd {
-        Odd::of_vote(oddity, self.mark, self.columns)
-    }
-}
-
-/// A column whose numbers no count reads.
-#[derive(Clone, Copy)]
-struct NumberColumn {
-    place: usize,
-    /// What it is odd for: points, or a number of ballots.
-    oddity: Oddity,
-    /// Whether no row had such a number yet.
-    is_open: bool,
-}
-
-/// A voter whose id has a character at an end that can't be seen: the place among the voters, and the row.
-#[derive(Clone, Copy)]
-struct MarkedVoter {
-    place: u32,
-    mark: Mark,
-}
 
 /// What is odd in VOTES, as its rows are read.
 #[derive(Drop)]
@@ -73,15 +15,12 @@ pub(crate) struct VoteOddities {
     /// Where the row of column names begins, and how many there are.
     header: Mark,
     pub(crate) names: usize,
-    numbers: Vec<NumberColumn>,
-    valid: Vec<ValidColumn>,
-    cards: Cards,
+    further: FurtherColumns,
     behind: BehindVote,
-    /// Whether there are others of these columns of which something may still be said.
-    has_further: bool,
-    /// The voters whose ids have such characters, and the places of their columns.
-    marked: Vec<MarkedVoter>,
-    columns: Option<VoteColumns>,
+    /// The voters whose ids have a character at an end that can't be seen: the place among all, and the row.
+    marked: Vec<(u32, Mark)>,
+    /// Where the last row begins, and what it is.
+    last_row: Option<(Mark, Part)>,
     /// How many ballots approve nothing, and how many of them come behind the last that approves something.
     empty: u64,
     last_empty: u64,
@@ -104,36 +43,14 @@ impl VoteOddities {
         header: Mark,
         projects: &Firsts,
     ) -> Result<VoteOddities, AllocError> {
-        let mut numbers = Vec::new(alloc);
-        for (kind, name) in NUMBERS.split('|').enumerate() {
-            if let Some(place) = column_of(names, name) {
-                numbers.push(NumberColumn {
-                    place,
-                    oddity: if kind < POINTS {
-                        Oddity::VotesWithPoints
-                    } else {
-                        Oddity::SeveralBallots
-                    },
-                    is_open: true,
-                })?;
-            }
-        }
-        let valid = ValidColumn::all_of(alloc, names)?;
-        let cards = Cards::of(alloc, names)?;
-        let behind = BehindVote::of(alloc, names, projects)?;
-        let has_columns = !numbers.is_empty() || !valid.is_empty();
-        let has_further = has_columns || behind.is_open();
         Ok(VoteOddities {
             alloc,
             header,
             names: names.len(),
-            numbers,
-            valid,
-            cards,
-            behind,
-            has_further,
+            further: FurtherColumns::of(alloc, names, header, Section::Votes)?,
+            behind: BehindVote::of(alloc, names, header, projects)?,
             marked: Vec::new(alloc),
-            columns: None,
+            last_row: None,
             empty: 0,
             last_empty: 0,
             first_empty: None,
@@ -141,79 +58,50 @@ impl VoteOddities {
             first_note: None,
             left_out: None,
             rankings: Rankings::new(alloc),
-            last: LastVote::none(),
+            last: LastVote::default(),
         })
     }
 
     /// Takes a row that is accepted.
-    pub(crate) fn take(
-        &mut self,
-        row: VoteRow<'_>,
-        found: &mut Oddities,
-    ) -> Result<(), AllocError> {
-        let ballot = last_ballot(row.election);
-        self.take_length(row, ballot.len() as u64, found);
+    pub(crate) fn take(&mut self, row: &Row<'_>, found: &mut Oddities) -> Result<(), AllocError> {
+        let (id_place, vote_place) = row.places();
+        let length = row.ballot().len();
+        self.take_length(row, length as u64, found);
         self.last.take(row);
-        let projects = row.election.projects().len();
-        if self.rankings.asks(ballot.len(), projects) {
-            self.rankings.take(text_at(row.record, row.columns.vote))?;
+        if self.rankings.asks(length, row.election.projects().len()) {
+            self.rankings.take(row.value())?;
         }
-        if names_twice(row.record, row.columns.vote, ballot.len()) {
+        if names_twice(row.record, vote_place, length) {
             found.take(row.odd(Oddity::TwiceInVote));
         }
-        self.columns = Some(row.columns);
-        let id = bytes_at(row.record, row.columns.voter);
+        self.last_row = Some((row.mark, row.part));
+        let id = bytes_at(row.record, id_place);
         let is_plain = is_plain_end(id.first()) && is_plain_end(id.last());
-        if !is_plain && is_marked(text_at(row.record, row.columns.voter)) {
+        if !is_plain && is_marked(row.id()) {
             let voters = row.election.voters().len().saturating_sub(1);
-            self.marked.push(MarkedVoter {
-                place: u32::try_from(voters).unwrap_or(u32::MAX),
-                mark: row.mark,
-            })?;
+            let place = u32::try_from(voters).unwrap_or(u32::MAX);
+            self.marked.push((place, row.mark))?;
         }
         if id.starts_with(b"#") || id.starts_with(b"//") {
             let odd = row.odd(Oddity::NoteRows).in_form(2);
             self.left_out = Some(odd.behind(self.left_out));
         }
-        if self.cards.is_open() {
-            self.cards.take(row.record, row.mark)?;
+        let is_long = row.record.len() > self.names;
+        if is_long {
+            let odd = row.odd(Oddity::SurplusFields).named_in(self.header);
+            found.take(odd.by(self.names as u64));
         }
-        if self.has_further || row.record.len() > self.names {
-            self.take_further(row, ballot, found)?;
+        if is_long || self.behind.is_open {
+            self.behind.take(row);
         }
-        Ok(())
-    }
-
-    /// Takes what stands in further columns, or beyond them.
-    fn take_further(
-        &mut self,
-        row: VoteRow<'_>,
-        ballot: &[u32],
-        found: &mut Oddities,
-    ) -> Result<(), AllocError> {
-        let odd = row.odd(Oddity::IdBehindVote).named_in(self.header);
-        self.behind.take(row.record, odd, ballot, row.projects);
-        if row.record.len() > self.names {
-            found.take(odd.as_a(Oddity::SurplusFields).by(self.names as u64));
+        if self.further.are_open {
+            self.further.take(row, found)?;
         }
-        for column in self.numbers.iter_mut() {
-            let value = text_at(row.record, column.place);
-            if column.is_open && column.has_number(value, ballot.len() as u64) {
-                column.is_open = false;
-                found.take(Odd::of_column(column.oddity, self.header, column.place));
-            }
-        }
-        for column in self.valid.iter_mut() {
-            column.take(row.record, odd.as_a(Oddity::ValidColumn).in_form(1), found)?;
-        }
-        self.has_further = self.behind.is_open()
-            || self.numbers.iter().any(|column| column.is_open)
-            || self.valid.iter().any(|column| column.is_open());
         Ok(())
     }
 
     /// Takes a ballot of this length, which may be none, more than META allows, or less than it asks for.
-    fn take_length(&mut self, row: VoteRow<'_>, length: u64, found: &mut Oddities) {
+    fn take_length(&mut self, row: &Row<'_>, length: u64, found: &mut Oddities) {
         let limit = row.election.max_length().map(u64::from);
         found.has_no_length = row.limits.min_length.unwrap_or(0) > limit.unwrap_or(u64::MAX);
         let is_long = length > limit.unwrap_or(u64::MAX);
@@ -224,7 +112,7 @@ impl VoteOddities {
         let limit = row.limits.min_length;
         let mut odd = row.odd(Oddity::EmptyBallot).by(length);
         if length == 0 {
-            odd = self.behind.with_stray(row, odd, self.header);
+            odd = self.behind.with_stray(row, odd);
         }
         if length < limit.unwrap_or(0) {
             found.take(Odd {
@@ -243,11 +131,11 @@ impl VoteOddities {
     }
 
     /// Takes a row without a vote, which may be a note if it has an id alone, or one like a note.
-    fn take_empty(&mut self, row: VoteRow<'_>, odd: Odd) {
-        let id = text_at(row.record, row.columns.voter);
+    fn take_empty(&mut self, row: &Row<'_>, odd: Odd) {
         self.empty = self.empty.saturating_add(1);
-        let is_note = has_space(id) || has_total(id);
-        let has_more = has_beside(row.record, row.columns.voter);
+        let is_note = has_space(row.id()) || has_total(row.id());
+        let is_beside = |place: usize| place != odd.id_place && !row.at(place).is_empty();
+        let has_more = (0..row.record.len()).any(is_beside);
         if odd.form > 0 || (!is_note && has_more) {
             self.last_empty = 0;
             return;
@@ -269,11 +157,13 @@ impl VoteOddities {
         found: &mut Oddities,
     ) -> Result<(), AllocError> {
         let voters = election.voters().len() as u64;
-        match self.left_out {
-            Some(odd) if odd.number.saturating_mul(2) <= voters => found.take(odd),
-            _ => {}
+        if let Some(odd) = self.left_out {
+            if odd.number.saturating_mul(2) <= voters {
+                found.take(odd);
+            }
         }
-        let are_last = self.last_empty == self.empty;
+        let may_be = self.last_empty > 0 && self.last_empty == self.empty;
+        let are_last = may_be && self.are_notes(election)?;
         let is_voter = self.first_has_more && have_spaces(election);
         if let (Some(odd), true) = (self.first_empty, are_last && !is_voter) {
             if self.empty == 1 {
@@ -287,18 +177,39 @@ impl VoteOddities {
                 found.take(odd.as_a(Oddity::NoteRows).in_form(1));
             }
         }
-        self.last.end(election, found);
+        let last = self
+            .last_row
+            .map(|(mark, part)| Odd::of_row(Oddity::FooterRow, mark, part));
+        self.last.end(election, last, found);
         let projects = election.projects().len() as u64;
-        if let (Some(columns), true) = (self.columns, self.rankings.are_rankings(projects)) {
-            let odd = Odd::of_column(Oddity::VotesWithPoints, self.header, columns.vote);
+        if let (Some(odd), true) = (last, self.rankings.are_rankings(projects)) {
+            let odd = Odd::of_column(Oddity::VotesWithPoints, self.header, odd.value_place);
             found.take(odd.in_form(1).by(projects));
         }
-        if let Some(columns) = self.columns {
-            let odd = Odd::of_vote(Oddity::SeveralBallots, self.header, columns);
-            self.cards.end(odd.named_in(self.header).in_form(1), found)?;
-        }
+        self.further.end(election, found)?;
         self.behind.end(self.alloc, found)?;
         self.take_marked(election, found)
+    }
+
+    /// Whether the ids of the last rows, which have no vote, look like notes, or at least not like those of
+    /// the voters above; or these rows are more than those above.
+    fn are_notes(&self, election: &Election) -> Result<bool, AllocError> {
+        let voters = election.voters();
+        let count = usize::try_from(self.last_empty).unwrap_or(usize::MAX);
+        let above = voters.len().saturating_sub(count);
+        let mut forms = IdTable::new(self.alloc);
+        for (place, voter) in voters.iter().enumerate() {
+            let id = voter.id.text();
+            let is_last = place >= above;
+            let is_note = is_last && (has_space(id) || has_total(id));
+            let form = form_of(self.alloc, id, false)?;
+            if !is_last {
+                let _ = forms.insert(self.alloc, form.as_str(), 0)?;
+            } else if !is_note && forms.get(form.as_str()).is_some() {
+                return Ok(count > above);
+            }
+        }
+        Ok(true)
     }
 
     /// Takes the rows of voters who are there twice but for a character that can't be seen.
@@ -312,13 +223,11 @@ impl VoteOddities {
                 let _ = ids.insert(self.alloc, voter.id.text(), 0)?;
             }
         }
-        for marked in &self.marked {
-            let id = match election.voters().get(marked.place as usize) {
-                Some(voter) => without_hidden(voter.id.text()),
-                None => "",
-            };
-            if let (Some(_), Some(columns)) = (ids.insert(self.alloc, id, 0)?, self.columns) {
-                found.take(Odd::of_vote(Oddity::HiddenCharacter, marked.mark, columns));
+        for (place, mark) in &self.marked {
+            let voter = election.voters().get(*place as usize);
+            let id = voter.map_or("", |voter| without_hidden(voter.id.text()));
+            if let (Some(_), Some((_, part))) = (ids.insert(self.alloc, id, 0)?, self.last_row) {
+                found.take(Odd::of_row(Oddity::HiddenCharacter, *mark, part));
             }
         }
         drop(ids);
@@ -326,40 +235,14 @@ impl VoteOddities {
     }
 }
 
-impl NumberColumn {
-    /// Whether a value of a row whose vote approves so many projects says what no count reads: that not each
-    /// project has one point, or that the row is not one ballot.
-    fn has_number(&self, value: &str, length: u64) -> bool {
-        if self.oddity == Oddity::VotesWithPoints {
-            return value
-                .split(',')
-                .any(|piece| !matches!(piece.trim(), "" | "1"));
-        }
-        match Money::read(value) {
-            Ok(Money(hundredths)) => {
-                hundredths != 100 && hundredths != length.saturating_mul(100)
-            }
-            Err(_) => false,
-        }
-    }
-}
-
-/// The places of the projects that the last ballot approves.
-fn last_ballot(election: &Election) -> &[u32] {
-    match election.voters().last() {
-        Some(voter) => voter.ballot.places(),
-        None => &[],
-    }
-}
-
 /// Takes a row whose projects cost more together than META allows, or less than it asks for.
-fn take_cost(row: VoteRow<'_>, found: &mut Oddities) {
+fn take_cost(row: &Row<'_>, found: &mut Oddities) {
     let (least, most) = (row.limits.min_cost, row.limits.max_cost);
     if least.is_none() && most.is_none() {
         return;
     }
     let mut cost = 0u64;
-    for place in last_ballot(row.election) {
+    for place in row.ballot() {
         if let Some(project) = row.election.projects().get(*place as usize) {
             cost = cost.saturating_add(project.cost().0);
         }
@@ -382,9 +265,7 @@ fn take_cost(row: VoteRow<'_>, found: &mut Oddities) {
 fn names_twice(row: &ByteRecord, vote: usize, length: usize) -> bool {
     let mut commas = 0usize;
     for byte in bytes_at(row, vote) {
-        if *byte == b',' {
-            commas = commas.saturating_add(1);
-        }
+        commas = commas.saturating_add(usize::from(*byte == b','));
     }
     if commas < length {
         return false;
@@ -404,14 +285,9 @@ fn is_plain_end(byte: Option<&u8>) -> bool {
 /// Whether an id has a character at an end that can't be seen, and is not of ASCII.
 fn is_marked(id: &str) -> bool {
     let bytes = id.as_bytes();
-    let is_foreign = |byte: Option<&u8>| byte.map_or(false, |byte| !byte.is_ascii());
+    let is_foreign = |byte: Option<&u8>| byte.is_some_and(|byte| !byte.is_ascii());
     let has_some = is_foreign(bytes.first()) || is_foreign(bytes.last());
     has_some && without_hidden(id).len() < id.len()
-}
-
-/// Whether a row has a text beside that at this place.
-fn has_beside(row: &ByteRecord, place: usize) -> bool {
-    (0..row.len()).any(|other| other != place && !text_at(row, other).is_empty())
 }
 
 /// Whether a text has white space in it.
@@ -421,10 +297,6 @@ pub(crate) fn has_space(text: &str) -> bool {
 
 /// Whether the id of a voter with a vote has white space in it.
 fn have_spaces(election: &Election) -> bool {
-    for voter in election.voters() {
-        if !voter.ballot.places().is_empty() && has_space(voter.id.text()) {
-            return true;
-        }
-    }
-    false
+    let mut voters = election.voters().iter();
+    voters.any(|voter| !voter.ballot.places().is_empty() && has_space(voter.id.text()))
 }

@@ -2,14 +2,9 @@
 
 use crate::faulty_record::FaultyRecord;
 use crate::fields::is_blank;
-use crate::mark::Mark;
+use crate::prelude::*;
 use crate::records::TextRecords;
-use crate::text::Text;
 use crate::witness::Witness;
-use pb_read::{ReadKind, Stage};
-use std::alloc::{AllocError, Global};
-use std::io::Read;
-use std::rt::Files;
 
 /// Where the rows of some voters stand.
 #[derive(Drop)]
@@ -36,8 +31,8 @@ impl FirstRows {
     }
 }
 
-/// Finds where the first rows of the voters stand whose ids are repeated, if the text is a file. A witness keeps
-/// no mark of each voter, so the rows of VOTES are read again up to the last of them.
+/// Finds where the first rows of the voters stand whose ids are repeated, if the text is a file. A witness
+/// keeps no mark of each voter, so the rows of VOTES are read again up to the last of them.
 pub fn first_rows<R: Files>(
     text: &Text<'_, R>,
     witness: &Witness,
@@ -61,10 +56,7 @@ pub fn first_rows<R: Files>(
 fn repeated(alloc: Global, refused: &[FaultyRecord]) -> Result<Vec<u32>, AllocError> {
     let mut places = Vec::new(alloc);
     for row in refused {
-        if let (ReadKind::RepeatedVoter, Some(place)) = (
-            row.refusal.fault.kind,
-            row.refusal.earlier,
-        ) {
+        if let (ReadKind::RepeatedVoter, Some(place)) = (row.kind(), row.refusal.earlier) {
             places.push(place)?;
         }
     }

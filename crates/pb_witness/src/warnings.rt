@@ -2,22 +2,14 @@
 
 ghost use Rattle.std.specs.Prelude.{◌≡◌, Option};
 
-use crate::fields::text_at;
-use crate::mark::Mark;
 use crate::meta_oddities::MetaOddities;
-use crate::oddities::{Odd, Oddities};
-use crate::project_oddities::{AcceptedProject, ProjectOddities};
+use crate::prelude::*;
+use crate::project_oddities::ProjectOddities;
 use crate::swallowed::swallows_row;
-use crate::vote_oddities::{VoteOddities, VoteRow};
+use crate::vote_oddities::VoteOddities;
 use crate::witness::Witness;
-use csv::ByteRecord;
-use pb_core::election::Election;
 use pb_core::no_memory::NoMemory;
-use pb_read::{
-    Column, Compare, Heed, MetaKey, Oddity, Part, Refusal, Section, Stage, Warn, Warning,
-    WarningRow, Watch,
-};
-use std::alloc::{AllocError, Global};
+use pb_read::{Compare, Heed, MetaKey, Refusal, Warn, Warning, WarningRow, Watch};
 
 /// Looks on while a file is read, and collects warnings: all of them for a check, and what can change the
 /// result for a count.
@@ -71,20 +63,18 @@ impl Warnings {
 
     /// What was found, once the file has ended and may end there, where anything was.
     pub fn found(&self) -> Option<&Oddities> {
-        if self.first.is_some() {
-            Some(&self.found)
-        } else {
-            None
-        }
+        self.first.is_some().then_some(&self.found)
     }
 
     /// The rule that META names and where, once the file has ended and may end there.
     pub fn rule(&self) -> Option<(&str, Mark)> {
-        if self.has_ended {
-            self.meta.rule()
-        } else {
-            None
-        }
+        self.meta.rule().filter(|_| self.has_ended)
+    }
+
+    /// Counts a row of VOTES or of PROJECTS.
+    fn count(&mut self, is_vote: bool, is_project: bool) {
+        self.rows.0 = self.rows.0.saturating_add(u64::from(is_vote));
+        self.rows.1 = self.rows.1.saturating_add(u64::from(is_project));
     }
 
     /// Takes a record that is accepted.
@@ -98,40 +88,25 @@ impl Warnings {
         let names = self.names_of(part);
         let found = &mut self.found;
         if swallows_row(row, part, names, &self.witness.ids.projects) {
-            found.take(Odd::of_part(Oddity::SwallowedRows, mark, part));
+            found.take(Odd::of_row(Oddity::SwallowedRows, mark, part));
         }
         match part {
             Part::Other | Part::Head(_) => Ok(()),
             Part::Names(section) => self.take_names(row, mark, section, election),
             Part::Key => self.meta.take(row, mark, self.witness.keys(), found),
-            Part::Project(columns) => {
-                self.rows.1 = self.rows.1.saturating_add(1);
-                match &mut self.projects {
-                    Some(projects) => {
-                        let row = AcceptedProject {
-                            record: row,
-                            mark,
-                            columns,
-                            projects: &self.witness.ids.projects,
-                        };
-                        projects.take(row, found)
-                    }
-                    None => Ok(()),
-                }
-            }
-            Part::Vote(columns) => {
-                self.rows.0 = self.rows.0.saturating_add(1);
-                let row = VoteRow {
+            Part::Project(_) | Part::Vote(_) => {
+                let row = Row {
                     record: row,
                     mark,
-                    columns,
+                    part,
                     election,
                     projects: &self.witness.ids.projects,
                     limits: self.meta.limits,
                 };
-                match &mut self.votes {
-                    Some(votes) => votes.take(row, found),
-                    None => Ok(()),
+                match (part, &mut self.projects, &mut self.votes) {
+                    (Part::Project(_), Some(projects), _) => projects.take(&row, found),
+                    (Part::Vote(_), _, Some(votes)) => votes.take(&row, found),
+                    _ => Ok(()),
                 }
             }
         }
@@ -170,7 +145,7 @@ impl Warnings {
             }
             Section::Votes => {
                 if let Some(projects) = &self.projects {
-                    projects.end_rows(election, found);
+                    projects.end_rows(election, found)?;
                 }
                 take_repeated(names, mark, [Column::VoterId, Column::Vote], found);
                 let projects = &self.witness.ids.projects;
@@ -228,6 +203,10 @@ pub(crate) fn places_of(row: &ByteRecord, column: Column) -> (usize, u64) {
 impl Watch for Warnings {
     fn see(&mut self, record: &ByteRecord, at: u32, part: Part, election: &Election) {
         let mark = Mark::of(record, u64::from(at));
+        self.count(
+            matches!(part, Part::Vote(_)),
+            matches!(part, Part::Project(_)),
+        );
         if self.take(record, mark, part, election).is_err() {
             self.found.fail();
         }
@@ -237,11 +216,10 @@ impl Watch for Warnings {
     fn refuse(&mut self, record: &ByteRecord, refusal: Refusal, stage: &Stage) {
         self.has_fault = true;
         self.witness.refuse(record, refusal, stage);
-        match stage {
-            Stage::InProjects(_) => self.rows.1 = self.rows.1.saturating_add(1),
-            Stage::InVotes(_) => self.rows.0 = self.rows.0.saturating_add(1),
-            _ => {}
-        }
+        self.count(
+            matches!(stage, Stage::InVotes(_)),
+            matches!(stage, Stage::InProjects(_)),
+        );
     }
 
     fn end(&mut self, election: &Election) {

@@ -2,19 +2,13 @@
 
 use crate::changed::{is_base64, is_nothing};
 use crate::faulty_record::{FaultyRecord, piece_of};
-use crate::fields::text_at;
 use crate::ids::Ids;
 use crate::keys::Keys;
-use crate::mark::Mark;
+use crate::prelude::*;
 use crate::rows::VoteRows;
 use crate::seen::Seen;
-use crate::text::Text;
 use crate::unknown::{Unknown, UnknownIds};
-use csv::ByteRecord;
-use pb_core::election::Election;
-use pb_read::{MOST_FAULTS, Part, ReadKind, Refusal, Stage, VoteColumns, Watch, check_pb};
-use std::alloc::{AllocError, Global};
-use std::rt::Files;
+use pb_read::{MOST_FAULTS, Refusal, VoteColumns, Watch, check_pb};
 
 /// Looks on while a .pb file is read, and keeps what words need of the first 1,000 records that are refused.
 #[derive(Drop)]
@@ -81,6 +75,8 @@ impl Witness {
         }
         if let Part::Vote(columns) = part {
             self.rows.accepted = self.rows.accepted.saturating_add(1);
+            let is_cut = bytes_at(record, columns.vote).last() == Some(&b',');
+            self.rows.cut = self.rows.cut.saturating_add(u64::from(is_cut));
             let is_first = !self.rows.names_project;
             self.rows.names_project |= is_first && !text_at(record, columns.vote).is_empty();
         }
@@ -134,7 +130,10 @@ impl Witness {
                 let mark = Mark::of(record, u64::from(refusal.fault.at));
                 self.unknown.take(self.alloc, id, vote, mark)
             }
-            (ReadKind::RepeatedVoter, _, Some(place)) => self.rows.repeat(place, vote),
+            (ReadKind::RepeatedVoter, _, Some(place)) => {
+                let project = self.ids.projects.place(vote);
+                self.rows.repeat(place, vote, project)
+            }
             _ => Ok(()),
         }
     }

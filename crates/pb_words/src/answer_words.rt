@@ -1,13 +1,9 @@
 //! Words for the answer to a request that was typed with ids of projects.
 
-use crate::words::PlaceholderValue::{Number, Own, Quoted};
-use crate::words::{Said, WordsWriter};
-use csv::ByteRecord;
+use crate::prelude::*;
 use pb_core::answer::Answer;
 use pb_core::row_words::{CAST, REPLACE, SHUT};
-use pb_witness::fields::{raw_text, text_at};
 use pb_witness::last_rows::LastRows;
-use std::alloc::Global;
 
 /// Words for the answer to the row with this number, from 1, of standard input. They name its voter and its
 /// projects, if the row is among those that were read last.
@@ -42,20 +38,12 @@ fn put_projects(out: &mut WordsWriter, ids: &str) {
         1 => " (project ",
         _ => " (projects ",
     };
-    let mut is_first = true;
-    for piece in ids.split(',') {
-        put_id(out, &mut is_first, first, piece.trim());
+    let mut before = first;
+    for id in ids.split(',').filter(|id| !id.trim().is_empty()) {
+        out.fill("{}{}", &[Own(before), Quoted(id.trim())]);
+        before = ", ";
     }
     out.put(")")
-}
-
-/// Puts the id of a project, unless it is empty; `first` stands before the first one.
-fn put_id(out: &mut WordsWriter, is_first: &mut bool, first: &'static str, id: &str) {
-    if !id.is_empty() {
-        let before = if *is_first { first } else { ", " };
-        out.fill("{}{}", &[Own(before), Quoted(id)]);
-        *is_first = false;
-    }
 }
 
 /// Puts whether a request was carried out, and why it was not.

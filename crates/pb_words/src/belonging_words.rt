@@ -1,8 +1,6 @@
 //! Words for a journal and the file that it belongs to.
 
-use crate::words::PlaceholderValue::{Beside, Name, Own};
-use crate::words::{Said, failed, said};
-use std::alloc::Global;
+use crate::prelude::*;
 use std::io::Error;
 
 /// The end of the name of the file beside a journal.

@@ -1,10 +1,8 @@
 //! Words for a count's options, and for raises that were spent.
 
-use crate::words::PlaceholderValue::{Amount, Count, Name, Number, Own};
-use crate::words::{Said, WordsWriter};
+use crate::prelude::*;
 use pb_rounds::count_fault::CountFault;
 use pb_rounds::options::CountOptions;
-use std::alloc::Global;
 
 /// What is known of raises beyond those that were allowed and spent.
 #[derive(Clone, Copy)]

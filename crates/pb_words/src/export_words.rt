@@ -1,11 +1,7 @@
 //! Words for an exported file: what it lacks, and why there is none.
 
-use crate::words::PlaceholderValue::{Name, Own, Quoted};
-use crate::words::{Said, WordsWriter, said};
-use pb_witness::text::Text;
+use crate::prelude::*;
 use pb_witness::unwritable::{project_with_comma, voter_like_a_heading};
-use std::alloc::Global;
-use std::rt::Files;
 
 /// The keys of META that Pabulib asks for, beside those that each exported file has.
 pub const ASKED_FOR: [&str; 6] = [

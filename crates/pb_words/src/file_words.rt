@@ -1,13 +1,9 @@
 //! Words for files: those that cannot be opened, read or written.
 
-use crate::mark_words::put_record_number;
-use crate::words::PlaceholderValue::{Name, Own};
-use crate::words::{Said, WordsWriter, failed, said};
+use crate::prelude::*;
 use pb_witness::failures::{is_folder, opening_failure, reading_failure};
-use pb_witness::text::{Text, is_file};
-use std::alloc::Global;
+use pb_witness::text::is_file;
 use std::io::{Error, ErrorKind};
-use std::rt::Files;
 
 /// What is said of a folder in the place of a file.
 pub(crate) const FOLDER: &str = "{}: this is a folder.\nName a file in it.\n";
@@ -44,7 +40,10 @@ pub fn write_words(alloc: Global, path: Option<&str>, reason: Option<&Error>) ->
             Name(path),
             "The result was not written. Name a file in a folder that exists.\n",
         ),
-        (Some(_), _) => (Name(path), UNWRITTEN),
+        (Some(_), _) => (
+            Name(path),
+            "The result was not written. Check that you may write to this folder, and that the disk is not full. A file that already had this name is unchanged.\n",
+        ),
         (None, _) => (
             Own("standard output"),
             "Check for a full disk or a closed pipe. Do not use the part that was written.\n",
@@ -58,10 +57,6 @@ pub fn write_words(alloc: Global, path: Option<&str>, reason: Option<&Error>) ->
         remedy,
     )
 }
-
-const UNWRITTEN: &str =
-    "The result was not written. Check that you may write to this folder, and that the disk is not full. \
-    A file that already had this name is unchanged.\n";
 
 /// Puts why a text could not be read to its end, at the record with this number where there is one, if it has
 /// a path; answers whether it has. A file is tried once more, for the system's reason.

@@ -1,11 +1,8 @@
 //! Words for the faults of a journal.
 
 use crate::file_words::{NO_MEMORY, put_reading_failed};
-use crate::mark_words::{put_mark, put_record_number, put_subject, put_unclosed};
+use crate::prelude::*;
 use crate::row_words::{JOURNAL_FIELDS, put_field_count, put_flaw};
-use crate::words::PlaceholderValue::{Bytes, Count, Name, Number, Numbers, Own};
-use crate::words::{Said, WordsWriter};
-use csv::ByteRecord;
 use pb_core::answer::Answer;
 use pb_core::row_words::{
     ALREADY_CAST, CAST, DESK_SHUT, NO_BALLOT, REPLACE, TOO_LONG, VOTER_LIMIT, WITHDRAW,
@@ -16,18 +13,9 @@ use pb_desk::row_flaw::{Condition, flaw_of_journal_row};
 use pb_script::ROOM;
 use pb_witness::audited::{AuditPaths, Audited};
 use pb_witness::desk_answer::DeskAnswer;
-use pb_witness::fields::{bytes_at, raw_text};
-use pb_witness::mark::Mark;
-use std::alloc::Global;
-use std::rt::Files;
 
 /// What is said of a row whose number is not the next one.
 const MISPLACED: &str = "A row is missing, repeated or in the wrong order.";
-
-/// What is said of a journal that is perhaps another file, has an incomplete end, or is of another version.
-const OTHER_FILE: &str =
-    "Check that {} is the journal. (The .pb file comes first in the command, then the journal.) \
-    If it is the journal, it is not as the desk wrote it.";
 
 const INCOMPLETE: &str =
     "If the power failed or the disk was full, run `pb_app serve` first: it cuts off the incomplete end. \
@@ -159,7 +147,10 @@ fn put_row<R: Files>(out: &mut WordsWriter, audited: &Audited<R>, row: &ByteReco
 /// may be another file.
 fn put_bad_remedy<R: Files>(out: &mut WordsWriter, audited: &Audited<R>, mark: Mark) {
     if audited.at == 1 && audited.journal.before == 0 {
-        out.fill(OTHER_FILE, &[Name(audited.journal.path)]);
+        out.fill(
+            "Check that {} is the journal. (The .pb file comes first in the command, then the journal.) If it is the journal, it is not as the desk wrote it.",
+            &[Name(audited.journal.path)],
+        );
         put_get(out, audited, "")
     } else if !audited.is_served && audited.has_gap_before(mark) {
         put_get(out, audited, INCOMPLETE)

@@ -9,6 +9,7 @@
 
 pub mod answer_words;
 pub mod belonging_words;
+mod case;
 pub mod count_words;
 pub mod export_words;
 mod faulty_record;
@@ -19,6 +20,7 @@ mod mark_words;
 mod meta_words;
 pub mod output_words;
 pub mod page_words;
+mod prelude;
 pub mod prompts;
 mod read_rules;
 mod read_texts;

@@ -1,10 +1,8 @@
 //! What a file looks like that is none of the program's texts.
 
+use crate::prelude::*;
 use crate::unknown_words::put_clean;
-use crate::words::PlaceholderValue::{Name, Own};
-use crate::words::WordsWriter;
-use pb_witness::text::{Text, is_json, is_web_page};
-use std::rt::Files;
+use pb_witness::text::{is_json, is_web_page};
 
 /// What files look like that begin with certain bytes, and what to do with them.
 const LOOKS: &[(&[u8], &str)] = &[
@@ -58,8 +56,8 @@ const UTF_16: &str =
 /// What is said of a file in which no line has a text.
 pub(crate) const EMPTY: &str = ": the file is empty.\nGet or save the file again.\n";
 
-/// Puts what a text that is a file looks like by its first bytes, and what to do, and answers whether they say
-/// something.
+/// Puts what a text that is a file looks like by its first bytes, and what to do, and answers whether they
+/// say something.
 pub(crate) fn put_looks<R: Files>(out: &mut WordsWriter, text: &Text<R>) -> bool {
     let mut buffer = [0u8; 512];
     let Some(count) = text.read_start(&mut buffer) else {

@@ -1,11 +1,7 @@
 //! Where a record stands in its text, in words.
 
-use crate::words::PlaceholderValue::{Name, Number, Own, Quoted};
-use crate::words::WordsWriter;
-use pb_witness::mark::Mark;
+use crate::prelude::*;
 use pb_witness::quote::{Span, span_of};
-use pb_witness::text::Text;
-use std::rt::Files;
 
 /// What to do about it.
 pub(crate) const CLOSE_IT: &str =
@@ -86,8 +82,5 @@ pub(crate) fn put_swallowing<R: Files>(
     text: &Text<R>,
     row: Option<Mark>,
 ) -> bool {
-    match row {
-        Some(mark) => put_over(out, span_of(text, mark), true),
-        None => false,
-    }
+    row.is_some_and(|mark| put_over(out, span_of(text, mark), true))
 }

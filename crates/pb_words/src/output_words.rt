@@ -1,8 +1,6 @@
 //! Words for a result that does not go to the path that was named for it.
 
-use crate::words::PlaceholderValue::Name;
-use crate::words::{Said, said};
-use std::alloc::Global;
+use crate::prelude::*;
 
 /// Words for a path that leads to a text that the run reads; one without a path is standard input.
 pub fn read_output_words(alloc: Global, path: &str, text: Option<&str>) -> Said {

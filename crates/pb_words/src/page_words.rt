@@ -1,7 +1,6 @@
 //! What is said of a file with the words of a page that is refused: what is wrong, and what to do.
 
-use crate::words::PlaceholderValue::{Number, Own, Quoted};
-use crate::words::{PlaceholderValue, WordsWriter};
+use crate::prelude::*;
 
 /// A line of such a file, where its key is known.
 #[derive(Clone, Copy)]
@@ -17,84 +16,60 @@ pub struct KeyLine<'a> {
     pub nouns: &'static [&'static str],
 }
 
+/// What is wrong with such a line.
+#[derive(Clone, Copy)]
+pub enum KeyFault {
+    /// A line before it has its key.
+    Repeated,
+    /// It has a character that could be taken for markup.
+    Markup,
+    /// Its key does not take its value.
+    BadValue,
+    /// Its sentence does not have a place that it names, or it has a brace that belongs to none.
+    UnknownPlace,
+    LoneBrace,
+    /// It lacks the place of the number at this index, or has it more than once.
+    MissingPlace(u8),
+    RepeatedPlace(u8),
+}
+
 impl KeyLine<'_> {
-    /// Puts the line and its key, and what is wrong there.
-    fn put(&self, out: &mut WordsWriter, what: &'static str) {
-        out.fill(
-            ": line {}, key {}{}",
-            &[Number(u64::from(self.number)), Own(self.key), Own(what)],
-        )
-    }
-
-    /// Puts that a line before it has its key.
-    pub fn put_repeated(&self, out: &mut WordsWriter) {
-        self.put(
-            out,
-            ": an earlier line has the same key.\nDelete one of the two lines.\n",
-        )
-    }
-
-    /// Puts which character it has that could be taken for markup.
-    pub fn put_markup(&self, out: &mut WordsWriter) {
-        let otherwise = if self.value.is_empty() {
-            "<, >, & or a control character"
-        } else {
-            "a control character"
+    /// Puts the line and its key, what is wrong there, and what to do.
+    pub fn put(&self, out: &mut WordsWriter, fault: KeyFault) {
+        let place = |index: u8| Own(self.numbers.get(usize::from(index)).copied().unwrap_or(""));
+        let (form, value) = match fault {
+            KeyFault::Repeated => (
+                ": an earlier line has the same key.\nDelete one of the two lines.\n",
+                Own(""),
+            ),
+            KeyFault::Markup => (
+                ": the sentence has {}, which is not allowed here.\nWrite the sentence without <, >, & and control characters.\n",
+                shown(markup_in(self.value), unseen_in(self.value)),
+            ),
+            KeyFault::BadValue => (
+                ": {} is not allowed.\nWrite {}.\n",
+                shown(self.value, "this value"),
+            ),
+            KeyFault::UnknownPlace => (
+                ": {} in braces is not allowed in this sentence.\n",
+                shown(self.unknown_place(), "a name"),
+            ),
+            KeyFault::LoneBrace => (": a `{` or a `}` has no partner.\n", Own("")),
+            KeyFault::MissingPlace(index) => (
+                ": {{}} is missing.\nWrite it where the page should show this value.\n",
+                place(index),
+            ),
+            KeyFault::RepeatedPlace(index) => (
+                ": {{}} is there more than once.\nWrite it only once.\n",
+                place(index),
+            ),
         };
-        self.put(out, "");
-        out.fill(
-            ": the sentence has {}, which is not allowed here.\nWrite the sentence without <, >, & and control characters.\n",
-            &[shown(markup_in(self.value), otherwise)],
-        )
-    }
-
-    /// Puts that its key does not take its value, and which values it takes.
-    pub fn put_bad_value(&self, out: &mut WordsWriter) {
-        self.put(out, "");
-        let value = shown(self.value, "this value");
-        out.fill(
-            ": {} is not allowed.\nWrite {}.\n",
-            &[value, Own(values_of(self.key))],
-        )
-    }
-
-    /// Puts which place its sentence does not have, and which it has.
-    pub fn put_unknown_place(&self, out: &mut WordsWriter) {
-        self.put(out, "");
-        out.fill(
-            ": {} in braces is not allowed in this sentence.\n",
-            &[shown(self.unknown_place(), "a name")],
-        );
-        self.put_places(out)
-    }
-
-    /// Puts that it has a brace that belongs to no place, and which places its sentence has.
-    pub fn put_lone_brace(&self, out: &mut WordsWriter) {
-        self.put(out, ": a `{` or a `}` has no partner.\n");
-        self.put_places(out)
-    }
-
-    /// Puts that it lacks the place of the number at this index.
-    pub fn put_missing_place(&self, out: &mut WordsWriter, index: u8) {
-        self.put(out, "");
-        out.fill(
-            ": {{}} is missing.\nWrite it where the page should show this value.\n",
-            &[self.number_at(index)],
-        )
-    }
-
-    /// Puts that it has the place of the number at this index more than once.
-    pub fn put_repeated_place(&self, out: &mut WordsWriter, index: u8) {
-        self.put(out, "");
-        out.fill(
-            ": {{}} is there more than once.\nWrite it only once.\n",
-            &[self.number_at(index)],
-        )
-    }
-
-    /// The name of the place of the number at this index.
-    fn number_at(&self, index: u8) -> PlaceholderValue<'static> {
-        Own(self.numbers.get(usize::from(index)).copied().unwrap_or(""))
+        let line = Number(u64::from(self.number));
+        out.fill(": line {}, key {}", &[line, Own(self.key)]);
+        out.fill(form, &[value, Own(values_of(self.key))]);
+        if matches!(fault, KeyFault::UnknownPlace | KeyFault::LoneBrace) {
+            self.put_places(out)
+        }
     }
 
     /// The first name in braces that is not one of its places.
@@ -195,6 +170,15 @@ fn markup_in(sentence: &str) -> &'static str {
         }
     }
     ""
+}
+
+/// What a sentence has that could be taken for markup and is none of these; of a line that could not be read
+/// again, all that it may be.
+fn unseen_in(sentence: &str) -> &'static str {
+    match sentence {
+        "" => "<, >, & or a control character",
+        _ => "a control character",
+    }
 }
 
 /// Which values a key takes that takes only some; the empty text of a sentence's key.

@@ -1,35 +1,16 @@
 //! What is said of each fault of a .pb file: what is wrong, and what to do.
 
 use crate::meta_words::ONE_CHOICE;
+use crate::prelude::*;
 use crate::read_texts::RULES;
 use crate::unknown_words::DROP_ZERO_COST;
-use crate::words::PlaceholderValue::Quoted;
-use crate::words::WordsWriter;
 use pb_core::money::Money;
-use pb_read::ReadKind;
 use pb_witness::changed::{
     has_one_of, has_power, is_calculation, is_grouped, is_nothing, is_one_of, without_hidden,
 };
 
-/// What to do about an amount that seems to be worked out.
-const CALCULATION: &str =
-    "If this is a calculation, work it out, and write the result with digits only, like `1200` or `1200.50`. If not, ask whoever made the file which amount is meant.\n";
-
-/// What to do about an amount that a spreadsheet may have shortened.
-const POWER: &str =
-    "Spreadsheets shorten numbers like this, and digits may be lost. Get the amount again, and write it with digits only, like `1200` or `1200.50`.\n";
-
 /// What to do about an amount with a word for thousands or millions, and about one with a mark of a footnote.
 const SHORT_WORDS: &str = "k|t|m|tys|tys.|tsd|tsd.|mln|mio|mio.|thousand|million";
-
-const SHORT_WORD: &str =
-    "If this stands for thousands or millions, write the amount in full, with digits only, like `1200` or `1200.50`.\n";
-
-const NO_VALUE: &str =
-    "A spreadsheet writes this where a column is too narrow, or a formula is wrong. Get the amount again.\n";
-
-const FOOTNOTE: &str =
-    "If a mark of a footnote is behind the amount, leave it out. Write the amount with digits only, like `1200` or `1200.50`.\n";
 
 /// Words beside an amount that may not be the whole cost, and beside one that is.
 const PARTS: &str =
@@ -38,12 +19,6 @@ const PARTS: &str =
     approx|approximately|estimated";
 
 const WHOLES: &str = "gross|brutto|incl|including";
-
-const PART: &str =
-    "A word beside the amount may say that it is not the whole cost, but one without tax, for a year or a piece, or a limit. Ask for the whole cost, with tax, and write it with digits only, like `1200` or `1200.50`.\n";
-
-const CENTS: &str =
-    "If the two digits behind the sign are decimals, write a point in place of it, like `1200.50`. If not, ask whoever made the file which amount is meant.\n";
 
 /// Whether a value is digits, one sign that is no letter, and two digits.
 fn has_cents(value: &str) -> bool {
@@ -56,28 +31,45 @@ fn has_cents(value: &str) -> bool {
     behind.len() < value.len() && is_sign && are_two
 }
 
-/// What to do about an amount, where more is known than that it is refused.
-pub(crate) fn amount_remedy(value: &str) -> Option<&'static str> {
+/// Whether a value is an amount with a minus sign before or behind it, or in brackets, as some programs write
+/// it.
+fn is_below_0(value: &str) -> bool {
+    let is_minus = |c: char| "-\u{2212}\u{2013}".contains(c);
+    let is_signed = value.starts_with(is_minus) || value.ends_with(is_minus);
+    let is_in_brackets = value.starts_with('(') && value.ends_with(')');
+    let bare = value.trim_matches(|c: char| is_minus(c) || "() ".contains(c));
+    let is_digit = |c: char| c.is_ascii_digit();
+    let is_other = |c: char| !(c.is_ascii_digit() || c.is_whitespace() || c == '.' || c == ',');
+    let is_amount = bare.starts_with(is_digit)
+        && bare.ends_with(is_digit)
+        && !bare.contains(is_other);
+    is_amount && (is_signed || is_in_brackets)
+}
+
+/// What to do about an amount.
+pub(crate) fn amount_remedy(value: &str) -> &'static str {
     let unit = value.trim_start_matches(|c: char| c.is_ascii_digit() || " .,".contains(c));
     let is_noted = value.starts_with(|c: char| c.is_ascii_digit())
         && !unit.contains(|c: char| c.is_alphabetic())
         && unit.ends_with(|c: char| ")*\u{b9}\u{b2}\u{b3}".contains(c));
     if value.starts_with('#') {
-        Some(NO_VALUE)
+        "A spreadsheet writes this where a column is too narrow, or a formula is wrong. Get the amount again.\n"
+    } else if is_below_0(value) {
+        "An amount can't be below 0. Find out the right one: don't just delete the sign.\n"
     } else if is_calculation(value) {
-        Some(CALCULATION)
+        "If this is a calculation, work it out, and write the result with digits only, like `1200` or `1200.50`. If not, ask whoever made the file which amount is meant.\n"
     } else if has_power(value) {
-        Some(POWER)
+        "Spreadsheets shorten numbers like this, and digits may be lost. Get the amount again, and write it with digits only, like `1200` or `1200.50`.\n"
     } else if has_cents(value) {
-        Some(CENTS)
+        "If the two digits behind the sign are decimals, write a point in place of it, like `1200.50`. If not, ask whoever made the file which amount is meant.\n"
     } else if is_one_of(SHORT_WORDS, unit) {
-        Some(SHORT_WORD)
+        "If this stands for thousands or millions, write the amount in full, with digits only, like `1200` or `1200.50`.\n"
     } else if has_one_of(PARTS, value) && !has_one_of(WHOLES, value) {
-        Some(PART)
+        "A word beside the amount may say that it is not the whole cost, but one without tax, for a year or a piece, or a limit. Ask for the whole cost, with tax, and write it with digits only, like `1200` or `1200.50`.\n"
     } else if is_noted {
-        Some(FOOTNOTE)
+        "If a mark of a footnote is behind the amount, leave it out. Write the amount with digits only, like `1200` or `1200.50`.\n"
     } else {
-        None
+        words_of(ReadKind::BadMoney).1
     }
 }
 

@@ -1,5 +1,5 @@
-//! What is said of each fault of a .pb file, where no more is known: what is wrong, and on further lines what to do.
-//! They are in the order in which `ReadKind` declares the faults.
+//! What is said of each fault of a .pb file, where no more is known: what is wrong, and on further lines what
+//! to do. They are in the order in which `ReadKind` declares the faults.
 
 pub(crate) const RULES: [&str; 22] = [
     "the file could not be read to its end.

@@ -2,19 +2,12 @@
 
 use crate::file_words::put_reading_failed;
 use crate::looks::put_looks;
-use crate::mark_words::put_record_number;
+use crate::prelude::*;
 use crate::read_rules::words_of;
-use crate::record_words::{put_end, put_found};
-use crate::unknown_words::is_told as is_vote_told;
-use crate::words::PlaceholderValue::{Name, Number, Own};
-use crate::words::{Said, WordsWriter};
-use pb_read::{ReadFault, ReadKind, Stage};
-use pb_witness::faulty_record::FaultyRecord;
+use pb_read::{ReadFault, Stage};
 use pb_witness::known::{Known, ReadAgain, Repeat};
-use pb_witness::text::Text;
 use pb_witness::witness::Witness;
-use std::alloc::Global;
-use std::rt::Files;
+use std::mem;
 
 /// Words for a fault of the .pb file with this path; no path is standard input. If the witness did not look
 /// on while the file was read, or the cause of the fault may be in the rest, the file is read once more.
@@ -69,10 +62,7 @@ fn put_faults<R: Files>(
 ) {
     let again = ReadAgain::of(text, witness);
     match &again {
-        Ok(again) => {
-            let known = Known { witness, again };
-            put_each_fault(out, text, faults, &known)
-        }
+        Ok(again) => { put_each_fault(out, text, faults, Known { witness, again }) }
         Err(_) => out.fail(),
     }
     // Letting go of it by a call keeps this function's proof short.
@@ -84,28 +74,32 @@ fn put_each_fault<R: Files>(
     out: &mut WordsWriter,
     text: &Text<R>,
     faults: &[ReadFault],
-    known: &Known,
+    known: Known<'_>,
 ) {
     let can_be_read = text.is_file();
     let mut names_row = false;
-    let mut told = CausesTold {
-        repeats: [false; Repeat::COUNT],
-        mail: false,
-        conflict: false,
-    };
+    let mut told = [false; MANY_CAUSES];
     for (place, fault) in faults.iter().enumerate() {
-        match known.witness.refused.get(place) {
-            Some(refused) if refused.refusal.fault == *fault => {
-                if is_told(text, known, refused, &mut told) {
-                    continue;
-                }
-                if can_be_read {
-                    put_fault(out, text, known, refused)
-                } else {
-                    names_row |= put_from_input(out, text, known, refused);
-                }
-            }
-            _ => put_unread(out, text, *fault),
+        let refused = known.witness.refused.get(place);
+        let Some(faulty) = refused.filter(|it| it.refusal.fault == *fault) else {
+            put_unread(out, text, *fault);
+            continue;
+        };
+        let case = Case {
+            text,
+            known,
+            faulty,
+        };
+        let is_told = match case.cause_number() {
+            Some(number) => told
+                .get_mut(number)
+                .is_some_and(|it| mem::replace(it, true)),
+            None => faulty.kind() == ReadKind::UnknownProject && case.is_told(),
+        };
+        if !is_told && can_be_read {
+            case.put_fault(out)
+        } else if !is_told {
+            names_row |= case.put_from_input(out);
         }
     }
     if names_row {
@@ -115,104 +109,79 @@ fn put_each_fault<R: Files>(
     }
 }
 
-/// For which causes words have been put.
-#[derive(Clone, Copy)]
-struct CausesTold {
-    repeats: [bool; Repeat::COUNT],
-    /// Whether it was said that an e-mail program broke lines, and that there are marks of a merge conflict.
-    mail: bool,
-    conflict: bool,
-}
+/// How many causes there are of which words are put once: those of repeated ids, and broken lines, which are
+/// two.
+const MANY_CAUSES: usize = Repeat::COUNT + 2;
 
-/// Whether words for the cause of a record's fault have been put. If not, they will be put now.
-fn is_told<R: Files>(
-    text: &Text<R>,
-    known: &Known,
-    faulty: &FaultyRecord,
-    told: &mut CausesTold,
-) -> bool {
-    match faulty.kind() {
-        ReadKind::UnknownProject => is_vote_told(known, faulty),
-        ReadKind::RepeatedVoter => {
-            let repeat = known.repeat_of(text, faulty);
-            let was_told = told.repeats[repeat as usize];
-            told.repeats[repeat as usize] = repeat.is_shared() || text.is_file();
-            was_told
+impl<R: Files> Case<'_, R> {
+    /// The number of the cause of a record's fault, if words for it are put once: a voter's repeated id, a
+    /// mark of a merge conflict, a line that an e-mail program broke.
+    fn cause_number(&self) -> Option<usize> {
+        match self.faulty.kind() {
+            ReadKind::UnknownProject => None,
+            ReadKind::RepeatedVoter => {
+                let repeat = self.known.repeat_of(self.text, self.faulty);
+                (repeat.is_shared() || self.text.is_file()).then_some(repeat as usize)
+            }
+            _ if self.faulty.is_conflict() => Some(Repeat::COUNT),
+            _ => self
+                .faulty
+                .is_of_mail(self.text)
+                .then_some(Repeat::COUNT + 1),
         }
-        _ if faulty.is_conflict() => {
-            let was_told = told.conflict;
-            told.conflict = true;
-            was_told
-        }
-        _ if faulty.is_of_mail(text) => {
-            let was_told = told.mail;
-            told.mail = true;
-            was_told
-        }
-        _ => false,
     }
-}
 
-/// Puts what is wrong with a record that was refused, or with the end of the file, and what to do.
-fn put_fault<R: Files>(
-    out: &mut WordsWriter,
-    text: &Text<R>,
-    known: &Known,
-    refused: &FaultyRecord,
-) {
-    let kind = refused.refusal.fault.kind;
-    if matches!(kind, ReadKind::NotText | ReadKind::NoSection) && put_looks(out, text) {
-        return;
-    }
-    let is_said = match kind {
-        ReadKind::ReadFailed => false,
-        _ if refused.record.len() == 0 => put_end(out, text, refused),
-        _ => put_found(out, text, known, refused),
-    };
-    if !is_said {
-        put_unread(out, text, refused.refusal.fault);
-    }
-}
-
-/// Puts what is known of a fault of a text that can't be read again. Answers whether that is a row's.
-fn put_from_input<R: Files>(
-    out: &mut WordsWriter,
-    text: &Text<R>,
-    known: &Known,
-    refused: &FaultyRecord,
-) -> bool {
-    match (refused.refusal.fault.kind, &refused.stage) {
-        (ReadKind::NoSection, Stage::Start) => {
-            let form = if refused.record.len() == 0 {
-                "{} is empty.\nName a .pb file in the command, for example `pb_app count FILE`.\n"
-            } else {
-                "{}: a .pb file begins with the line META, but this text does not.\nCheck that this is the .pb file. If it is, write META on its first line, or get the whole file again.\n"
-            };
-            out.fill(form, &[Name(text.path)]);
-            return false;
+    /// Puts what is wrong with a record that was refused, or with the end of the file, and what to do.
+    fn put_fault(&self, out: &mut WordsWriter) {
+        let kind = self.faulty.refusal.fault.kind;
+        if matches!(kind, ReadKind::NotText | ReadKind::NoSection) && put_looks(out, self.text) {
+            return;
         }
-        (ReadKind::UnknownProject, _) if known.witness.ids.left_out.len() > 0 => {
-            put_record_number(out, text, u64::from(refused.refusal.fault.at));
-            out.put(
-                ": the vote names an id that no project has, or the id of a project whose row has a fault.",
-            );
-            put_count(out, known, refused);
-            out.put("\nCorrect the rows of the projects first.\n")
+        let is_said = match kind {
+            ReadKind::ReadFailed => false,
+            _ if self.faulty.record.len() == 0 => self.put_end(out),
+            _ => self.put_found(out),
+        };
+        if !is_said {
+            put_unread(out, self.text, self.faulty.refusal.fault);
         }
-        _ => put_unread(out, text, refused.refusal.fault),
     }
-    !matches!(
-        refused.refusal.fault.kind,
-        ReadKind::ReadFailed | ReadKind::NoMemory
-    )
-}
 
-/// Puts how many votes are refused for the same reason, where there are several.
-fn put_count(out: &mut WordsWriter, known: &Known, refused: &FaultyRecord) {
-    let found = known.cause_of(refused.piece());
-    let count = found.map_or(1, |found| found.votes.count);
-    if count > 1 {
-        out.fill(" {} votes are refused for this.", &[Number(count)]);
+    /// Puts what is known of a fault of a text that can't be read again. Answers whether that is a row's.
+    fn put_from_input(&self, out: &mut WordsWriter) -> bool {
+        match (self.faulty.refusal.fault.kind, &self.faulty.stage) {
+            (ReadKind::NoSection, Stage::Start) => {
+                let form = if self.faulty.record.len() == 0 {
+                    "{} is empty.\nName a .pb file in the command, for example `pb_app count FILE`.\n"
+                } else {
+                    "{}: a .pb file begins with the line META, but this text does not.\nCheck that this is the .pb file. If it is, write META on its first line, or get the whole file again.\n"
+                };
+                out.fill(form, &[Name(self.text.path)]);
+                return false;
+            }
+            (ReadKind::UnknownProject, _) if self.known.witness.ids.left_out.len() > 0 => {
+                put_record_number(out, self.text, u64::from(self.faulty.refusal.fault.at));
+                out.put(
+                    ": the vote names an id that no project has, or the id of a project whose row has a fault.",
+                );
+                self.put_count(out);
+                out.put("\nCorrect the rows of the projects first.\n")
+            }
+            _ => put_unread(out, self.text, self.faulty.refusal.fault),
+        }
+        !matches!(
+            self.faulty.refusal.fault.kind,
+            ReadKind::ReadFailed | ReadKind::NoMemory
+        )
+    }
+
+    /// Puts how many votes are refused for the same reason, where there are several.
+    fn put_count(&self, out: &mut WordsWriter) {
+        let found = self.known.cause_of(self.faulty.piece());
+        let count = found.map_or(1, |found| found.votes.count);
+        if count > 1 {
+            out.fill(" {} votes are refused for this.", &[Number(count)]);
+        }
     }
 }
 

@@ -1,16 +1,10 @@
 //! Words for rows that a desk refuses by its rules, and for the voters' roll.
 
 use crate::file_words::{FOLDER, NO_MEMORY};
-use crate::mark_words::{put_mark, put_record_number};
-use crate::words::PlaceholderValue::{Name, Number, Own, Quoted};
-use crate::words::{PlaceholderValue, Said, WordsWriter, said};
+use crate::prelude::*;
 use pb_script::{RollFault, RowRefusal};
 use pb_witness::failures::is_folder;
-use pb_witness::fields::{JoinedBy, text_at};
-use pb_witness::mark::Mark;
-use pb_witness::text::Text;
-use std::alloc::Global;
-use std::rt::Files;
+use pb_witness::fields::JoinedBy;
 
 /// A row that a desk refuses by its rules.
 #[derive(Clone, Copy)]

@@ -1,8 +1,6 @@
 //! Words for a row of a script or of a journal that has not the form of one.
 
-use crate::words::PlaceholderValue::{Bytes, Count, Number, Numbers, Own};
-use crate::words::WordsWriter;
-use csv::ByteRecord;
+use crate::prelude::*;
 use pb_desk::desk::MOST_CLERKS;
 use pb_desk::row_flaw::{Condition, RowFlaw};
 use pb_witness::fields::number_in;

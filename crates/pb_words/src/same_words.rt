@@ -1,8 +1,6 @@
 //! What is said of a published page that is not the page of a count, or was not read.
 
-use crate::words::PlaceholderValue::{Name, Number};
-use crate::words::{Said, said};
-use std::alloc::Global;
+use crate::prelude::*;
 
 /// Words for a published page that could not be read from standard input.
 pub fn unread_input_words(alloc: Global) -> Said {

@@ -2,21 +2,15 @@
 
 use crate::count_words::put_range;
 use crate::file_words::{NO_MEMORY, put_reading_failed};
-use crate::mark_words::{CLOSE_IT, put_mark, put_over, put_record_number, put_unclosed};
+use crate::mark_words::CLOSE_IT;
 use crate::meta_words::{BALLOT, TYPED, put_joined};
+use crate::prelude::*;
 use crate::row_words::{SCRIPT_FIELDS, broken, put_clerk_remedy, put_field_count, put_flaw};
-use crate::words::PlaceholderValue::{Number, Own};
-use crate::words::{Said, WordsWriter};
-use csv::ByteRecord;
 use pb_desk::desk::MOST_CLERKS;
 use pb_desk::row_flaw::{Condition, flaw_of_script_row};
 use pb_script::ScriptFault;
-use pb_witness::fields::{is_of_journal, joined, raw_text};
+use pb_witness::fields::{is_of_journal, joined};
 use pb_witness::last_rows::LastRows;
-use pb_witness::mark::Mark;
-use pb_witness::text::Text;
-use std::alloc::Global;
-use std::rt::Files;
 
 /// How a run takes the rows of a script.
 #[derive(Clone, Copy)]

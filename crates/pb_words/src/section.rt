@@ -35,10 +35,6 @@ const NO_SECTION: &str = "there is no section {}.\n";
 
 pub(crate) const NO_NAMES: &str = "{} has no row of column names.\n";
 
-/// What to do about a section other than META that comes again.
-const AGAIN: &str =
-    "Each section may come only once. If these rows belong to this election, move them below the section's first rows, in the order of the columns there, without the heading and the column names. If they belong to another, put that into a file of its own.\n";
-
 /// What things are called in a section.
 pub(crate) fn names_of(section: Section) -> &'static Names {
     match section {
@@ -76,7 +72,7 @@ pub(crate) fn wrong_head(stage: &Stage, head: &str) -> (&'static str, &'static s
             if head.eq_ignore_ascii_case("META") {
                 "Each section may come only once. If the file has two elections, put each into a file of its own.\n"
             } else {
-                AGAIN
+                "Each section may come only once. If these rows belong to this election, move them below the section's first rows, in the order of the columns there, without the heading and the column names. If they belong to another, put that into a file of its own.\n"
             },
         ),
     }

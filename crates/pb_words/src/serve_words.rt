@@ -1,9 +1,7 @@
 //! Words for a desk that stands on a file: why it does not, and which rows it did not take.
 
 use crate::file_words::FOLDER;
-use crate::words::PlaceholderValue::{Beside, Name, Number, Own};
-use crate::words::{Said, failed, said};
-use std::alloc::Global;
+use crate::prelude::*;
 use std::io::{Error, ErrorKind};
 
 /// The end of the row that shuts a desk.

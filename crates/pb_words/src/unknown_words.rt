@@ -1,21 +1,15 @@
 //! Words for a vote that names an id which no project has.
 
-use crate::faulty_record::{BY_COLUMN, put_column};
-use crate::mark_words::{line_of, put_mark, put_subject, put_swallowing};
+use crate::faulty_record::BY_COLUMN;
+use crate::prelude::*;
 use crate::read_rules::words_of;
-use crate::words::PlaceholderValue::{Name, Number, Own, Quoted};
-use crate::words::WordsWriter;
-use pb_read::{Column, ReadKind};
+use pb_read::Column;
 use pb_witness::cause::{Cause, odd_letter};
-use pb_witness::changed::Difference::{Case, Front, Hidden, Letters, PointZero, Spaces, Zeros};
+use pb_witness::changed::Difference::{Hidden, Zeros};
 use pb_witness::changed::{Difference, without_hidden};
 use pb_witness::faulty_record::FaultyRecord;
-use pb_witness::fields::text_at;
-use pb_witness::known::{FoundCause, Known};
-use pb_witness::mark::Mark;
-use pb_witness::text::Text;
+use pb_witness::known::FoundCause;
 use pb_witness::unknown::Votes;
-use std::rt::Files;
 
 pub(crate) const LATE_PROJECT: &str =
     "This row looks like a project. If it is one, move it above the heading VOTES. If not, ask whoever made the file.\n";
@@ -31,9 +25,6 @@ pub(crate) fn is_cut_code(text: &str) -> bool {
 
 /// Options of `pb_clean` by which it takes something out.
 const DROP_UNKNOWN: &str = " --drop-unknown";
-
-const SERIES: &str =
-    "The numbers of unknown ids follow each other from row to row. A spreadsheet may have continued a series: then get the votes again.\n";
 
 pub(crate) const DROP_ZERO_COST: &str = " --drop-zero-cost";
 
@@ -103,6 +94,10 @@ fn list_remedy(cause: Cause) -> &'static str {
             "No vote of the file names a project. PROJECTS and VOTES may be of two elections, or the ids of one of them were changed. Get the whole file again.\n",
         Cause::Coded =>
             "No vote of the file names a project, and some end with `=`: the votes may be coded, as in base64. Get them again, with the ids of the projects.\n",
+        Cause::Range =>
+            "This may be a range of ids, or two ids. Look at the voter's ballot, and write all ids that are meant, with `,` between them.\n",
+        Cause::Joined =>
+            "A word stands between the ids. It may say `and`, `or` or `not`. Look at the voter's ballot, or ask whoever made the file.\n",
         Cause::Keycaps =>
             "These are signs of a phone's keys. Write only the ids, with `,` between them.\n",
         Cause::Php =>
@@ -133,18 +128,21 @@ fn alike_remedy(difference: Difference, is_project: bool) -> &'static str {
             "A spreadsheet may have taken zeros away in PROJECTS. If so, write the ids there as the votes have them, or get the projects again, as text.\n",
         (_, true) =>
             "Some programs write `5.0` for 5. Write the ids in PROJECTS as the votes have them.\n",
-        (PointZero, false) =>
-            "The project {} on line {} differs only by `.0` at its end. If it is meant, write its id in the vote.\n",
-        (Spaces, false) =>
-            "The project {} on line {} differs only by spaces. If it is meant, write its id in the vote.\n",
-        (Case, false) =>
-            "The project {} on line {} differs only by capital and small letters. If it is meant, write its id in the vote.\n",
-        (Letters, false) =>
-            "The project {} on line {} differs only by letters that look like digits, such as O and 0. If it is meant, write its id in the vote.\n",
-        (Front, _) =>
-            "The project {} on line {} has letters before this number. If it is meant, write its id in the vote.\n",
-        (Zeros, false) =>
-            "The project {} on line {} differs only by zeros before a number, which a spreadsheet takes away. If it is meant, write its id in the vote.\n",
+        (_, false) => "",
+    }
+}
+
+/// How an id differs from that of a project.
+fn difference(difference: Difference) -> &'static str {
+    match difference {
+        Difference::PointZero => "differs only by `.0` at its end",
+        Difference::Spaces => "differs only by spaces",
+        Difference::Case => "differs only by capital and small letters",
+        Difference::Letters => "differs only by letters that look like digits, such as O and 0",
+        Difference::Front => "has letters before this number",
+        Difference::Zeros =>
+            "differs only by zeros before a number, which a spreadsheet takes away",
+        Difference::Hidden => "",
     }
 }
 
@@ -168,275 +166,233 @@ fn clean_of(place: &UnknownPiece) -> Option<&'static str> {
 struct UnknownPiece<'p> {
     id: &'p str,
     cause: Cause,
-    /// The project that the cause is about, and where its row stands.
+    /// The project that the cause is about, and where its row stands: its mark, and the line, or 0.
     project: &'p str,
     mark: Option<Mark>,
+    line: u64,
 }
 
-/// Whether words for this vote have been put with those for an earlier one.
-pub(crate) fn is_told(known: &Known, faulty: &FaultyRecord) -> bool {
-    match known.cause_of(faulty.piece()) {
-        Some(found) => !found.votes.begin_at(faulty.mark),
-        None => false,
+impl<R: Files> Case<'_, R> {
+    /// Whether words for this vote have been put with those for an earlier one.
+    pub(crate) fn is_told(&self) -> bool {
+        let found = self.known.cause_of(self.faulty.piece());
+        found.is_some_and(|found| !found.votes.begin_at(self.faulty.mark))
     }
-}
 
-/// Puts which id of a vote no project has, and why, as far as that is known, and what to do. Where that stands
-/// in PROJECTS, its row is named and not the vote's.
-pub(crate) fn put_unknown<R: Files>(
-    out: &mut WordsWriter,
-    text: &Text<R>,
-    known: &Known,
-    faulty: &FaultyRecord,
-) {
-    let Some(found) = known.cause_of(faulty.piece()) else {
-        return out.fail();
-    };
-    put_cause(out, text, known, faulty, &found);
-    put_votes(out, text, &found);
-    let is_open = is_cut_code(faulty.piece())
-        || matches!(
-            found.cause,
-            Cause::Unknown
-                | Cause::Near
-                | Cause::OtherForm
-                | Cause::OddLetter
-                | Cause::Word
-                | Cause::OtherElection
-                | Cause::Nothing
-        );
-    if is_open && put_row_cause(out, text, known, faulty) {
-        return;
-    }
-    if found.cause == Cause::OddLetter {
-        put_odd_letter(out, known, faulty.piece())
-    } else {
-        put_remedy(out, text, known, faulty, &found)
-    }
-}
-
-/// Puts which id of a vote no project has, or which row of PROJECTS is to blame, and why.
-fn put_cause<R: Files>(
-    out: &mut WordsWriter,
-    text: &Text<R>,
-    known: &Known,
-    faulty: &FaultyRecord,
-    found: &FoundCause,
-) {
-    let place = place_of(known, faulty, found);
-    put_place(out, text, faulty, &place);
-    let line = match place.mark {
-        Some(mark) => line_of(text, mark),
-        None => 0,
-    };
-    let named = match found.cause {
-        Cause::Alike(Hidden, false) => place.project,
-        _ => place.id,
-    };
-    out.fill(what_of(found.cause), &[Quoted(named), Number(line)]);
-}
-
-/// Puts what to do about an id that no project has.
-fn put_remedy<R: Files>(
-    out: &mut WordsWriter,
-    text: &Text<R>,
-    known: &Known,
-    faulty: &FaultyRecord,
-    found: &FoundCause,
-) {
-    let place = place_of(known, faulty, found);
-    let line = match place.mark {
-        Some(mark) => line_of(text, mark),
-        None => 0,
-    };
-    let remedy = remedy_of(found.cause);
-    match found.cause {
-        Cause::Unknown | Cause::Near | Cause::OtherForm | Cause::Word
-            if found.votes.count == 1 && text.is_last(faulty.mark) => {
-            out.put(
-                "This is the last row of the file. If the file is cut off, get the whole file again. If the row is a total or a note, and no vote, delete it. If not:\n",
+    /// Puts which id of a vote no project has, and why, as far as that is known, and what to do. Where that
+    /// stands in PROJECTS, its row is named and not the vote's.
+    pub(crate) fn put_unknown(&self, out: &mut WordsWriter) {
+        let Some(found) = self.known.cause_of(self.faulty.piece()) else {
+            return out.fail();
+        };
+        self.put_cause(out, &found);
+        self.put_votes(out, &found);
+        let is_open = is_cut_code(self.faulty.piece())
+            || matches!(
+                found.cause,
+                Cause::Unknown
+                    | Cause::Near
+                    | Cause::OtherForm
+                    | Cause::OddLetter
+                    | Cause::Word
+                    | Cause::OtherElection
+                    | Cause::Nothing
             );
-            return out.put(remedy);
+        if is_open && self.put_row_cause(out) {
+            return;
         }
-        Cause::Cut => out.fill(remedy, &[Number(line)]),
-        Cause::Swallowed => {
-            let _ = put_swallowing(out, text, place.mark);
+        if found.cause == Cause::OddLetter {
+            self.put_odd_letter(out, self.faulty.piece())
+        } else {
+            self.put_unknown_remedy(out, &found)
         }
-        _ => out.fill(remedy, &[Quoted(place.project), Number(line)]),
     }
-    match clean_of(&place) {
-        Some(DROP_UNKNOWN) if known.witness.unknown.are_series() => out.put(SERIES),
-        Some(DROP_UNKNOWN) if known.witness.rows.would_empty() => {}
-        Some(options) => put_clean(out, text, options),
-        None => {}
-    }
-}
 
-/// Puts what the row of a vote shows of why its ids are unknown, and what to do; answers whether it shows
-/// something.
-fn put_row_cause<R: Files>(
-    out: &mut WordsWriter,
-    text: &Text<R>,
-    known: &Known,
-    faulty: &FaultyRecord,
-) -> bool {
-    if is_cut_code(faulty.piece()) {
-        out.put(
-            "This ends in a code of a web page, such as `&amp;`, whose `;` has cut the row. Get the file again, as text.\n",
-        )
-    } else if faulty.has_titles() {
-        out.put(
-            "If this row has titles or types of the columns, and is no vote, delete it. If not, ask whoever made the file what is meant.\n",
-        )
-    } else if faulty.is_like_project(text) {
-        out.put(LATE_PROJECT)
-    } else if let Some(mark) = late_row(text, known, faulty.piece()) {
-        out.fill(
-            "The row on line {}, below the heading VOTES, looks like this project. Correct that line first.\n",
-            &[Number(line_of(text, mark))],
-        )
-    } else if let Some((moved, place)) = moved_of(known, faulty) {
-        put_moved(out, text, moved, place);
-        let is_same = moved.mark.at == faulty.mark.at;
+    /// Puts which id of a vote no project has, or which row of PROJECTS is to blame, and why.
+    fn put_cause(&self, out: &mut WordsWriter, found: &FoundCause) {
+        let place = self.place_of(found);
+        self.put_place(out, &place);
+        let named = match found.cause {
+            Cause::Alike(Hidden, false) => place.project,
+            _ => place.id,
+        };
+        out.fill(what_of(found.cause), &[Quoted(named), Number(place.line)]);
+    }
+
+    /// Puts what to do about an id that no project has.
+    fn put_unknown_remedy(&self, out: &mut WordsWriter, found: &FoundCause) {
+        let place = self.place_of(found);
+        let (remedy, line) = (remedy_of(found.cause), Number(place.line));
+        match found.cause {
+            Cause::Unknown | Cause::Near | Cause::OtherForm | Cause::Word
+                if found.votes.count == 1 && self.text.is_last(self.faulty.mark) => {
+                out.put(
+                    "This is the last row of the file. If the file is cut off, get the whole file again. If the row is a total or a note, and no vote, delete it. If not:\n",
+                );
+                return out.put(remedy);
+            }
+            Cause::Cut => out.fill(remedy, &[line]),
+            Cause::Swallowed => {
+                let _ = put_swallowing(out, self.text, place.mark);
+            }
+            Cause::Alike(how, false) if how != Hidden => out.fill(
+                "The project {} on line {} {}. If it is meant, write its id in the vote.\n",
+                &[Quoted(place.project), line, Own(difference(how))],
+            ),
+            _ => out.fill(remedy, &[Quoted(place.project), line]),
+        }
+        match clean_of(&place) {
+            Some(DROP_UNKNOWN) if self.known.witness.unknown.are_series() => out.put(
+                "The numbers of unknown ids follow each other from row to row. A spreadsheet may have continued a series: then get the votes again.\n",
+            ),
+            Some(DROP_UNKNOWN) if self.known.witness.rows.would_empty() => {}
+            Some(options) => put_clean(out, self.text, options),
+            None => {}
+        }
+    }
+
+    /// Puts what the row of a vote shows of why its ids are unknown, and what to do; answers whether it shows
+    /// something.
+    fn put_row_cause(&self, out: &mut WordsWriter) -> bool {
+        if is_cut_code(self.faulty.piece()) {
+            out.put(
+                "This ends in a code of a web page, such as `&amp;`, whose `;` has cut the row. Get the file again, as text.\n",
+            )
+        } else if self.faulty.has_titles() {
+            out.put(
+                "If this row has titles or types of the columns, and is no vote, delete it. If not, ask whoever made the file what is meant.\n",
+            )
+        } else if self.faulty.is_like_project(self.text) {
+            out.put(LATE_PROJECT)
+        } else if let Some(mark) = self.late_row(self.faulty.piece()) {
+            out.fill(
+                "The row on line {}, below the heading VOTES, looks like this project. Correct that line first.\n",
+                &[Number(line_of(self.text, mark))],
+            )
+        } else if let Some((moved, place)) = self.moved_of() {
+            self.put_moved(out, moved, place)
+        } else {
+            return false;
+        }
+        true
+    }
+
+    /// Where a row of VOTES was refused that seems to be the project with this id.
+    fn late_row(&self, id: &str) -> Option<Mark> {
+        let mut refused = self.known.witness.refused.iter();
+        let found = refused.find(|it| it.id() == id && it.is_like_project(self.text))?;
+        Some(found.mark)
+    }
+
+    /// The vote, or else another one that is refused for the same cause, in whose row another field names
+    /// projects, and the place of that field.
+    fn moved_of(&self) -> Option<(&FaultyRecord, usize)> {
+        let ids = &self.known.witness.ids;
+        if let Some(place) = self.faulty.moved(ids) {
+            return Some((self.faulty, place));
+        }
+        let cause = self.known.cause_of(self.faulty.piece())?.cause;
+        let mut refused = self.known.witness.refused.iter();
+        let other = refused.find(|it| {
+            let found = self.known.cause_of(it.piece());
+            let is_same = found.is_some_and(|found| found.cause == cause && cause.is_shared());
+            is_same && it.kind() == ReadKind::UnknownProject && it.moved(ids).is_some()
+        })?;
+        Some((other, other.moved(ids)?))
+    }
+
+    /// Puts which field of a row, the one at this place, names projects.
+    fn put_moved(&self, out: &mut WordsWriter, moved: &FaultyRecord, place: usize) {
+        out.fill("{}", &[Quoted(moved.at(place))]);
+        if let Some(names) = self.text.row_at(moved.seen.names) {
+            out.fill(" in column {}", &[Quoted(text_at(&names, place))]);
+        }
+        let is_same = moved.mark.at == self.faulty.mark.at;
         let rows = if is_same { "this row" } else { "these rows" };
         out.fill(
             " names projects: the fields of {} may be in another order. If so, put them below their column names. If not, ask whoever made the file.\n",
             &[Own(rows)],
         )
-    } else {
-        return false;
     }
-    true
-}
 
-/// Where a row of VOTES was refused that seems to be the project with this id.
-fn late_row<R: Files>(text: &Text<R>, known: &Known, id: &str) -> Option<Mark> {
-    for faulty in known.witness.refused.as_slice() {
-        if faulty.id() == id && faulty.is_like_project(text) {
-            return Some(faulty.mark);
+    /// Puts which character of this id no project's id has, and what to do.
+    fn put_odd_letter(&self, out: &mut WordsWriter, id: &str) {
+        if let Some(letter) = odd_letter(id, &self.known.again.projects) {
+            let from = id.trim_start_matches(|c: char| c != letter);
+            let behind = from.split_once(letter).unwrap_or(("", "")).1;
+            let odd = from.strip_suffix(behind).unwrap_or(from);
+            let is_dash = letter == '-' || (0x2010..=0x2015).contains(&u32::from(letter));
+            let form = if is_dash || letter.is_alphanumeric() {
+                "This contains {}, which no id in PROJECTS contains. It may be another kind of dash or letter. Compare the id with those.\n"
+            } else {
+                "This contains {}, which no id in PROJECTS contains. Ask whoever made the file what it means.\n"
+            };
+            out.fill(form, &[Quoted(odd)])
         }
     }
-    None
-}
 
-/// The vote, or else another one that is refused for the same cause, in whose row another field names projects, and
-/// the place of that field.
-fn moved_of<'k>(known: &Known<'k>, faulty: &'k FaultyRecord) -> Option<(&'k FaultyRecord, usize)> {
-    let ids = &known.witness.ids;
-    if let Some(place) = faulty.moved(ids) {
-        return Some((faulty, place));
-    }
-    let cause = known.cause_of(faulty.piece())?.cause;
-    if !cause.is_shared() {
-        return None;
-    }
-    for other in known.witness.refused.as_slice() {
-        let found = known.cause_of(other.piece());
-        if other.kind() == ReadKind::UnknownProject && found.map(|it| it.cause) == Some(cause) {
-            if let Some(place) = other.moved(ids) {
-                return Some((other, place));
-            }
-        }
-    }
-    None
-}
-
-/// Puts which field of a row, the one at this place, names projects.
-fn put_moved<R: Files>(out: &mut WordsWriter, text: &Text<R>, faulty: &FaultyRecord, place: usize) {
-    out.fill("{}", &[Quoted(text_at(&faulty.record, place))]);
-    if let Some(records) = text.record_at(faulty.seen.names) {
-        out.fill(" in column {}", &[Quoted(text_at(&records.last, place))]);
-        drop(records);
-    }
-}
-
-/// Puts which character of this id no project's id has, and what to do.
-fn put_odd_letter(out: &mut WordsWriter, known: &Known, id: &str) {
-    if let Some(letter) = odd_letter(id, &known.again.projects) {
-        let from = id.trim_start_matches(|c: char| c != letter);
-        let behind = from.split_once(letter).unwrap_or(("", "")).1;
-        let odd = from.strip_suffix(behind).unwrap_or(from);
-        let is_dash = letter == '-' || (0x2010..=0x2015).contains(&u32::from(letter));
-        let form = if is_dash || letter.is_alphanumeric() {
-            "This contains {}, which no id in PROJECTS contains. It may be another kind of dash or letter. Compare the id with those.\n"
-        } else {
-            "This contains {}, which no id in PROJECTS contains. Ask whoever made the file what it means.\n"
+    /// The place that words for this vote name.
+    fn place_of(&self, found: &FoundCause) -> UnknownPiece<'_> {
+        let id = self.faulty.piece();
+        let ids = &self.known.witness.ids;
+        let projects = &self.known.again.projects;
+        let row = found.project.and_then(|place| projects.row(place));
+        let (project, mark) = match (found.cause, row) {
+            (Cause::LeftOut, _) => (id, ids.left_out.mark(id)),
+            (Cause::Cut, _) => (id, ids.pieces.mark(id)),
+            (Cause::Swallowed, _) => (id, ids.swallowed.mark(id)),
+            (Cause::NoProjects, _) => ("", Some(self.faulty.seen.project_names)),
+            (_, Some(row)) => (row.id.as_str(), Some(row.mark)),
+            (_, None) => (id, None),
         };
-        out.fill(form, &[Quoted(odd)])
-    }
-}
-
-/// The place that words for this vote name.
-fn place_of<'p>(
-    known: &Known<'p>,
-    faulty: &'p FaultyRecord,
-    found: &FoundCause,
-) -> UnknownPiece<'p> {
-    let id = faulty.piece();
-    let ids = &known.witness.ids;
-    let row = match found.project {
-        Some(project) => known.again.projects.row(project),
-        None => None,
-    };
-    let (project, mark) = match (found.cause, row) {
-        (Cause::LeftOut, _) => (id, ids.left_out.mark(id)),
-        (Cause::Cut, _) => (id, ids.pieces.mark(id)),
-        (Cause::Swallowed, _) => (id, ids.swallowed.mark(id)),
-        (Cause::NoProjects, _) => ("", Some(faulty.seen.project_names)),
-        (_, Some(row)) => (row.id.as_str(), Some(row.mark)),
-        (_, None) => (id, None),
-    };
-    UnknownPiece {
-        id,
-        cause: found.cause,
-        project,
-        mark,
-    }
-}
-
-/// Puts the line and the column of what words name.
-fn put_place<R: Files>(
-    out: &mut WordsWriter,
-    text: &Text<R>,
-    faulty: &FaultyRecord,
-    place: &UnknownPiece,
-) {
-    let is_project = matches!(
-        place.cause,
-        Cause::Alike(_, true) | Cause::ChangedProject | Cause::NoProjects
-    );
-    match place.mark {
-        Some(mark) if is_project => {
-            let _ = put_mark(out, text, mark);
-            if place.cause != Cause::NoProjects {
-                out.fill(", column {}", &[Own(Column::ProjectId.name())]);
-                put_subject(out, "project", place.project);
-            }
-        }
-        _ => {
-            let _ = put_mark(out, text, faulty.mark);
-            put_column(out, faulty);
-            put_subject(out, "voter", faulty.id());
+        UnknownPiece {
+            id,
+            cause: found.cause,
+            project,
+            mark,
+            line: mark.map_or(0, |mark| line_of(self.text, mark)),
         }
     }
-}
 
-/// Puts how many votes are refused for one reason, where there are several, and the lines of the first.
-fn put_votes<R: Files>(out: &mut WordsWriter, text: &Text<R>, found: &FoundCause) {
-    let votes = &found.votes;
-    if votes.count > 1 {
-        let reason = match found.cause {
-            Cause::NoProjects | Cause::OtherElection | Cause::Coded | Cause::Columns => "this",
-            cause if cause.is_shared() && cause != Cause::ChangedProject => "ids like this",
-            _ => "this",
-        };
-        out.fill(
-            " {} votes are refused for {}",
-            &[Number(votes.count), Own(reason)],
+    /// Puts the line and the column of what words name.
+    fn put_place(&self, out: &mut WordsWriter, place: &UnknownPiece) {
+        let is_project = matches!(
+            place.cause,
+            Cause::Alike(_, true) | Cause::ChangedProject | Cause::NoProjects
         );
-        put_lines(out, text, votes);
+        match place.mark {
+            Some(mark) if is_project => {
+                let _ = put_mark(out, self.text, mark);
+                if place.cause != Cause::NoProjects {
+                    out.fill(", column {}", &[Own(Column::ProjectId.name())]);
+                    put_subject(out, "project", place.project);
+                }
+            }
+            _ => {
+                let _ = put_mark(out, self.text, self.faulty.mark);
+                self.put_column(out);
+                put_subject(out, "voter", self.faulty.id());
+            }
+        }
     }
-    out.put("\n");
+
+    /// Puts how many votes are refused for one reason, where there are several, and the lines of the first.
+    fn put_votes(&self, out: &mut WordsWriter, found: &FoundCause) {
+        let votes = &found.votes;
+        if votes.count > 1 {
+            let reason = match found.cause {
+                Cause::NoProjects | Cause::OtherElection | Cause::Coded | Cause::Columns => "this",
+                cause if cause.is_shared() && cause != Cause::ChangedProject => "ids like this",
+                _ => "this",
+            };
+            out.fill(
+                " {} votes are refused for {}",
+                &[Number(votes.count), Own(reason)],
+            );
+            put_lines(out, self.text, votes);
+        }
+        out.put("\n");
+    }
 }
 
 /// Puts the lines of several rows, or of the first.

@@ -1,6 +1,6 @@
-//! What is said of each kind of warning, in the order in which `Oddity` declares them: a text for each form of it.
-//! A text has three lines: what is odd, with what is known of the row in place of names in braces; the same where
-//! the row can't be read again; and what to do.
+//! What is said of each kind of warning, in the order in which `Oddity` declares them: a text for each form
+//! of it. A text has three lines: what is odd, with what is known of the row in place of names in braces; the
+//! same where the row can't be read again; and what to do.
 
 /// What to do about three digits behind a mark where other amounts have decimals.
 pub(crate) const BESIDE_DECIMALS: &str =

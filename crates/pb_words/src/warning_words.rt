@@ -1,29 +1,21 @@
 //! Words for warnings: where, what, and what to do.
 
-use crate::mark_words::{
-    CLOSE_IT, line_of, put_mark, put_over, put_record_number, put_subject, put_unclosed,
-};
+use crate::mark_words::CLOSE_IT;
+use crate::prelude::*;
 use crate::warning_texts::{BESIDE_DECIMALS, TEXTS};
-use crate::words::PlaceholderValue::{Amount, Count, Name, Number, Own, Quoted};
-use crate::words::{Said, WordsWriter};
 use pb_core::money::Money;
 use pb_read::Oddity;
 use pb_rounds::rule::Rule;
 use pb_witness::changed::is_one_of;
-use pb_witness::fields::text_at;
 use pb_witness::firsts::twice_in;
-use pb_witness::mark::Mark;
 use pb_witness::oddities::{MOST, Odd, Oddities};
 use pb_witness::quote::span_of;
-use pb_witness::text::Text;
-use std::alloc::Global;
-use std::rt::Files;
 
 /// What META writes that names no other rule than that of any count.
 const NO_OTHER_RULE: &str = "unknown|-|mes|method of equal shares";
 
-/// What is said of a row that is odd: what, with what is known of the row; the same where the row is not known;
-/// and what to do.
+/// What is said of a row that is odd: what, with what is known of the row; the same where the row is not
+/// known; and what to do.
 fn said_of(odd: &Odd) -> (&'static str, &'static str, &'static str) {
     let forms = TEXTS.get(odd.oddity as usize).copied().unwrap_or(&[]);
     let said = forms.get(odd.form).copied().unwrap_or("");
@@ -59,7 +51,12 @@ pub fn rule_words<R: Files>(
     let (rule, mark) = named;
     let is_other = !is_one_of(NO_OTHER_RULE, rule);
     if is_other && !rule.eq_ignore_ascii_case(counted.word()) {
-        put_place(&mut out, &Text::new(rt, alloc, path), mark);
+        let text = Text::new(rt, alloc, path);
+        if text.is_file() {
+            let _ = put_mark(&mut out, &text, mark);
+        } else {
+            put_record_number(&mut out, &text, mark.at);
+        }
         match counted.text(alloc) {
             Ok(own) => out.fill(
                 ", key \"rule\": the file names the rule {}, and this count has {} ({}).
@@ -104,10 +101,18 @@ A desk can open on this file. If it should have votes, get the whole file again.
 
 /// Puts how many more there are of a kind, which a check does not list, or a count does not tell.
 fn put_more(out: &mut WordsWriter, oddity: Oddity, more: u64, is_of_check: bool) {
-    let unit = match oddity {
-        Oddity::IdBehindVote | Oddity::ValidColumn => "more column",
-        Oddity::RepeatedColumn | Oddity::VotesWithPoints | Oddity::SeveralBallots => "more column",
-        _ => "more row",
+    let is_of_columns = matches!(
+        oddity,
+        Oddity::IdBehindVote
+            | Oddity::ValidColumn
+            | Oddity::RepeatedColumn
+            | Oddity::VotesWithPoints
+            | Oddity::SeveralBallots
+    );
+    let unit = if is_of_columns {
+        "more column"
+    } else {
+        "more row"
     };
     out.fill("{} applies to {}", &[Own(oddity.name()), Count(more, unit)]);
     if is_of_check {
@@ -127,19 +132,17 @@ fn put_odd<R: Files>(out: &mut WordsWriter, text: &Text<R>, odd: &Odd, oddities:
         return;
     }
     let (what, alone, remedy) = said_of(odd);
-    if !put_row(out, text, odd, what) {
-        put_record_number(out, text, odd.mark.at);
-        out.put(": ");
-        out.fill_named(
-            alone,
-            &[
-                ("number", Number(odd.number)),
-                ("rows", Count(odd.number, "row")),
-                ("projects", Count(odd.number, "project")),
-                ("limit", Number(odd.limit.unwrap_or(0))),
-            ],
-        );
+    let row = text.row_at(odd.mark);
+    match &row {
+        Some(row) => {
+            let _ = put_mark(out, text, odd.mark);
+            put_subject(out, odd.subject.word(), text_at(row, odd.id_place))
+        }
+        None => put_record_number(out, text, odd.mark.at),
     }
+    out.put(": ");
+    let form = if row.is_some() { what } else { alone };
+    put_text(out, text, odd, (form, row.as_ref()));
     out.fill(" ({}).\n", &[Own(odd.oddity.name())]);
     let is_length = is_of_length(odd);
     match (cause_of(oddities, odd), odd.oddity) {
@@ -154,11 +157,7 @@ fn put_odd<R: Files>(out: &mut WordsWriter, text: &Text<R>, odd: &Odd, oddities:
         _ if is_length && put_all_break(out, odd, oddities) => {}
         (None, Oddity::ThousandsMark) if oddities.has_decimals => out.put(BESIDE_DECIMALS),
         _ => {
-            let file = match text.path {
-                Some(_) => Name(text.path),
-                None => Own("FILE"),
-            };
-            out.fill_named(remedy, &[("file", file)]);
+            put_text(out, text, odd, (remedy, None));
             out.put("\n");
         }
     }
@@ -169,49 +168,33 @@ fn is_of_length(odd: &Odd) -> bool {
     odd.form == 0 && matches!(odd.oddity, Oddity::TooLongBallot | Oddity::TooShortBallot)
 }
 
-/// Puts that all ballots, or nearly all, have too many projects or too few, or that no ballot can have as many as
-/// both keys ask for, where it is so; answers whether it is.
+/// Puts that all ballots, or nearly all, have too many projects or too few, or that no ballot can have as
+/// many as both keys ask for, where it is so; answers whether it is.
 fn put_all_break(out: &mut WordsWriter, odd: &Odd, oddities: &Oddities) -> bool {
     let count = oddities.count(odd.oddity).saturating_sub(oddities.costly);
     let voters = oddities.voters;
     let are_nearly_all = count.saturating_mul(10) >= voters.saturating_mul(9);
-    if voters < 2 {
-        return false;
-    }
-    if oddities.has_no_length {
-        out.put(
+    let is_long = odd.oddity == Oddity::TooLongBallot;
+    let form = match (is_long, count == voters) {
+        _ if oddities.has_no_length =>
             "`min_length` is more than `max_length`, so no ballot keeps both: check these keys.\n",
-        );
-        return true;
-    }
-    if !are_nearly_all {
-        return false;
-    }
-    let who = if count == voters {
-        "All ballots"
-    } else {
-        "Nearly all ballots"
+        (true, true) => "All ballots break `max_length` {}: check the key.\n",
+        (true, false) => "Nearly all ballots break `max_length` {}: check the key.\n",
+        (false, true) => "All ballots break `min_length` {}: check the key.\n",
+        (false, false) => "Nearly all ballots break `min_length` {}: check the key.\n",
     };
-    let key = if odd.oddity == Oddity::TooLongBallot {
-        "max_length"
-    } else {
-        "min_length"
-    };
-    let limit = odd.limit.unwrap_or(0);
-    out.fill(
-        "{} break `{}` {}: check the key.\n",
-        &[Own(who), Own(key), Number(limit)],
-    );
-    true
+    let is_so = voters > 1 && (oddities.has_no_length || are_nearly_all);
+    if is_so {
+        out.fill(form, &[Number(odd.limit.unwrap_or(0))]);
+    }
+    is_so
 }
 
 /// The warning that may be the reason why the file has another number of votes than it says.
 fn cause_of(oddities: &Oddities, odd: &Odd) -> Option<Oddity> {
     let are_few = odd.limit.unwrap_or(0) > odd.number;
-    let (has_rows, has_ids) = (
-        oddities.has(Oddity::SwallowedRows),
-        oddities.has(Oddity::IdBehindVote),
-    );
+    let has_rows = oddities.has(Oddity::SwallowedRows);
+    let has_ids = oddities.has(Oddity::IdBehindVote);
     let has_thousands = oddities.has(Oddity::ThousandsMark);
     let are_beside = oddities.count(Oddity::RepeatedColumn) > 1;
     match odd.oddity {
@@ -246,95 +229,57 @@ fn put_swallowing_row<R: Files>(out: &mut WordsWriter, text: &Text<R>, mark: Mar
     put_over(out, span, false)
 }
 
-/// Puts where an odd row stands and what is odd in it, where it can be read again; answers whether it can.
-fn put_row<R: Files>(out: &mut WordsWriter, text: &Text<R>, odd: &Odd, what: &'static str) -> bool {
-    let Some(records) = text.record_at(odd.mark) else {
-        return false;
-    };
-    let row = &records.last;
-    let _ = put_mark(out, text, odd.mark);
-    put_subject(out, odd.subject.word(), text_at(row, odd.id_place));
-    out.put(": ");
-    let value = text_at(row, odd.value_place);
-    let line = line_of(text, odd.before.unwrap_or(odd.mark));
-    let texts = (value, twice_of(text.alloc, odd, value));
-    let numbers = (line, row.len() as u64);
-    let (before, behind) = what.split_once("{column}").unwrap_or((what, ""));
-    put_known(out, before, odd, texts, numbers);
-    if before.len() < what.len() {
-        put_column_name(out, text, odd);
-        put_known(out, behind, odd, texts, numbers);
-    }
-    true
-}
-
-/// Puts this part of what is said of an odd row, with its value, what the vote names twice, a line, and how many
-/// fields it has.
-fn put_known<'t>(
+/// Puts a text on an odd row, with what is known of it, or of the row if it could be read again, in place of
+/// each name in braces.
+fn put_text<R: Files>(
     out: &mut WordsWriter,
-    part: &'static str,
+    text: &Text<R>,
     odd: &Odd,
-    texts: (&'t str, &'t str),
-    numbers: (u64, u64),
+    (form, row): (&str, Option<&ByteRecord>),
 ) {
-    let (value, twice) = texts;
-    let (line, fields) = numbers;
+    let value = row.map_or("", |row| text_at(row, odd.value_place));
+    let names = odd.names.and_then(|mark| text.row_at(mark));
+    let name = names
+        .as_ref()
+        .map_or("", |names| text_at(names, odd.value_place));
+    let place = (odd.value_place as u64).saturating_add(1);
+    let column = match name {
+        "" => Number(place),
+        name => Quoted(name),
+    };
+    let twice = match odd.oddity {
+        Oddity::TwiceInVote => twice_in(text.alloc, value),
+        _ => "",
+    };
+    let line = line_of(text, odd.before.unwrap_or(odd.mark));
+    let fields = row.map_or(0, |row| row.len() as u64);
+    let file = text.path.map_or(Own("FILE"), |path| Name(Some(path)));
     out.fill_named(
-        part,
+        form,
+        &figures_of(odd, value),
         &[
             ("value", Quoted(value)),
+            ("column", column),
             ("fields", Number(fields)),
-            ("number", Number(odd.number)),
-            ("rows", Count(odd.number, "row")),
-            ("projects", Count(odd.number, "project")),
-            ("limit", Number(odd.limit.unwrap_or(0))),
             ("line", Number(line)),
-            ("amount", Amount(amount_of(value))),
-            ("sum", Amount(odd.number)),
-            ("most", Amount(odd.limit.unwrap_or(0))),
             ("twice", Quoted(twice)),
             ("short", Quoted(value.trim_end_matches('0'))),
+            ("file", file),
         ],
     );
 }
 
-/// Puts the name of the column that an odd row is spoken of for, or its number.
-fn put_column_name<R: Files>(out: &mut WordsWriter, text: &Text<R>, odd: &Odd) {
-    let number = (odd.value_place as u64).saturating_add(1);
-    let Some(names) = odd.names else {
-        return out.fill("{}", &[Number(number)]);
-    };
-    let Some(records) = text.record_at(names) else {
-        return out.fill("{}", &[Number(number)]);
-    };
-    match text_at(&records.last, odd.value_place) {
-        "" => out.fill("{}", &[Number(number)]),
-        name => out.fill("{}", &[Quoted(name)]),
-    }
-    drop(records);
-}
-
-/// The first id that a vote names twice, if it is odd for that.
-fn twice_of<'v>(alloc: Global, odd: &Odd, vote: &'v str) -> &'v str {
-    match odd.oddity {
-        Oddity::TwiceInVote => twice_in(alloc, vote),
-        _ => "",
-    }
-}
-
-/// The hundredths that a value is read as; 0 if it is no amount.
-fn amount_of(value: &str) -> u64 {
-    match Money::read(value) {
-        Ok(amount) => amount.0,
-        Err(_) => 0,
-    }
-}
-
-/// Puts where a record stands.
-fn put_place<R: Files>(out: &mut WordsWriter, text: &Text<R>, mark: Mark) {
-    if text.is_file() {
-        let _ = put_mark(out, text, mark);
-    } else {
-        put_record_number(out, text, mark.at);
-    }
+/// The figures that are known of an odd row, with what they are called in a text.
+fn figures_of<'t>(odd: &Odd, value: &str) -> [(&'static str, PlaceholderValue<'t>); 7] {
+    let limit = odd.limit.unwrap_or(0);
+    let amount = Money::read(value).map_or(0, |amount| amount.0);
+    [
+        ("number", Number(odd.number)),
+        ("rows", Count(odd.number, "row")),
+        ("projects", Count(odd.number, "project")),
+        ("limit", Number(limit)),
+        ("amount", Amount(amount)),
+        ("sum", Amount(odd.number)),
+        ("most", Amount(limit)),
+    ]
 }

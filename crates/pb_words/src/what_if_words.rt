@@ -1,8 +1,6 @@
 //! Words for a question about changed elections that has no answer.
 
-use crate::words::PlaceholderValue::{Name, Number, Quoted};
-use crate::words::{Said, said};
-use std::alloc::Global;
+use crate::prelude::*;
 
 /// Words for an id that no project has; a file without a path is standard input.
 pub fn no_project_words(alloc: Global, id: &str, file: Option<&str>) -> Said {

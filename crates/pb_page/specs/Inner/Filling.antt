@@ -1,5 +1,6 @@
 -- Pieces of markup, filled with texts.
-use Rattle.std.specs.Prelude.{ℕ, ◌==◌, List, [], ◌∷◌, ◌++◌, drop, flat_map, if◌then◌else◌, slice_index_or}
+use Rattle.std.specs.Prelude.{ℕ, ◌==◌, Bool, true, false, List, [], ◌∷◌, ◌++◌, drop, if◌then◌else◌, slice_index_or}
+use Rattle.pb_page.specs.Content.{Part, Own, Text}
 use Rattle.pb_page.specs.Markup.{written}
 
 -- a piece of markup in which texts, as they stand in a page, take the places of `~`, one after the other; `^`
@@ -10,11 +11,16 @@ filled (c ∷ cs) texts =
     if c == 126 then written (slice_index_or texts 0 []) ++ filled cs (drop 1 texts)
     else (if c == 94 then written (slice_index_or texts 0 []) ++ filled cs texts else c ∷ filled cs texts)
 
--- a piece of markup, and the texts that fill it
-pub record Filling : Type 0 where
-  pub piece : List ℕ
-  pub texts : List (List ℕ)
+-- one of two, of which only that one is computed
+abbrev pub lazily : {X : Type 0} → Bool → (ℕ → X) → (ℕ → X) → X
+lazily true one other = one 0
+lazily false one other = other 0
 
--- a page: its pieces, each filled, one after the other
-abbrev pub page_of : List Filling → List ℕ
-page_of fillings = flat_map (λ f. filled f.piece f.texts) fillings
+-- the same as parts
+abbrev pub cut_at_places : List ℕ → List (List ℕ) → List Part
+cut_at_places [] texts = []
+cut_at_places (c ∷ cs) texts = lazily (c == 126) (λ _. Text (slice_index_or texts 0 []) ∷ cut_at_places cs (drop 1 texts))
+    (λ _. lazily (c == 94) (λ _. Text (slice_index_or texts 0 []) ∷ cut_at_places cs texts) (λ _. Own (c ∷ []) ∷ cut_at_places cs texts))
+
+unfoldable pub cut : (piece : List ℕ) → (texts : List (List ℕ)) → List Part
+cut piece texts = cut_at_places piece texts

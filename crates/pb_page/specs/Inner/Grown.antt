@@ -1,7 +1,7 @@
--- A page that grows by pieces.
-use Rattle.std.specs.Prelude.{◌≡◌, ◌++◌, ℕ, List}
-use Rattle.pb_page.specs.Inner.Filling.{Filling, page_of}
+-- A page that grows.
+use Rattle.std.specs.Prelude.{◌≡◌, ◌++◌, ℕ, List, flat_map}
+use Rattle.pb_page.specs.Content.{Part, bytes}
 
--- these pieces, each filled, were put after a page
-unfoldable pub Grows : List ℕ → List ℕ → List Filling → Type 0
-Grows before after fillings = after ≡ before ++ page_of fillings
+-- these parts were put after a page
+unfoldable pub Grows : List ℕ → List ℕ → List Part → Type 0
+Grows before after parts = after ≡ before ++ flat_map bytes parts

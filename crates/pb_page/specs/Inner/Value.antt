@@ -1,13 +1,42 @@
--- The values that fill the places of markup.
-use Rattle.std.specs.Prelude.{ℕ, List, decimal}
+-- The values that fill the places of markup, and what stands at the places of a sentence.
+use Rattle.std.specs.Prelude.{ℕ, List, [], ◌∷◌, codes, decimal, if◌then◌else◌, nat_lt, slice_index_or}
 use Rattle.pb_core.specs.MoneyText.{money_text}
 use Rattle.pb_page.specs.Amount.{shown}
+use Rattle.pb_page.specs.Content.{Part, amount, attribute, element, isolated, nameless, noun_at, number, said, text}
+use Rattle.pb_page.specs.Page.{width}
+use Rattle.pb_page.specs.Words.{noun, sentence}
+use Rattle.pb_page.specs.declared.language.Language.{Language}
 use Rattle.pb_page.specs.declared.markup.value.Value.{Value}
-use Rattle.pb_page.specs.declared.markup.value.Value.TheVariants.{Text, Number, Amount, Shown}
+use Rattle.pb_page.specs.declared.markup.value.Value.TheVariants as value
+use Rattle.pb_page.specs.declared.markup.words.Words.{Words}
+use Rattle.pb_page.specs.declared.place.Place.{Place}
+use Rattle.pb_page.specs.declared.place.Place.TheVariants as place
 
 -- the text of a value
-abbrev pub text_of : Value → List ℕ
-text_of (Text text) = text.now
-text_of (Number n) = decimal n
-text_of (Amount hundredths) = money_text hundredths
-text_of (Shown hundredths form) = shown form hundredths
+abbrev pub text_of : Words → Value → List ℕ
+text_of w (value.Text t) = t.now
+text_of w (value.Said k) = sentence w k
+text_of w (value.Noun k n) = noun w k n
+text_of w (value.Number n) = decimal n
+text_of w (value.Small n) = decimal n
+text_of w (value.Width a whole) = decimal (width a whole)
+text_of w (value.Amount h) = money_text h
+text_of w (value.Shown h form) = shown form h
+
+-- what stands at a place of a sentence
+abbrev pub at_place : Language → Place → List Part
+at_place l (place.Text t) = text t.now
+at_place l (place.Digits n) = text (decimal n)
+at_place l (place.Noun k n) = noun_at l k n
+at_place l (place.Shown h form) = text (shown form h)
+at_place l (place.Number name n) = number name.now n
+at_place l (place.Amount name h form) = amount form name.now h
+at_place l (place.Nameless h form) = nameless (money_text h) (text (shown form h))
+at_place l (place.Called t) = isolated t.now
+at_place l (place.Link address k) =
+    element (codes "a") (attribute (codes "href") (text address.now)) (said l k)
+
+-- a character of a sentence: below 32 the place of that number, or nothing where none is given; any other is
+-- text
+abbrev pub character_said : List (List Part) → ℕ → List Part
+character_said places c = if nat_lt c 32 then slice_index_or places c [] else text (c ∷ [])

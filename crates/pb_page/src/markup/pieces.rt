@@ -1,11 +1,11 @@
 //! Pieces of markup, filled with texts.
 
-ghost use Rattle.std.specs.Prelude.{◌≡◌, ◌++◌, OnOk, map};
+ghost use Rattle.std.specs.Prelude.{◌≡◌, ◌++◌, OnOk, decimal, map};
 ghost use Rattle.pb_page.specs.Inner.Filling.{filled};
 ghost use Rattle.pb_page.specs.Inner.Value.{text_of};
 ghost use Rattle.pb_page.specs.Markup.{written};
-ghost use Rattle.pb_page.specs.Words.{sentence};
 
+use crate::forms::width;
 use crate::markup::amounts::write_amount;
 use crate::markup::value::Value;
 use crate::markup::words::Words;
@@ -23,10 +23,12 @@ const NEXT: u8 = b'^';
 /// after the other; each `^` is the value of the next `~` as well. A place without a value stays empty.
 pub(crate) fn fill(
     page: &mut Vec<u8>,
+    words: &Words,
     piece: &'static str,
     values: &[Value],
 ) -> Result<(), NoMemory>
-    ensures { OnOk result (page.new.items ≡ page.old.items ++ filled piece.now (map text_of values.now)) }
+    ensures { OnOk result (page.new.items
+        ≡ page.old.items ++ filled piece.now (map (text_of words.now) values.now)) }
 {
     let mut used = 0;
     let bytes = piece.as_bytes();
@@ -35,33 +37,7 @@ pub(crate) fn fill(
             page.push(*byte)?;
         } else if used < values.len() {
             let value = &values[used];
-            write_value(page, value)?;
-            if *byte == PLACE {
-                used += 1;
-            }
-        }
-    }
-    Ok(())
-}
-
-/// Writes a piece of the program's own markup after a page, with the sentences at these keys in its places, as
-/// `fill` writes values.
-pub(crate) fn fill_words(
-    page: &mut Vec<u8>,
-    piece: &'static str,
-    words: &Words,
-    keys: &[u16],
-) -> Result<(), NoMemory>
-    ensures { OnOk result (page.new.items
-        ≡ page.old.items ++ filled piece.now (map (sentence words.now) keys.now)) }
-{
-    let mut used = 0;
-    let bytes = piece.as_bytes();
-    for byte in bytes {
-        if *byte != PLACE && *byte != NEXT {
-            page.push(*byte)?;
-        } else if used < keys.len() {
-            write_text(page, words.sentence(keys[used]))?;
+            write_value(page, words, value)?;
             if *byte == PLACE {
                 used += 1;
             }
@@ -71,19 +47,28 @@ pub(crate) fn fill_words(
 }
 
 /// Writes a value.
-fn write_value(page: &mut Vec<u8>, value: &Value) -> Result<(), NoMemory>
-    ensures { OnOk result (page.new.items ≡ page.old.items ++ written (text_of value.now)) }
+fn write_value(page: &mut Vec<u8>, words: &Words, value: &Value) -> Result<(), NoMemory>
+    ensures { OnOk result (page.new.items ≡ page.old.items ++ written (text_of words.now value.now)) }
 {
     match value {
         Value::Text(text) => write_text(page, text),
-        Value::Number(number) => {
-            let mut digits = Buffer::new();
-            write_text(page, digits.format(*number))
-        }
+        Value::Said(key) => write_text(page, words.sentence(*key)),
+        Value::Noun(key, number) => write_text(page, words.noun(*key, *number)),
+        Value::Number(number) => write_number(page, *number),
+        Value::Small(number) => write_number(page, u64::from(*number)),
+        Value::Width(amount, whole) => write_number(page, width(*amount, *whole)),
         Value::Amount(amount) => {
             let text = amount.text(*page.allocator())?;
             write_text(page, text.as_str())
         }
         Value::Shown(amount, form) => write_amount(page, *amount, form),
     }
+}
+
+/// Writes a number.
+fn write_number(page: &mut Vec<u8>, number: u64) -> Result<(), NoMemory>
+    ensures { OnOk result (page.new.items ≡ page.old.items ++ written (decimal number)) }
+{
+    let mut digits = Buffer::new();
+    write_text(page, digits.format(number))
 }

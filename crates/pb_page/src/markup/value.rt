@@ -8,8 +8,16 @@ use pb_core::money::Money;
 pub(crate) enum Value<'a> {
     /// A text from outside.
     Text(&'a str),
+    /// What the words of the page say at a key.
+    Said(u16),
+    /// The form for a number of the noun whose forms begin at a key.
+    Noun(u16, u64),
     /// A number, in decimal.
     Number(u64),
+    /// A number below 2^32, in decimal.
+    Small(u32),
+    /// How wide an amount is, in ten thousandths of a whole.
+    Width(u64, u64),
     /// An amount of money, as reports have it.
     Amount(Money),
     /// An amount of money, as people write it.

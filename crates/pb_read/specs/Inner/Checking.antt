@@ -1,6 +1,6 @@
 -- How far a check of a whole file has come; private contracts speak of it.
 use Rattle.std.specs.Prelude.{◌≡◌, ◌≢◌, ◌≤◌, ◌<◌, ◌+◌, ◌-◌, ◌==◌, ℕ, Bool, true, false, List, [], ◌∷◌, ◌++◌, length}
-use Rattle.std.specs.Prelude.{remove, Option, Some, None, Result, Ok, Err, IfSome, if◌then◌else◌, ⊤}
+use Rattle.std.specs.Prelude.{remove, take, MatchOption, Option, Some, None, Result, Ok, Err, IfSome, if◌then◌else◌, ⊤}
 use Rattle.csv.specs.Records.{AllText}
 use Rattle.pb_core.specs.Election.{ElectionView}
 use Rattle.pb_rows.specs.Reading.{Fields, IsNext}
@@ -101,7 +101,7 @@ abbrev pub LeadsTo : ℕ → List Fields → List ReadFault → List Fields → 
 LeadsTo out records [] now = records ≡ now
 LeadsTo out records (fault ∷ more) now =
     (out < fault.at) × IsFaultAt records fault.kind (fault.at - out)
-    × (out < 999) × IsLeftOut true records fault.kind (fault.at - out)
+    × (out < 999) × IsLeftOut true (take (fault.at - out - 1) records) fault.kind
     × LeadsTo (out + 1) (without (fault.at - out) records) more now
 
 -- this many records were read, and these faults listed
@@ -137,3 +137,13 @@ StopsAt all left faults p fault false = IfSome all (λ records. AreListed 0 reco
 abbrev pub Stops : Option (List Fields) → Option (List Fields) → List ReadFault → Position → Result ⊤ Refused → Type 0
 Stops all left faults p (Ok done) = IfSome all (λ records. AreListed 0 records faults × (faults ≡ [] → StandsFor records p.1))
 Stops all left faults p (Err refused) = StopsAt all left faults p refused.fault refused.is_left_out
+
+-- what a check that lists these faults hands out: where there is none the election that the records stand
+-- for, else nothing
+abbrev pub IsHandedOut : List Fields → List ReadFault → Option ElectionView → Type 0
+IsHandedOut records faults election =
+    MatchOption election (faults ≢ []) (λ e. (faults ≡ []) × StandsFor records e)
+
+-- whether the record with this number, from 1, is left out
+abbrev pub IsLeftOutAt : Bool → List Fields → ReadKind → ℕ → Type 0
+IsLeftOutAt is_left_out records kind at = IsLeftOut is_left_out (take (at - 1) records) kind

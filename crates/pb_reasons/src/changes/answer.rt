@@ -139,7 +139,7 @@ fn dearer<T: Threads + Sync, G: Gate>(
 }
 
 /// What is found for a loser.
-fn loser<T: Threads + Sync, G: Gate>(
+pub(crate) fn loser<T: Threads + Sync, G: Gate>(
     recount: &Recount<T, G>,
     changing: &mut Changing,
     cost: Money,
@@ -153,6 +153,7 @@ fn loser<T: Threads + Sync, G: Gate>(
         found.voters.first found.voters.second) }
     ensures doubled { IfOk result (λ found.
         NoneWins changing.old recount.now.question found.voters.second.value) }
+    ensures kept { IfOk result (λ _. changing.new ≡ changing.old) }
     ensures fault { IfErr result (IsStop recount.now.question) }
 {
     let found = cheaper(recount, changing, cost)?;

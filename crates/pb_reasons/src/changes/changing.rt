@@ -1,6 +1,7 @@
 //! An election that is changed for one count at a time.
 
-ghost use Rattle.std.specs.Prelude.{◌≡◌, ◌<◌, ◌≤◌, [], IfErr, IfOk, OnOk, length, map, take};
+ghost use Rattle.std.specs.Prelude.{◌≡◌, ◌<◌, ◌≤◌, [], IfErr, IfOk, OnOk, length, map};
+ghost use Rattle.std.specs.Prelude.{slice_index, take};
 ghost use Rattle.pb_core.specs.Election.{most_voters};
 ghost use Rattle.pb_reasons.specs.WhatIf.{CanBe, IsTrue, seen};
 ghost use Rattle.pb_reasons.specs.Inner.Numbered.{AreNumbered};
@@ -12,6 +13,7 @@ use crate::changes::numbered::{add_further, with_number_ids};
 use crate::changes::recount::{Recount, verdict_of};
 use pb_core::election::Election;
 use pb_core::gate::Gate;
+use pb_core::money::Money;
 use pb_core::no_memory::NoMemory;
 use pb_core::voter::Voter;
 use pb_rounds::count_fault::CountFault;
@@ -65,6 +67,14 @@ impl Changing {
         ensures few { result ≤ most_voters }
     {
         self.voters.len()
+    }
+
+    /// The cost of the project at this place.
+    pub(crate) fn cost(&self, place: u32) -> Money
+        requires { place < length self.now.costs }
+        ensures { result ≡ slice_index self.now.costs place }
+    {
+        self.frame.projects()[place as usize].cost()
     }
 
     /// Counts the election so changed, and changes it back.

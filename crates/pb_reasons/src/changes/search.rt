@@ -85,6 +85,7 @@ pub(crate) fn doubled<T: Threads + Sync, G: Gate>(
     ensures found { IfOk result (λ found.
         IsFound changing.old recount.now.question Voters 0 most found.first found.second) }
     ensures doubled { IfOk result (λ found. NoneWins changing.old recount.now.question found.second.value) }
+    ensures kept { IfOk result (λ _. changing.new ≡ changing.old) }
     ensures fault { IfErr result (IsStop recount.now.question) }
 {
     let nobody = Row {

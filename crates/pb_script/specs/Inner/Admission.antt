@@ -1,8 +1,10 @@
 -- How a row is judged, in parts.
-use Rattle.std.specs.Prelude.{ℕ, Bool, true, false, not, is_some, List, [], ◌∷◌, Option, Some, None, Ok, Err}
+use Rattle.std.specs.Prelude.{ℕ, Bool, true, false, not, is_some, length, nat_le, List, [], ◌∷◌, Option, Some, None, Ok, Err}
 use Rattle.std.specs.Prelude.{if◌then◌else◌}
 use Rattle.std.specs.FinMap.{get}
 use Rattle.std.specs.Option.{option_map_or}
+use Rattle.pb_core.specs.Request.{RequestView}
+use Rattle.pb_desk.specs.Step.{brought}
 use Rattle.pb_read.specs.Voting.{ballot_of, names_only}
 use Rattle.pb_rows.specs.Numbers.{places_text}
 use Rattle.pb_rows.specs.Reading.{Fields}
@@ -36,6 +38,10 @@ Refuses a clerks row why = Judges a clerks row (Err why)
 -- a row is admitted
 abbrev pub IsAdmitted : Admission → ℕ → Fields → Type 0
 IsAdmitted a clerks row = (x : ScriptRowView) × Judges a clerks row (Ok x)
+
+-- a ballot that is cast, or replaces another, has this many projects at least
+abbrev pub has_enough : ℕ → RequestView → Bool
+has_enough least request = option_map_or (λ b. nat_le least (length b.1)) (brought request) true
 
 -- the first rule of the desk that a request of this voter breaks
 abbrev pub broken_for : Admission → (voter : List ℕ) → (has_enough : Bool) → Option RowRefusal

@@ -10,13 +10,13 @@ use Rattle.pb_read.specs.Voting.{is_among}
 use Rattle.pb_rows.specs.Reading.{Fields}
 use Rattle.pb_script.specs.Inner.ScriptReading.{HaveGone}
 use Rattle.pb_script.specs.Roll.{IsNextRollFault, ids_of}
-use Rattle.pb_script.specs.Script.{most_rows}
+use Rattle.pb_read.specs.StandsFor.{most_records}
 use Rattle.pb_script.specs.declared.roll.RollFault.{RollFault}
 
 -- whatever this many rows came before, with this many ids, the fault is that of the next
 abbrev pub IsFaultAfter : ℕ → ℕ → List Fields → RollFault → Type 0
 IsFaultAfter rows ids left fault = (before : List Fields) → length before ≡ rows → length (ids_of before) ≡ ids
-    → ids ≤ most_rows → IsNextRollFault before left fault
+    → ids ≤ most_records → IsNextRollFault before left fault
 
 -- the id of this row has come to the table, or the row is a header
 pub record PutsId (row : Fields) (is_first has_id : Bool) (old new : FinMap (slice_cmp nat_cmp) ℕ) : Type 0 where

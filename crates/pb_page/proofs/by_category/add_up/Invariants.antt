@@ -1,6 +1,6 @@
 use Rattle.std.proofs.Common.{◌≡◌, length, map, take}
 use Rattle.std.specs.List.{range_with_len}
-use Rattle.pb_page.specs.Inner.Pieces.{in_category}
+use Rattle.pb_page.specs.Inner.Counted.{in_category}
 use Rattle.pb_page.proofs.by_category.add_up.Given as goal
 
 abbrev pub invariant-loop-place : goal.invariant-loop-place

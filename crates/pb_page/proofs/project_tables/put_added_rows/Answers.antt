@@ -1,5 +1,5 @@
 use Rattle.std.proofs.lemmas.List.{get_or_default}
-use Rattle.pb_page.specs.Inner.Sections.{row_at}
+use Rattle.pb_page.specs.Page.{row_at}
 use Rattle.pb_page.proofs.Grown.{none, row_more}
 use Rattle.pb_page.proofs.project_tables.put_added_rows.Goals as goal
 

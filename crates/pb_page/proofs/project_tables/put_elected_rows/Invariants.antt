@@ -1,7 +1,7 @@
 use Rattle.std.proofs.Common.{take}
 use Rattle.std.specs.Prelude.{flat_map}
 use Rattle.pb_page.specs.Inner.Grown.{Grows}
-use Rattle.pb_page.specs.Inner.Sections.{row_at}
+use Rattle.pb_page.specs.Page.{row_at}
 use Rattle.pb_page.proofs.project_tables.put_elected_rows.Given as goal
 
 abbrev pub invariant-loop-winner : goal.invariant-loop-winner

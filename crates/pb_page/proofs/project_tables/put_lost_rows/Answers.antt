@@ -1,4 +1,4 @@
-use Rattle.pb_page.specs.Inner.Pieces.{lost_row}
+use Rattle.pb_page.specs.Inner.Counted.{lost_row}
 use Rattle.pb_page.proofs.Grown.{none, place_more}
 use Rattle.pb_page.proofs.project_tables.put_lost_rows.Goals as goal
 

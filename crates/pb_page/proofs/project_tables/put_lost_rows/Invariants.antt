@@ -1,7 +1,7 @@
 use Rattle.std.specs.List.{range_with_len}
 use Rattle.std.specs.Prelude.{flat_map}
 use Rattle.pb_page.specs.Inner.Grown.{Grows}
-use Rattle.pb_page.specs.Inner.Pieces.{lost_row}
+use Rattle.pb_page.specs.Inner.Counted.{lost_row}
 use Rattle.pb_page.proofs.project_tables.put_lost_rows.Given as goal
 
 abbrev pub invariant-loop-place : goal.invariant-loop-place

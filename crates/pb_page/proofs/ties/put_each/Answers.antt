@@ -1,5 +1,5 @@
 use Rattle.std.proofs.lemmas.List.{get_or_default, take_all}
-use Rattle.pb_page.specs.Inner.Sections.{tie}
+use Rattle.pb_page.specs.Page.{tie}
 use Rattle.pb_page.proofs.Grown.{none, row_more}
 use Rattle.pb_page.proofs.ties.put_each.Goals as goal
 

@@ -1,7 +1,7 @@
 use Rattle.std.proofs.Common.{take}
 use Rattle.std.specs.Prelude.{flat_map}
 use Rattle.pb_page.specs.Inner.Grown.{Grows}
-use Rattle.pb_page.specs.Inner.Sections.{tie}
+use Rattle.pb_page.specs.Page.{tie}
 use Rattle.pb_page.proofs.ties.put_each.Given as goal
 
 abbrev pub invariant-loop-tie : goal.invariant-loop-tie

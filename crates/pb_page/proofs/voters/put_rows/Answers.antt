@@ -1,5 +1,5 @@
 use Rattle.std.proofs.Common.{◌≡◌, arith}
-use Rattle.pb_page.specs.Inner.Pieces.{exact_row}
+use Rattle.pb_page.specs.Inner.Counted.{exact_row}
 use Rattle.pb_page.proofs.Grown.{none, place_more}
 use Rattle.pb_page.proofs.voters.put_rows.Goals as goal
 

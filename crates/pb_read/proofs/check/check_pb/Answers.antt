@@ -1,7 +1,8 @@
 use Rattle.std.proofs.Common.{◌<◌, length}
 use Rattle.std.specs.Prelude.{IfOk}
 use Rattle.pb_rows.specs.Reading.{records_of}
-use Rattle.pb_read.specs.Listed.{AreListed, IsHandedOut}
+use Rattle.pb_read.specs.Listed.{AreListed}
+use Rattle.pb_read.specs.Inner.Checking.{IsHandedOut}
 use Rattle.pb_read.specs.Shown.{IsAll, WereShown}
 use Rattle.pb_read.proofs.Showing.{where_known}
 use Rattle.pb_read.proofs.check.check_pb.Goals as goal

@@ -1,0 +1,14 @@
+META
+key;value
+budget;100
+vote_type;approval
+PROJECTS
+project_id;cost
+a;30
+b;60
+c;80
+VOTES
+voter_id;vote
+v1;a,c
+v2;a,b
+v3;c

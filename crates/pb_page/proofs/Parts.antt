@@ -1,0 +1,238 @@
+-- The parts of a page that are put in several pieces.
+use Rattle.std.proofs.Common.{◌≡◌, ◌∙◌, ℕ, false, true, List, [], ◌∷◌, ◌++◌, ap, append_assoc, length, refl, subst, sym}
+use Rattle.std.specs.Prelude.{◌==◌, codes, decimal, flat_map, if◌then◌else◌}
+use Rattle.std.proofs.lemmas.Bool.{eq-eqb}
+use Rattle.pb_core.specs.Election.{ElectionView}
+use Rattle.pb_core.specs.MoneyText.{money_text}
+use Rattle.pb_page.specs.Content.{Part, amount, attribute, block, element, figure, item, line, listed, own, paragraph, said, say, section, text}
+use Rattle.pb_page.specs.Inner.Counted.{begun, figures_of, filled_up, journal_source, link_said, made_by, only_then, options_said, picture_said, recount_said, result_said, sections, share_said, spent_said, voted_said}
+use Rattle.pb_page.specs.Inner.Filling.{cut}
+use Rattle.pb_page.specs.Page.{blocks, budget, check, command, parts, raises_ended, rule, source, summary, tie, ties}
+use Rattle.pb_page.specs.Words.{sentence}
+use Rattle.pb_page.specs.declared.facts.Facts.{Facts}
+use Rattle.pb_page.specs.declared.figures.Figures.{Figures}
+use Rattle.pb_page.specs.declared.keys.TheConstants as key
+use Rattle.pb_page.specs.declared.language.Language.{Language}
+use Rattle.pb_page.specs.declared.style.TheConstants.{META, STYLE}
+use Rattle.pb_page.specs.declared.templates.TheConstants.{BLOCKS_CLOSING, BLOCKS_OPENING, BUDGET_CLOSING, BUDGET_OPENING, CHECK_CLOSING, CHECK_OPENING, CLOSING, COMMAND_CLOSING, COMMAND_OPENING, HEAD_OPENING, LEAD, LEAD_CLOSING, LEAD_NEXT, LIST_CLOSING, MAIN, NOTHING, ONLY_THEN_OPENING, OPTIONS, PARAGRAPH, RULE_CLOSING, RULE_OPENING, SOURCES_CLOSING, TIES_OPENING, TITLE, TOP}
+use Rattle.pb_page.proofs.Grown.{before, before_more, heads}
+use Rattle.pb_reasons.specs.Counted.{winners_of}
+use Rattle.pb_reasons.specs.CountedElection.{CountedElectionView}
+use Rattle.pb_reasons.specs.Ties.{ties_of}
+use Rattle.pb_reasons.specs.declared.raise_end.NextRaise.{NextRaise}
+use Rattle.pb_reasons.specs.declared.raise_end.RaiseEnd.{RaiseEnd}
+use Rattle.pb_reasons.specs.declared.raise_end.RaiseEnd.TheVariants.{Over}
+use Rattle.pb_reasons.specs.declared.tie.Tie.{Tie}
+use Rattle.pb_rounds.specs.RuleNames.{by_completion, by_measure}
+use Rattle.pb_rounds.specs.declared.rule.Rule.{Rule}
+
+summary_as : (voted result : List Part) (rest : List ℕ)
+    → before (own LEAD.now ++ (voted ++ (own LEAD_NEXT.now ++ (result ++ own LEAD_CLOSING.now)))) rest
+    ≡ before (line (codes "p") (own (codes " class='lead'")) voted ++ line (codes "p") (own (codes " class='lead'")) result) rest
+summary_as voted result rest = simp (append_assoc, before_more)
+
+budget_as : (l : Language) (says blocks spent : List Part) (rest : List ℕ)
+    → before (heads l BUDGET_OPENING.now (key.BUDGET_HEADING ∷ []) ++ (says ++ (own BLOCKS_OPENING.now ++ (blocks
+    ++ (own BLOCKS_CLOSING.now ++ (spent ++ own BUDGET_CLOSING.now)))))) rest
+    ≡ before (section l [] (codes "budget") key.BUDGET_HEADING (block (codes "figure") [] (block (codes "div")
+    (own (codes " class='budget' role='img'") ++ attribute (codes "aria-label") says) blocks ++ line (codes "figcaption") [] spent))) rest
+unfolding cut
+budget_as l says those spent rest = simp (append_assoc, before_more)
+
+over_as : (l : Language) (says items : List Part) (rest : List ℕ)
+    → before (says ++ (heads l ONLY_THEN_OPENING.now (key.ONLY_THEN ∷ []) ++ (items ++ own LIST_CLOSING.now))) rest
+    ≡ before (says ++ listed l key.ONLY_THEN [] items) rest
+unfolding cut
+over_as l says items rest = simp (append_assoc, before_more)
+
+ties_as : (l : Language) (items : List Part) (rest : List ℕ)
+    → before (heads l TIES_OPENING.now (key.TIES ∷ []) ++ (items ++ own LIST_CLOSING.now)) rest
+    ≡ before (listed l key.TIES (own (codes " class='ties'")) items) rest
+unfolding cut
+ties_as l items rest = simp before_more
+
+rule_as : (l : Language) (share one two three ends method filled ties : List Part) (rest : List ℕ)
+    → before (heads l RULE_OPENING.now (key.RULE_HEADING ∷ []) ++ (share ++ (one ++ (two ++ (three ++ (ends ++ (method ++ (filled
+    ++ (ties ++ own RULE_CLOSING.now))))))))) rest
+    ≡ before (section l [] (codes "rule") key.RULE_HEADING (block (codes "ol") [] (share ++ ((one ++ (two ++ (three ++ [])))
+    ++ (ends ++ ((method ++ filled) ++ ties)))))) rest
+unfolding cut
+rule_as l share one two three ends method filled ties rest = simp (append_assoc, before_more)
+
+link_as : (l : Language) (says : List Part) (rest : List ℕ)
+    → before (says ++ heads l PARAGRAPH.now (key.PROGRAM_TOO ∷ [])) rest ≡ before (says ++ paragraph (said l key.PROGRAM_TOO)) rest
+unfolding cut
+link_as l says rest = simp (append_assoc, before_more)
+
+command_as : (begun : List Part) (measure completion step raises : List ℕ) (rest : List ℕ)
+    → before (begun ++ cut OPTIONS.now (measure ∷ completion ∷ step ∷ raises ∷ [])) rest
+    ≡ before (begun ++ (text measure ++ (text completion ++ (own (codes " --step ") ++ (text step ++ (own (codes " --raises ") ++ text raises)))))) rest
+unfolding cut
+command_as begun measure completion step raises rest = simp before_more
+
+abbrev ordered : Facts → (measure completion : List ℕ) → (step raises : ℕ) → List Part
+ordered facts measure completion step raises = begun facts.journal ++ (text measure ++ (text completion ++ (own (codes " --step ") ++ (text (decimal step)
+    ++ (own (codes " --raises ") ++ text (decimal raises))))))
+
+abbrev measure_said : Rule → List ℕ
+measure_said r = by_measure r.options.measure [] (codes " --measure cost")
+
+abbrev completion_said : Rule → List ℕ
+completion_said r = by_completion r.options.completion r.fill_up (codes " --plain") [] (codes " --completion utilitarian") (codes " --completion add1u")
+
+check_as : (l : Language) (file journal link command options made : List Part) (rest : List ℕ)
+    → before (heads l CHECK_OPENING.now (key.CHECK_HEADING ∷ key.CHECK_BYTES ∷ []) ++ (file ++ (journal ++ (own SOURCES_CLOSING.now
+    ++ (link ++ (own COMMAND_OPENING.now ++ (command ++ (own COMMAND_CLOSING.now ++ (options ++ (made ++ own CHECK_CLOSING.now)))))))))) rest
+    ≡ before (section l [] (codes "check") key.CHECK_HEADING (paragraph (said l key.CHECK_BYTES) ++ (block (codes "dl") [] (file ++ journal)
+    ++ (link ++ (line (codes "pre") [] (element (codes "code") [] command) ++ (options ++ made)))))) rest
+unfolding cut
+check_as l file journal link order options made rest = simp (append_assoc, before_more)
+
+-- the page, an element after the other
+line_before : (tag : List ℕ) (attributes inside : List Part) (rest : List ℕ) → before (line tag attributes inside) rest
+    ≡ (codes "<" ++ tag) ++ before attributes (codes ">" ++ before inside ((codes "</" ++ (tag ++ codes ">")) ++ (codes "\n" ++ rest)))
+line_before tag attributes inside rest =
+    let close = own (codes "</" ++ (tag ++ codes ">")) in
+    before_more (element tag attributes inside) (own (codes "\n")) rest ∙ ap (λ (t : List ℕ). (codes "<" ++ tag) ++ t)
+    (before_more attributes (own (codes ">") ++ (inside ++ close)) (codes "\n" ++ rest)
+    ∙ ap (λ (t : List ℕ). before attributes (codes ">" ++ t)) (before_more inside close (codes "\n" ++ rest)))
+
+nine : (a b c d e f g h i : List Part) (rest : List ℕ) → before (a ++ (b ++ (c ++ (d ++ (e ++ (f ++ (g ++ (h ++ i)))))))) rest
+    ≡ before a (before b (before c (before d (before e (before f (before g (before h (before i rest))))))))
+nine a b c d e f g h i rest = simp before_more
+
+page_as : (l : Language) (meta style title : List ℕ) (lead inside : List Part) (rest : List ℕ)
+    → before (heads l HEAD_OPENING.now (key.LANG ∷ key.DIR ∷ []) ++ (own meta ++ (cut TITLE.now (title ∷ []) ++ (own style
+    ++ (cut TOP.now (title ∷ []) ++ (lead ++ (own MAIN.now ++ (inside ++ own CLOSING.now)))))))) rest
+    ≡ before (own (codes "<!DOCTYPE html>\n")
+    ++ block (codes "html") (attribute (codes "lang") (said l key.LANG) ++ attribute (codes "dir") (said l key.DIR))
+    (block (codes "head") [] (own meta ++ (line (codes "title") [] (text title) ++ line (codes "style") [] (own style)))
+    ++ block (codes "body") [] (block (codes "header") [] (line (codes "h1") (own (codes " dir='auto'")) (text title) ++ lead)
+    ++ block (codes "main") [] inside))) rest
+unfolding cut
+page_as l meta style title lead inside rest =
+    let attributes = attribute (codes "lang") (said l key.LANG) ++ attribute (codes "dir") (said l key.DIR) in
+    let head = block (codes "head") [] (own meta ++ (line (codes "title") [] (text title) ++ line (codes "style") [] (own style))) in
+    let first = line (codes "h1") (own (codes " dir='auto'")) (text title) in
+    let header = block (codes "header") [] (first ++ lead) in
+    let main = block (codes "main") [] inside in
+    let after = codes "</html>\n" ++ rest in
+    let within = codes "</body>\n" ++ after in
+    let pieces = nine (heads l HEAD_OPENING.now (key.LANG ∷ key.DIR ∷ [])) (own meta) (cut TITLE.now (title ∷ [])) (own style) (cut TOP.now (title ∷ []))
+    lead (own MAIN.now) inside (own CLOSING.now) rest in
+    let main_is = line_before (codes "main") [] (own (codes "\n") ++ inside) within in
+    let header_is = line_before (codes "header") [] (own (codes "\n") ++ (first ++ lead)) (before main within) in
+    let body_is = line_before (codes "body") [] (own (codes "\n") ++ (header ++ main)) after in
+    let html_is = line_before (codes "html") attributes (own (codes "\n") ++ (head ++ block (codes "body") [] (header ++ main))) rest in
+    let top_is = before_more first lead (codes "</header>\n" ++ before main within)
+    ∙ ap (λ (t : List ℕ). before first (before lead (codes "</header>\n" ++ t))) main_is in
+    let in_body = before_more header main within ∙ header_is ∙ ap (λ (t : List ℕ). codes "<header>\n" ++ t) top_is in
+    let in_html = before_more head (block (codes "body") [] (header ++ main)) after
+    ∙ ap (before head) (body_is ∙ ap (λ (t : List ℕ). codes "<body>\n" ++ t) in_body) in
+    pieces ∙ sym (ap (λ (t : List ℕ). codes "<!DOCTYPE html>\n" ++ t)
+    (html_is ∙ ap (λ (t : List ℕ). codes "<html" ++ before attributes (codes ">\n" ++ t)) in_html))
+
+-- the same as what is counted
+pub summary_is : (l : Language) (x : CountedElectionView) (f : Figures) → f ≡ figures_of x → (rest : List ℕ)
+    → before (own LEAD.now ++ (voted_said l f ++ (own LEAD_NEXT.now ++ (result_said l f ++ own LEAD_CLOSING.now)))) rest ≡ before (summary l x) rest
+unfolding summary
+summary_is l x f is rest =
+    let Same : Figures → Type 0 = λ g. before (own LEAD.now ++ (voted_said l g ++ (own LEAD_NEXT.now ++ (result_said l g ++ own LEAD_CLOSING.now)))) rest
+    ≡ before (summary l x) rest in
+    subst Same (sym is) (summary_as (voted_said l (figures_of x)) (result_said l (figures_of x)) rest)
+
+none_as : (l : Language) (f : Figures) (left : List Part) (rest : List ℕ)
+    → before (cut NOTHING.now (decimal f.won ∷ money_text f.spent ∷ money_text f.surplus ∷ []) ++ left) rest
+    ≡ before (figure (codes "won") (decimal f.won) [] ++ (figure (codes "spent") (money_text f.spent) [] ++ (figure (codes "surplus") (money_text f.surplus) [] ++ left))) rest
+unfolding cut
+none_as l f left rest = simp append_assoc
+
+pub none_is : (l : Language) (f : Figures) → f.won ≡ 0 → (rest : List ℕ)
+    → before (cut NOTHING.now (decimal f.won ∷ money_text f.spent ∷ money_text f.surplus ∷ []) ++ say l key.NONE_WON (amount l.costs (codes "left") f.left ∷ [])) rest
+    ≡ before (result_said l f) rest
+none_is l f none rest =
+    let so : f.won == 0 ≡ true = eq-eqb f.won 0 none in
+    rw so (none_as l f (say l key.NONE_WON (amount l.costs (codes "left") f.left ∷ [])) rest)
+
+pub budget_is : (l : Language) (x : CountedElectionView) (f : Figures) → f ≡ figures_of x → (rest : List ℕ)
+    → before (heads l BUDGET_OPENING.now (key.BUDGET_HEADING ∷ []) ++ (picture_said l f ++ (own BLOCKS_OPENING.now
+    ++ (blocks l.costs x.election 0 (winners_of x.counted) ++ (own BLOCKS_CLOSING.now ++ (spent_said l f ++ own BUDGET_CLOSING.now)))))) rest
+    ≡ before (budget l x) rest
+unfolding budget
+budget_is l x f is rest =
+    let Same : Figures → Type 0 = λ g. before (heads l BUDGET_OPENING.now (key.BUDGET_HEADING ∷ []) ++ (picture_said l g ++ (own BLOCKS_OPENING.now
+    ++ (blocks l.costs x.election 0 (winners_of x.counted) ++ (own BLOCKS_CLOSING.now ++ (spent_said l g ++ own BUDGET_CLOSING.now)))))) rest
+    ≡ before (budget l x) rest in
+    subst Same (sym is) (budget_as l (picture_said l (figures_of x)) (blocks l.costs x.election 0 (winners_of x.counted)) (spent_said l (figures_of x)) rest)
+
+pub over_is : (l : Language) (e : ElectionView) (next : NextRaise) (places : List ℕ) → places ≡ next.only_then.items → (rest : List ℕ)
+    → before (item (say l key.OVER (amount l.amounts (codes "next_share") next.share ∷ amount l.costs (codes "next_cost") next.cost ∷ []))
+    ++ (heads l ONLY_THEN_OPENING.now (key.ONLY_THEN ∷ []) ++ (flat_map (only_then l e) places ++ own LIST_CLOSING.now))) rest
+    ≡ before (raises_ended l e (Over next)) rest
+over_is l e next places is rest = rw is (over_as l
+    (item (say l key.OVER (amount l.amounts (codes "next_share") next.share ∷ amount l.costs (codes "next_cost") next.cost ∷ [])))
+    (flat_map (only_then l e) next.only_then.items) rest)
+
+pub ties_are : (l : Language) (x : CountedElectionView) (all : List Tie) → all ≡ ties_of x.rule.options.measure x.election x.counted.outcome
+    → length all == 0 ≡ false → (rest : List ℕ)
+    → before (heads l TIES_OPENING.now (key.TIES ∷ []) ++ (flat_map (tie l x) all ++ own LIST_CLOSING.now)) rest ≡ before (ties l x) rest
+unfolding ties
+ties_are l x all is some rest = rw (sym is, some) (ties_as l (flat_map (tie l x) all) rest)
+
+pub no_ties : (l : Language) (x : CountedElectionView) (all : List Tie) → all ≡ ties_of x.rule.options.measure x.election x.counted.outcome
+    → length all == 0 ≡ true → [] ≡ ties l x
+unfolding ties
+no_ties l x all is none = rw (sym is, none) refl
+
+pub rule_is : (l : Language) (x : CountedElectionView) (end : RaiseEnd) (share one two method filled : List Part)
+    → share ≡ share_said l x.rule.options.step x.counted.outcome.share x.counted.outcome.raised
+    → one ≡ item (said l (by_measure x.rule.options.measure key.BY_VOTES key.BY_COST))
+    → two ≡ item (said l (by_completion x.rule.options.completion x.rule.fill_up key.PLAIN (if x.counted.outcome.raised == 0 then key.UNRAISED else key.RAISED)
+    key.UNUSED (if x.counted.outcome.raised == 0 then key.UNRAISED else key.RAISED)))
+    → method ≡ item (said l (by_completion x.rule.options.completion x.rule.fill_up key.METHOD_PLAIN key.METHOD_ADD1 key.METHOD_FILLED key.METHOD_ADD1))
+    → filled ≡ filled_up l x.rule.fill_up → (rest : List ℕ)
+    → before (heads l RULE_OPENING.now (key.RULE_HEADING ∷ []) ++ (share ++ (item (said l key.SUPPORTERS) ++ (one ++ (two
+    ++ (raises_ended l x.election end ++ (method ++ (filled ++ (ties l x ++ own RULE_CLOSING.now))))))))) rest
+    ≡ before (rule l x end) rest
+unfolding rule
+rule_is l x end share one two method filled share_is one_is two_is method_is filled_is rest =
+    rw (share_is, one_is, two_is, method_is, filled_is) (rule_as l (share_said l x.rule.options.step x.counted.outcome.share x.counted.outcome.raised)
+    (item (said l key.SUPPORTERS)) (item (said l (by_measure x.rule.options.measure key.BY_VOTES key.BY_COST)))
+    (item (said l (by_completion x.rule.options.completion x.rule.fill_up key.PLAIN (if x.counted.outcome.raised == 0 then key.UNRAISED else key.RAISED)
+    key.UNUSED (if x.counted.outcome.raised == 0 then key.UNRAISED else key.RAISED)))) (raises_ended l x.election end)
+    (item (said l (by_completion x.rule.options.completion x.rule.fill_up key.METHOD_PLAIN key.METHOD_ADD1 key.METHOD_FILLED key.METHOD_ADD1)))
+    (filled_up l x.rule.fill_up) (ties l x) rest)
+
+pub link_is : (l : Language) (address : List ℕ) (rest : List ℕ)
+    → before (recount_said l address ++ heads l PARAGRAPH.now (key.PROGRAM_TOO ∷ [])) rest ≡ before (recount_said l address ++ paragraph (said l key.PROGRAM_TOO)) rest
+link_is l address rest = link_as l (recount_said l address) rest
+
+pub command_is : (facts : Facts) (r : Rule) (measure completion : List ℕ) (step raises : ℕ) → measure ≡ by_measure r.options.measure [] (codes " --measure cost")
+    → completion ≡ by_completion r.options.completion r.fill_up (codes " --plain") [] (codes " --completion utilitarian") (codes " --completion add1u")
+    → step ≡ r.options.step → raises ≡ r.options.max_raises → (rest : List ℕ)
+    → before (begun facts.journal ++ cut OPTIONS.now (measure ∷ completion ∷ decimal step ∷ decimal raises ∷ [])) rest
+    ≡ before (command facts r) rest
+command_is facts r measure completion step raises measure_is completion_is step_is raises_is rest =
+    command_as (begun facts.journal) measure completion (decimal step) (decimal raises) rest
+    ∙ ap (λ (t : List ℕ). before (ordered facts t completion step raises) rest) measure_is
+    ∙ ap (λ (t : List ℕ). before (ordered facts (measure_said r) t step raises) rest) completion_is
+    ∙ ap (λ (n : ℕ). before (ordered facts (measure_said r) (completion_said r) n raises) rest) step_is
+    ∙ ap (λ (n : ℕ). before (ordered facts (measure_said r) (completion_said r) r.options.step n) rest) raises_is
+
+pub check_is : (facts : Facts) (r : Rule) (rest : List ℕ) → before (heads facts.language CHECK_OPENING.now (key.CHECK_HEADING ∷ key.CHECK_BYTES ∷ [])
+    ++ (source (codes "FILE: ") facts.file ++ (journal_source facts.journal ++ (own SOURCES_CLOSING.now ++ (link_said facts.language facts.recount
+    ++ (own COMMAND_OPENING.now ++ (command facts r ++ (own COMMAND_CLOSING.now ++ (options_said facts.language r
+    ++ (made_by facts.language facts.program.now ++ own CHECK_CLOSING.now)))))))))) rest
+    ≡ before (check facts r) rest
+unfolding check
+check_is facts r rest = check_as facts.language (source (codes "FILE: ") facts.file) (journal_source facts.journal) (link_said facts.language facts.recount)
+    (command facts r) (options_said facts.language r) (made_by facts.language facts.program.now) rest
+
+pub page_is : (facts : Facts) (x : CountedElectionView) (end : RaiseEnd) (lang dir : List ℕ) → lang ≡ sentence facts.language.words key.LANG
+    → dir ≡ sentence facts.language.words key.DIR → (rest : List ℕ)
+    → before (cut HEAD_OPENING.now (lang ∷ dir ∷ []) ++ (own META.now ++ (cut TITLE.now (facts.title.now ∷ []) ++ (own STYLE.now
+    ++ (cut TOP.now (facts.title.now ∷ []) ++ (summary facts.language x ++ (own MAIN.now ++ (sections facts x end ++ own CLOSING.now)))))))) rest
+    ≡ before (parts facts x end) rest
+unfolding parts
+page_is facts x end lang dir lang_is dir_is rest =
+    rw (lang_is, dir_is) (page_as facts.language META.now STYLE.now facts.title.now (summary facts.language x) (sections facts x end) rest)

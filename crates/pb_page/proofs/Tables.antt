@@ -1,0 +1,313 @@
+-- The tables of a page, as they are put: pieces, and rows between them.
+use Rattle.std.proofs.Common.{◌≡◌, ◌≢◌, ℕ, false, true, List, [], ◌∷◌, ◌++◌, append_assoc, length, map, refl, sym, ◌∙◌, ap}
+use Rattle.std.specs.Prelude.{◌==◌, Some, codes, decimal, flat_map, if◌then◌else◌}
+use Rattle.std.specs.List.{range_with_len}
+use Rattle.std.specs.Option.{option_map_or}
+use Rattle.std.proofs.lemmas.Bool.{ne_eqb}
+use Rattle.pb_core.specs.Election.{ElectionView, ProjectView}
+use Rattle.pb_core.specs.MoneyText.{money_text}
+use Rattle.pb_page.specs.Amount.{shown}
+use Rattle.pb_page.specs.Content.{Part, amount, attribute, bar, cell, column, columns, figure, head, isolated, item, line, nameless, own, row, said, say, section, table, text, under}
+use Rattle.pb_page.specs.Inner.Counted.{exact_row, got_said, in_category, lost_row, only_then}
+use Rattle.pb_page.specs.Inner.Filling.{cut}
+use Rattle.pb_page.specs.Page.{added, at_least, ballots_row, besides, categories, category_name, category_of, category_row, cells, choices_won, compared_row, ended_row, others, project_at, projects, row_at, titled, width, winners}
+use Rattle.pb_page.specs.Words.{sentence}
+use Rattle.pb_page.specs.declared.categories.Categories.{Categories}
+use Rattle.pb_page.specs.declared.facts.Facts.{Facts}
+use Rattle.pb_page.specs.declared.in_category.InCategory.{InCategory}
+use Rattle.pb_page.specs.declared.keys.TheConstants as key
+use Rattle.pb_page.specs.declared.language.Language.{Language}
+use Rattle.pb_page.specs.declared.templates.TheConstants.{ADDED, ADDED_OPENING, CATEGORIES_OPENING, CATEGORY, COMPARED_OPENING, COMPARED_ROW, HEAD_CATEGORY, HEAD_CLOSING, NONE_LOST, NONE_WON, ONLY_THEN, OTHER, OTHERS_OPENING, OTHER_CLOSING, ROW_CATEGORY, ROW_CLOSING, ROW_OPENING, TABLE_CLOSING, VOTERS_OPENING, VOTERS_ROW, VOTERS_ROW_CLOSING, VOTERS_TABLE, WINNER, WINNERS_OPENING}
+use Rattle.pb_page.proofs.Grown.{before, before_more}
+use Rattle.pb_reasons.specs.BesideVotes.{beside_votes}
+use Rattle.pb_reasons.specs.Counted.{winners_of}
+use Rattle.pb_reasons.specs.CountedElection.{CountedElectionView}
+use Rattle.pb_reasons.specs.Reasons.{project_reason}
+use Rattle.pb_reasons.specs.declared.comparison.Comparison.{Comparison}
+use Rattle.pb_reasons.specs.declared.project_reason.Ending.{Ending}
+use Rattle.pb_reasons.specs.declared.project_reason.Ending.TheVariants as ending
+use Rattle.pb_reasons.specs.declared.project_reason.Lost.{Lost}
+use Rattle.pb_reasons.specs.declared.project_reason.Won.{Won}
+use Rattle.pb_reasons.specs.declared.project_reason.Added.{Added}
+use Rattle.pb_reasons.specs.declared.rule_row.RuleRow.{RuleRow}
+use Rattle.pb_rounds.specs.Run.{ElectedView}
+use Rattle.pb_rounds.specs.RuleNames.{fills_up}
+
+-- a piece with what the words of a language say at these keys
+abbrev pub heads : Language → (piece keys : List ℕ) → List Part
+heads l piece keys = cut piece (map (sentence l.words) keys)
+
+-- the comparison
+pub compared_row_is : (l : Language) (k : ℕ) (r : RuleRow) (rest : List ℕ)
+    → before (cut COMPARED_ROW.now (sentence l.words k ∷ sentence l.words key.COMPARED_WON ∷ decimal r.projects ∷ sentence l.words key.WITHOUT
+    ∷ decimal r.without ∷ sentence l.words key.MORE ∷ decimal r.more_choices ∷ [])) rest ≡ before (compared_row l k r) rest
+unfolding cut
+compared_row_is l k r rest = refl
+
+besides_as : (l : Language) (one two : List Part) (rest : List ℕ)
+    → before (heads l COMPARED_OPENING.now (key.COMPARED_HEADING ∷ key.COMPARED_CAPTION ∷ key.COMPARED_RULE ∷ key.COMPARED_WON ∷ key.WITHOUT ∷ key.MORE ∷ [])
+    ++ (one ++ (two ++ own TABLE_CLOSING.now))) rest
+    ≡ before (section l (codes " class='many'") (codes "compared") key.COMPARED_HEADING (table l (codes " class='wide'")
+    key.COMPARED_CAPTION (columns l [] key.COMPARED_RULE (key.COMPARED_WON ∷ key.WITHOUT ∷ key.MORE ∷ [])) (one ++ two))) rest
+unfolding cut
+besides_as l one two rest = simp before_more
+
+pub besides_are : (facts : Facts) (x : CountedElectionView) (rules : Comparison) → facts.compares ≡ true → rules ≡ beside_votes x.election x.counted
+    → (rest : List ℕ)
+    → before (heads facts.language COMPARED_OPENING.now (key.COMPARED_HEADING ∷ key.COMPARED_CAPTION ∷ key.COMPARED_RULE ∷ key.COMPARED_WON ∷ key.WITHOUT ∷ key.MORE ∷ [])
+    ++ (compared_row facts.language key.EQUAL_SHARES rules.own ++ (compared_row facts.language key.MOST_VOTES rules.other ++ own TABLE_CLOSING.now))) rest
+    ≡ before (besides facts x) rest
+unfolding besides
+besides_are facts x rules so is rest =
+    let l = facts.language in let all = beside_votes x.election x.counted in
+    ap (λ (r : Comparison). before (heads l COMPARED_OPENING.now (key.COMPARED_HEADING ∷ key.COMPARED_CAPTION ∷ key.COMPARED_RULE ∷ key.COMPARED_WON ∷ key.WITHOUT ∷ key.MORE ∷ [])
+    ++ (compared_row l key.EQUAL_SHARES r.own ++ (compared_row l key.MOST_VOTES r.other ++ own TABLE_CLOSING.now))) rest) is
+    ∙ rw so (besides_as l (compared_row l key.EQUAL_SHARES all.own) (compared_row l key.MOST_VOTES all.other) rest)
+
+-- the histogram
+voters_as : (l : Language) (says rows more : List Part) (rest : List ℕ)
+    → before (heads l VOTERS_OPENING.now (key.VOTERS_HEADING ∷ []) ++ (says ++ (heads l VOTERS_TABLE.now (key.VOTERS_CAPTION ∷ key.CHOSEN ∷ key.VOTERS ∷ [])
+    ++ (rows ++ (more ++ own TABLE_CLOSING.now))))) rest
+    ≡ before (section l (codes " class='many'") (codes "voters") key.VOTERS_HEADING (says
+    ++ table l [] key.VOTERS_CAPTION (columns l [] key.CHOSEN (key.VOTERS ∷ [])) (rows ++ more))) rest
+unfolding cut
+voters_as l says rows more rest = simp (append_assoc, before_more)
+
+pub voters_are : (l : Language) (won : List ℕ) (rest : List ℕ)
+    → before (heads l VOTERS_OPENING.now (key.VOTERS_HEADING ∷ []) ++ (got_said l won ++ (heads l VOTERS_TABLE.now (key.VOTERS_CAPTION ∷ key.CHOSEN ∷ key.VOTERS ∷ [])
+    ++ (flat_map (exact_row l won) (range_with_len 0 9) ++ (ballots_row l key.OR_MORE 9 (at_least 9 won) won ++ own TABLE_CLOSING.now))))) rest
+    ≡ before (choices_won l won) rest
+unfolding choices_won
+voters_are l won rest =
+    voters_as l (got_said l won) (flat_map (exact_row l won) (range_with_len 0 9)) (ballots_row l key.OR_MORE 9 (at_least 9 won) won) rest
+
+ballots_as : (says : List Part) (n wide ballots : ℕ) (rest : List ℕ)
+    → before (cut VOTERS_ROW.now (decimal n ∷ []) ++ (says ++ cut VOTERS_ROW_CLOSING.now (decimal wide ∷ decimal ballots ∷ []))) rest
+    ≡ before (row [] (head (nameless (decimal n) says ++ bar wide)
+    ++ cell (own (codes " class='n'")) (nameless (decimal ballots) (text (decimal ballots))))) rest
+unfolding cut
+ballots_as says n wide ballots rest = simp (append_assoc, before_more)
+
+pub ballots_are : (l : Language) (k n ballots : ℕ) (won : List ℕ) (m long : ℕ) → m ≡ n → long ≡ length won → at_least n won ≢ 0 → (rest : List ℕ)
+    → before (cut VOTERS_ROW.now (decimal n ∷ []) ++ (say l k (text (decimal m) ∷ []) ++ cut VOTERS_ROW_CLOSING.now (decimal (width ballots long) ∷ decimal ballots ∷ []))) rest
+    ≡ before (ballots_row l k n ballots won) rest
+ballots_are l k n ballots won m long same all some rest =
+    let so : at_least n won == 0 ≡ false = ne_eqb (at_least n won) 0 some in
+    rw (so, same, all) (ballots_as (say l k (text (decimal n) ∷ [])) n (width ballots (length won)) ballots rest)
+
+-- the categories
+categories_as : (l : Language) (rows : List Part) (rest : List ℕ)
+    → before (heads l CATEGORIES_OPENING.now (key.CATEGORIES_HEADING ∷ key.CATEGORIES_CAPTION ∷ key.CATEGORY ∷ key.CATEGORY_WON ∷ key.CATEGORY_COST ∷ [])
+    ++ (rows ++ own TABLE_CLOSING.now)) rest
+    ≡ before (section l (codes " class='won money'") (codes "categories") key.CATEGORIES_HEADING (table l (codes " class='wide'")
+    key.CATEGORIES_CAPTION (columns l [] key.CATEGORY (key.CATEGORY_WON ∷ key.CATEGORY_COST ∷ [])) rows)) rest
+unfolding cut
+categories_as l rows rest = simp before_more
+
+pub categories_are : (facts : Facts) (x : CountedElectionView) (g : Categories) (e : ElectionView) (won : List ℕ) → facts.categories ≡ Some g
+    → e ≡ x.election → won ≡ winners_of x.counted → (rest : List ℕ)
+    → before (heads facts.language CATEGORIES_OPENING.now (key.CATEGORIES_HEADING ∷ key.CATEGORIES_CAPTION ∷ key.CATEGORY ∷ key.CATEGORY_WON ∷ key.CATEGORY_COST ∷ [])
+    ++ (flat_map (category_row facts.language e won g) (range_with_len 0 (length g.names.now)) ++ own TABLE_CLOSING.now)) rest
+    ≡ before (categories facts x) rest
+unfolding categories
+categories_are facts x g e won some e_is won_is rest =
+    rw (some, e_is, won_is) (categories_as facts.language (flat_map (category_row facts.language x.election (winners_of x.counted) g) (range_with_len 0 (length g.names.now))) rest)
+
+abbrev category_put : Language → (name : List ℕ) → (wide : ℕ) → InCategory → List Part
+category_put l name wide sum = cut CATEGORY.now (name ∷ decimal wide ∷ sentence l.words key.CATEGORY_WON ∷ decimal sum.winners
+    ∷ sentence l.words key.CATEGORY_COST ∷ money_text sum.cost ∷ shown l.costs sum.cost ∷ [])
+
+pub category_is : (l : Language) (e : ElectionView) (won : List ℕ) (g : Categories) (k : ℕ) (name : List ℕ) (sum : InCategory) (wide whole : ℕ)
+    → name ≡ (if length (category_name g k) == 0 then sentence l.words key.NO_CATEGORY else category_name g k)
+    → sum ≡ in_category e g won k → wide ≡ width sum.cost whole → whole ≡ e.budget → (rest : List ℕ)
+    → before (category_put l name wide sum) rest ≡ before (category_row l e won g k) rest
+unfolding cut
+category_is l e won g k name sum wide whole name_is sum_is wide_is whole_is rest =
+    let called = if length (category_name g k) == 0 then sentence l.words key.NO_CATEGORY else category_name g k in
+    ap (λ (t : List ℕ). before (category_put l t wide sum) rest) name_is
+    ∙ ap (λ (n : ℕ). before (category_put l called n sum) rest) (wide_is ∙ ap (width sum.cost) whole_is)
+    ∙ ap (λ (s : InCategory). before (category_put l called (width s.cost e.budget) s) rest) sum_is
+
+-- the tables of projects: a line break, the end of an element, its start, and what stands before and behind
+-- the heads of the columns
+abbrev n : List Part
+n = own (codes "\n")
+
+abbrev end : (tag : List ℕ) → List Part
+end tag = own (codes "</" ++ (tag ++ codes ">"))
+
+abbrev start : (tag : List ℕ) → (attributes : List Part) → List Part
+start tag attributes = own (codes "<" ++ tag) ++ (attributes ++ own (codes ">"))
+
+abbrev top : Language → (class name : List ℕ) → (heading caption : ℕ) → List Part
+top l class name heading caption = (start (codes "section") (own class ++ attribute (codes "aria-labelledby") (own name))
+    ++ (n ++ line (codes "h2") (attribute (codes "id") (own name)) (said l heading)))
+    ++ (start (codes "table") (own (codes " class='wide'" ++ codes " role='table'"))
+    ++ (n ++ (line (codes "caption") (own (codes " role='caption'")) (said l caption)
+    ++ (start (codes "thead") (own (codes " role='rowgroup'")) ++ start (codes "tr") (own (codes " role='row'"))))))
+
+inside_is : (columns category tr thead n body rows tbody table section : List Part) (rest : List ℕ)
+    → before (((((((((columns ++ category) ++ tr) ++ thead) ++ n) ++ (body ++ ((rows ++ tbody) ++ n))) ++ table) ++ n) ++ section) ++ n) rest
+    ≡ before columns (before category (before tr (before thead (before n (before body (before rows (before tbody (before n
+    (before table (before n (before section (before n rest))))))))))))
+inside_is columns category tr thead n body rows tbody table section rest = simp before_more
+
+table_as : (opening category rows : List Part) (head_closing closing rest : List ℕ)
+    → before (opening ++ (category ++ (own head_closing ++ (rows ++ own closing)))) rest
+    ≡ before opening (before category (head_closing ++ before rows (closing ++ rest)))
+table_as opening category rows head_closing closing rest = simp before_more
+
+abbrev pub category_column : Facts → List Part
+category_column facts = option_map_or (λ (g : Categories). column facts.language (codes " class='category'") key.CATEGORY) facts.categories []
+
+-- a table of projects as it is put
+abbrev pub table_put : Facts → (opening keys : List ℕ) → (rows : List Part) → List Part
+table_put facts opening keys rows =
+    heads facts.language opening keys ++ (category_column facts ++ (own HEAD_CLOSING.now ++ (rows ++ own TABLE_CLOSING.now)))
+
+projects_as : (facts : Facts) (class name : List ℕ) (heading caption : ℕ) (columns : List Part) (opening keys : List ℕ) (rows : List Part)
+    → ((rest : List ℕ) → before (heads facts.language opening keys) rest ≡ before (top facts.language class name heading caption) (before columns rest))
+    → (rest : List ℕ) → before (table_put facts opening keys rows) rest ≡ before (projects facts class name heading caption columns rows) rest
+projects_as facts class name heading caption columns opening keys rows same rest =
+    let category = category_column facts in let first = top facts.language class name heading caption in
+    let inside : List Part =
+    ((((((((columns ++ category) ++ end (codes "tr")) ++ end (codes "thead")) ++ n) ++ ((start (codes "tbody") (own (codes " role='rowgroup'")) ++ n)
+    ++ ((rows ++ end (codes "tbody")) ++ n))) ++ end (codes "table")) ++ n) ++ end (codes "section")) ++ n in
+    table_as (heads facts.language opening keys) category rows HEAD_CLOSING.now TABLE_CLOSING.now rest
+    ∙ same (before category (HEAD_CLOSING.now ++ before rows (TABLE_CLOSING.now ++ rest)))
+    ∙ ap (before first) (sym (inside_is columns category (end (codes "tr")) (end (codes "thead")) n (start (codes "tbody") (own (codes " role='rowgroup'")) ++ n)
+    rows (end (codes "tbody")) (end (codes "table")) (end (codes "section")) rest))
+    ∙ sym (before_more first inside rest)
+
+pub winners_are : (facts : Facts) (x : CountedElectionView) → length x.counted.outcome.elected == 0 ≡ false
+    → (rest : List ℕ) → before (table_put facts WINNERS_OPENING.now
+    (key.WINNERS_HEADING ∷ key.WINNERS_CAPTION ∷ key.ROUND ∷ key.PROJECT ∷ key.COST ∷ key.VOTES ∷ key.PRICE ∷ key.IN_FULL ∷ [])
+    (flat_map (λ w. row_at facts x w.place) x.counted.outcome.elected)) rest
+    ≡ before (winners facts x) rest
+unfolding winners cut
+winners_are facts x some rest =
+    rw some (projects_as facts (codes " class='won'") (codes "winners") key.WINNERS_HEADING key.WINNERS_CAPTION
+    (columns facts.language (key.ROUND ∷ []) key.PROJECT (key.COST ∷ key.VOTES ∷ key.PRICE ∷ key.IN_FULL ∷ []))
+    WINNERS_OPENING.now (key.WINNERS_HEADING ∷ key.WINNERS_CAPTION ∷ key.ROUND ∷ key.PROJECT ∷ key.COST ∷ key.VOTES ∷ key.PRICE ∷ key.IN_FULL ∷ [])
+    (flat_map (λ w. row_at facts x w.place) x.counted.outcome.elected) (λ rest. refl) rest)
+
+pub no_winners : (facts : Facts) (x : CountedElectionView) (elected : List ElectedView) (k : ℕ) → elected ≡ x.counted.outcome.elected → length elected == 0 ≡ true
+    → k ≡ (if fills_up x.rule.fill_up then key.NO_ELECTED else key.NO_WINNERS) → (rest : List ℕ)
+    → before (heads facts.language NONE_WON.now (key.WINNERS_HEADING ∷ k ∷ [])) rest ≡ before (winners facts x) rest
+unfolding winners cut
+no_winners facts x elected k is none k_is rest = rw (sym is, none, sym k_is) refl
+
+pub added_are : (facts : Facts) (x : CountedElectionView) → length x.counted.added == 0 ≡ false
+    → (rest : List ℕ) → before (table_put facts ADDED_OPENING.now
+    (key.ADDED_HEADING ∷ key.ADDED_CAPTION ∷ key.NUMBER ∷ key.PROJECT ∷ key.COST ∷ key.VOTES ∷ []) (flat_map (row_at facts x) x.counted.added)) rest
+    ≡ before (added facts x) rest
+unfolding added cut
+added_are facts x some rest =
+    rw some (projects_as facts (codes " class='won'") (codes "added") key.ADDED_HEADING key.ADDED_CAPTION
+    (columns facts.language (key.NUMBER ∷ []) key.PROJECT (key.COST ∷ key.VOTES ∷ []))
+    ADDED_OPENING.now (key.ADDED_HEADING ∷ key.ADDED_CAPTION ∷ key.NUMBER ∷ key.PROJECT ∷ key.COST ∷ key.VOTES ∷ [])
+    (flat_map (row_at facts x) x.counted.added) (λ rest. refl) rest)
+
+pub others_are : (facts : Facts) (x : CountedElectionView) → length (winners_of x.counted) == length x.election.projects ≡ false
+    → (rest : List ℕ) → before (table_put facts OTHERS_OPENING.now
+    (key.OTHERS_HEADING ∷ key.OTHERS_CAPTION ∷ key.PROJECT ∷ key.COST ∷ key.VOTES ∷ key.LEFT ∷ key.MISSING ∷ [])
+    (flat_map (lost_row facts x) (range_with_len 0 (length x.election.projects)))) rest
+    ≡ before (others facts x) rest
+unfolding others cut
+others_are facts x some rest =
+    rw some (projects_as facts (codes " class='lost'") (codes "others") key.OTHERS_HEADING key.OTHERS_CAPTION
+    (columns facts.language [] key.PROJECT (key.COST ∷ key.VOTES ∷ key.LEFT ∷ key.MISSING ∷ []))
+    OTHERS_OPENING.now (key.OTHERS_HEADING ∷ key.OTHERS_CAPTION ∷ key.PROJECT ∷ key.COST ∷ key.VOTES ∷ key.LEFT ∷ key.MISSING ∷ [])
+    (flat_map (lost_row facts x) (range_with_len 0 (length x.election.projects))) (λ rest. refl) rest)
+
+pub no_others : (facts : Facts) (x : CountedElectionView) → length (winners_of x.counted) == length x.election.projects ≡ true
+    → (rest : List ℕ) → before (heads facts.language NONE_LOST.now (key.OTHERS_HEADING ∷ key.NO_OTHERS ∷ [])) rest ≡ before (others facts x) rest
+unfolding others cut
+no_others facts x none rest = rw none refl
+
+-- the column and the cell of the category
+pub head_category_is : (facts : Facts) (g : Categories) → facts.categories ≡ Some g → (rest : List ℕ)
+    → before (heads facts.language HEAD_CATEGORY.now (key.CATEGORY ∷ [])) rest ≡ before (category_column facts) rest
+unfolding cut
+head_category_is facts g some rest = rw some refl
+
+-- the row of a project
+row_as : (id : List ℕ) (ended category : List Part) (rest : List ℕ)
+    → before (cut ROW_OPENING.now (id ∷ []) ++ (ended ++ (category ++ own ROW_CLOSING.now))) rest
+    ≡ before (row (attribute (codes "data-project") (text id)) (ended ++ category)) rest
+unfolding cut
+row_as id ended category rest = simp before_more
+
+abbrev pub category_cell : Facts → (place : ℕ) → List Part
+category_cell facts place = option_map_or (λ g. cell (attribute (codes "data-label") (said facts.language key.CATEGORY))
+    (isolated (category_name g (category_of g place)))) facts.categories []
+
+pub category_cell_is : (facts : Facts) (place : ℕ) (g : Categories) (name : List ℕ) → facts.categories ≡ Some g → name ≡ category_name g (category_of g place)
+    → (rest : List ℕ) → before (cut ROW_CATEGORY.now (sentence facts.language.words key.CATEGORY ∷ name ∷ [])) rest ≡ before (category_cell facts place) rest
+unfolding cut
+category_cell_is facts place g name some is rest =
+    ap (λ (t : List ℕ). before (cell (attribute (codes "data-label") (said facts.language key.CATEGORY)) (isolated t)) rest) is ∙ rw some refl
+
+pub row_is : (facts : Facts) (x : CountedElectionView) (place : ℕ) (p : ProjectView) (id name : List ℕ) (cost budget votes : ℕ) (e : Ending)
+    → p ≡ project_at x.election place → id ≡ p.id → name ≡ p.name → cost ≡ p.cost
+    → budget ≡ x.election.budget → votes ≡ (project_reason x.election x.counted place).votes → e ≡ (project_reason x.election x.counted place).ending
+    → (rest : List ℕ)
+    → before (cut ROW_OPENING.now (id ∷ []) ++ (ended_row facts.language budget (record { id = id; name = name; cost = cost }) votes e
+    ++ (category_cell facts place ++ own ROW_CLOSING.now))) rest
+    ≡ before (row_at facts x place) rest
+row_is facts x place p id name cost budget votes e p_is id_is name_is cost_is budget_is votes_is e_is rest =
+    let r = project_reason x.election x.counted place in let q = project_at x.election place in
+    rw (id_is, name_is, cost_is, p_is, budget_is, votes_is, e_is)
+    (row_as q.id (ended_row facts.language x.election.budget q r.votes r.ending) (category_cell facts place) rest)
+
+abbrev won_put : Language → ProjectView → (wide votes : ℕ) → Won → List Part
+won_put l p wide votes w = cut WINNER.now (sentence l.words key.ROUND ∷ decimal w.round ∷ p.id ∷ p.name ∷ decimal wide ∷ sentence l.words key.COST
+    ∷ money_text p.cost ∷ shown l.costs p.cost ∷ sentence l.words key.VOTES ∷ decimal votes ∷ sentence l.words key.PRICE ∷ money_text w.price
+    ∷ shown l.amounts w.price ∷ sentence l.words key.IN_FULL ∷ decimal w.in_full ∷ [])
+
+pub won_is : (l : Language) (whole : ℕ) (p : ProjectView) (wide votes : ℕ) (w : Won) → wide ≡ width p.cost whole → (rest : List ℕ)
+    → before (won_put l p wide votes w) rest ≡ before (ended_row l whole p votes (ending.Won w)) rest
+unfolding cut
+won_is l whole p wide votes w is rest = ap (λ (n : ℕ). before (won_put l p n votes w) rest) is
+
+abbrev added_put : Language → ProjectView → (wide votes : ℕ) → Added → List Part
+added_put l p wide votes a = cut ADDED.now (sentence l.words key.NUMBER ∷ decimal a.number ∷ p.id ∷ p.name ∷ decimal wide ∷ sentence l.words key.COST
+    ∷ money_text p.cost ∷ shown l.costs p.cost ∷ sentence l.words key.VOTES ∷ decimal votes ∷ [])
+
+pub added_is : (l : Language) (whole : ℕ) (p : ProjectView) (wide votes : ℕ) (a : Added) → wide ≡ width p.cost whole → (rest : List ℕ)
+    → before (added_put l p wide votes a) rest ≡ before (ended_row l whole p votes (ending.Added a)) rest
+unfolding cut
+added_is l whole p wide votes a is rest = ap (λ (n : ℕ). before (added_put l p n votes a) rest) is
+
+abbrev lost_put : Language → ProjectView → (wide votes : ℕ) → Lost → (says : List Part) → List Part
+lost_put l p wide votes lost says = cut OTHER.now (p.id ∷ p.name ∷ decimal wide ∷ sentence l.words key.COST ∷ money_text p.cost ∷ shown l.costs p.cost
+    ∷ sentence l.words key.VOTES ∷ decimal votes ∷ sentence l.words key.LEFT ∷ money_text lost.left ∷ shown l.amounts lost.left
+    ∷ sentence l.words key.MISSING ∷ money_text lost.missing ∷ []) ++ (says ++ own OTHER_CLOSING.now)
+
+lost_as : (l : Language) (p : ProjectView) (wide votes : ℕ) (lost : Lost) (says : List Part) (rest : List ℕ)
+    → before (lost_put l p wide votes lost says) rest
+    ≡ before (cells l p wide votes ++ (under l key.LEFT (amount l.amounts (codes "left") lost.left)
+    ++ under l key.MISSING (figure (codes "missing") (money_text lost.missing) says))) rest
+unfolding cut
+lost_as l p wide votes lost says rest = simp before_more
+
+pub lost_is : (l : Language) (whole : ℕ) (p : ProjectView) (wide votes : ℕ) (lost : Lost) → wide ≡ width lost.left p.cost → (rest : List ℕ)
+    → before (lost_put l p wide votes lost (say l key.SHORT (text (shown l.amounts lost.missing) ∷ []))) rest
+    ≡ before (ended_row l whole p votes (ending.Lost lost)) rest
+lost_is l whole p wide votes lost is rest =
+    let says = say l key.SHORT (text (shown l.amounts lost.missing) ∷ []) in
+    ap (λ (n : ℕ). before (lost_put l p n votes lost says) rest) is ∙ lost_as l p (width lost.left p.cost) votes lost says rest
+
+-- a project of the next raise
+abbrev then_shown : Language → ProjectView → List Part
+then_shown l p = item (titled p ++ (own (codes " (") ++ (nameless (money_text p.cost) (text (shown l.costs p.cost)) ++ own (codes ")"))))
+
+pub only_then_is : (l : Language) (e : ElectionView) (place : ℕ) (p : ProjectView) (id name : List ℕ) (cost : ℕ) → p ≡ project_at e place
+    → id ≡ p.id → name ≡ p.name → cost ≡ p.cost → (rest : List ℕ)
+    → before (cut ONLY_THEN.now (id ∷ name ∷ money_text cost ∷ shown l.costs cost ∷ [])) rest ≡ before (only_then l e place) rest
+unfolding cut
+only_then_is l e place p id name cost is id_is name_is cost_is rest =
+    ap (λ (t : List ℕ). before (then_shown l (record { id = t; name = name; cost = cost })) rest) id_is
+    ∙ ap (λ (t : List ℕ). before (then_shown l (record { id = p.id; name = t; cost = cost })) rest) name_is
+    ∙ ap (λ (n : ℕ). before (then_shown l (record { id = p.id; name = p.name; cost = n })) rest) cost_is
+    ∙ ap (λ (q : ProjectView). before (then_shown l q) rest) is

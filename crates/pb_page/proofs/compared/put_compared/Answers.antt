@@ -1,7 +1,0 @@
-use Rattle.pb_page.proofs.Grown.{then_put}
-use Rattle.pb_page.proofs.compared.put_compared.Goals as goal
-
-pub returns : goal.returns
-returns c =
-    then_put _ _ _ _ _ _ c.in_ok-put_labels.ensures
-    (then_put _ _ _ _ _ _ c.in_ok-put_row.ensures (then_put _ _ _ _ _ _ c.in_ok-put_row-2.ensures c.put.ensures))

@@ -1,7 +1,0 @@
-use Rattle.pb_page.proofs.Grown.{then_put}
-use Rattle.pb_page.proofs.project_tables.put_head.Goals as goal
-
-pub returns : goal.returns
-returns c =
-    then_put _ _ _ _ _ _ c.in_ok-put_labels.ensures
-    (then_put _ _ _ _ _ _ c.in_ok-put_head_category.ensures c.put.ensures)

@@ -1,0 +1,42 @@
+use Rattle.std.proofs.Common.{refl}
+use Rattle.pb_page.specs.Inner.Filling.{cut}
+use Rattle.pb_page.specs.Inner.Value.{at_place}
+use Rattle.pb_page.specs.declared.place.Place.TheVariants.{Text, Digits, Noun, Shown, Number, Amount, Nameless, Called, Link}
+use Rattle.pb_page.proofs.Grown.{alike_put}
+use Rattle.pb_page.proofs.sentences.put_place.Goals as goal
+
+pub returns-in-Text : goal.returns-in-Text
+unfolding cut
+returns-in-Text c = rw c.in-Text.is (alike_put _ _ (at_place c.args.language.now (Text c.in-Text.text)) _ _ c.put.ensures (λ rest. refl))
+
+pub returns-in-Digits : goal.returns-in-Digits
+unfolding cut
+returns-in-Digits c = rw c.in-Digits.is (alike_put _ _ (at_place c.args.language.now (Digits c.in-Digits.number)) _ _ c.put-in-Digits.ensures (λ rest. refl))
+
+pub returns-in-Noun : goal.returns-in-Noun
+unfolding cut
+returns-in-Noun c = rw c.in-Noun.is (alike_put _ _ (at_place c.args.language.now (Noun c.in-Noun.key c.in-Noun.number)) _ _ c.put-in-Noun.ensures (λ rest. refl))
+
+pub returns-in-Shown : goal.returns-in-Shown
+unfolding cut
+returns-in-Shown c = rw c.in-Shown.is (alike_put _ _ (at_place c.args.language.now (Shown c.in-Shown.amount c.in-Shown.form)) _ _ c.put-in-Shown.ensures (λ rest. refl))
+
+pub returns-in-Number : goal.returns-in-Number
+unfolding cut
+returns-in-Number c = rw c.in-Number.is (alike_put _ _ (at_place c.args.language.now (Number c.in-Number.name c.in-Number.number)) _ _ c.put-in-Number.ensures (λ rest. refl))
+
+pub returns-in-Amount : goal.returns-in-Amount
+unfolding cut
+returns-in-Amount c = rw c.in-Amount.is (alike_put _ _ (at_place c.args.language.now (Amount c.in-Amount.name c.in-Amount.amount c.in-Amount.form)) _ _ c.put-in-Amount.ensures (λ rest. refl))
+
+pub returns-in-Nameless : goal.returns-in-Nameless
+unfolding cut
+returns-in-Nameless c = rw c.in-Nameless.is (alike_put _ _ (at_place c.args.language.now (Nameless c.in-Nameless.amount c.in-Nameless.form)) _ _ c.put-in-Nameless.ensures (λ rest. refl))
+
+pub returns-in-Called : goal.returns-in-Called
+unfolding cut
+returns-in-Called c = rw c.in-Called.is (alike_put _ _ (at_place c.args.language.now (Called c.in-Called.name)) _ _ c.put-in-Called.ensures (λ rest. refl))
+
+pub returns-in-Link : goal.returns-in-Link
+unfolding cut
+returns-in-Link c = rw c.in-Link.is (alike_put _ _ (at_place c.args.language.now (Link c.in-Link.address c.in-Link.key)) _ _ c.put-in-Link.ensures (λ rest. refl))

@@ -1,0 +1,133 @@
+-- Words of private contracts on what is counted.
+use Rattle.std.specs.Prelude.{ℕ, ◌<◌, ◌-◌, ◌==◌, List, [], ◌∷◌, ◌++◌, All, ⊤, codes, decimal, filter}
+use Rattle.std.specs.Prelude.{Option, flat_map, if◌then◌else◌, length, sum_by}
+use Rattle.std.specs.Borrow.{Bor}
+use Rattle.std.specs.Option.{option_map_or}
+use Rattle.pb_core.specs.Election.{ElectionView, ProjectView}
+use Rattle.pb_core.specs.MoneyText.{money_text}
+use Rattle.pb_page.specs.Amount.{shown}
+use Rattle.pb_page.specs.Content.{Part, amount, attribute, element, figure, item, nameless, noun_at, number, own, paragraph, said, say, text}
+use Rattle.pb_page.specs.Page.{added, at_least, ballots_row, besides, budget, categories, category_of, check, exactly, others, project_at, row_at, rule, source}
+use Rattle.pb_page.specs.Page.{titled, voters, winners}
+use Rattle.pb_page.specs.declared.categories.Categories.{Categories}
+use Rattle.pb_page.specs.declared.facts.Facts.{Facts}
+use Rattle.pb_page.specs.declared.facts.ReadText.{ReadText}
+use Rattle.pb_page.specs.declared.figures.Figures.{Figures}
+use Rattle.pb_page.specs.declared.in_category.InCategory.{InCategory}
+use Rattle.pb_page.specs.declared.keys.TheConstants as key
+use Rattle.pb_page.specs.declared.language.Language.{Language}
+use Rattle.pb_page.specs.declared.project_row.ProjectRow.{ProjectRow}
+use Rattle.pb_price.specs.Supporters.{cost_at, support_of}
+use Rattle.pb_reasons.specs.Counted.{winners_of}
+use Rattle.pb_reasons.specs.CountedElection.{CountedElectionView}
+use Rattle.pb_reasons.specs.Totals.{totals_of}
+use Rattle.pb_reasons.specs.declared.raise_end.RaiseEnd.{RaiseEnd}
+use Rattle.pb_reasons.specs.declared.raise_end.RaiseEnd.TheVariants.{Plain, Exhausted, Over}
+use Rattle.pb_rounds.specs.MostVotes.{is_taken}
+use Rattle.pb_rounds.specs.RuleNames.{completion_name, fills_up, measure_name}
+use Rattle.pb_rounds.specs.declared.rule.FillUp.{FillUp}
+use Rattle.pb_rounds.specs.declared.rule.Rule.{Rule}
+
+-- the numbers of the whole
+abbrev pub figures_of : CountedElectionView → Figures
+figures_of x = let e = x.election in let totals = totals_of e x.counted in record {
+  voters = length e.voters;
+  projects = length e.projects;
+  won = length (winners_of x.counted);
+  budget = e.budget;
+  spent = totals.spent;
+  left = e.budget - totals.spent;
+  surplus = totals.surplus;
+}
+
+-- how many won and what was spent, or that no project won: the second sentence of the summary
+abbrev pub result_said : Language → Figures → List Part
+result_said l f = if f.won == 0
+    then figure (codes "won") (decimal f.won) [] ++ (figure (codes "spent") (money_text f.spent) []
+    ++ (figure (codes "surplus") (money_text f.surplus) [] ++ say l key.NONE_WON (amount l.costs (codes "left") f.left ∷ [])))
+    else say l key.WON (number (codes "won") f.won ∷ amount l.costs (codes "spent") f.spent
+    ∷ amount l.costs (codes "left") f.left ∷ noun_at l key.WINNERS f.won ∷ [])
+
+-- what is said of the whole, in and below the picture of the budget, and of the share
+abbrev pub voted_said : Language → Figures → List Part
+voted_said l f = say l key.VOTED (number (codes "voters") f.voters ∷ number (codes "projects") f.projects
+    ∷ amount l.costs (codes "budget") f.budget ∷ noun_at l key.PEOPLE f.voters ∷ noun_at l key.TOPICS f.projects ∷ [])
+
+abbrev pub picture_said : Language → Figures → List Part
+picture_said l f = say l key.PICTURE
+    (text (shown l.costs f.budget) ∷ text (shown l.costs f.spent) ∷ text (shown l.costs f.left) ∷ [])
+
+abbrev pub spent_said : Language → Figures → List Part
+spent_said l f = say l (if f.won == 0 then key.BUDGET_NONE else key.BUDGET_CAPTION) (amount l.costs (codes "spent") f.spent
+    ∷ amount l.costs (codes "left") f.left ∷ amount l.amounts (codes "surplus") f.surplus ∷ [])
+
+abbrev pub share_said : Language → (step share raises : ℕ) → List Part
+share_said l step share raises = item (say l key.SHARE (amount l.amounts (codes "share") share ∷ number (codes "raises") raises
+    ∷ nameless (money_text step) (text (shown l.amounts step)) ∷ noun_at l key.TIMES raises ∷ []))
+
+abbrev pub filled_up : Language → FillUp → List Part
+filled_up l fill_up = flat_map (λ k. item (said l k)) (if fills_up fill_up then key.FILLED_UP ∷ [] else [])
+
+-- the parts of how to check a result
+abbrev pub journal_source : Option ReadText → List Part
+journal_source journal = option_map_or (source (codes "JOURNAL: ")) journal []
+
+abbrev pub recount_said : Language → List ℕ → List Part
+recount_said l address = paragraph (say l key.RECOUNT
+    (element (codes "a") (attribute (codes "href") (text address)) (said l key.LINK) ∷ []))
+
+abbrev pub link_said : Language → Option (Bor (List ℕ)) → List Part
+link_said l recount = option_map_or (λ address. recount_said l address.now ++ paragraph (said l key.PROGRAM_TOO))
+    recount (paragraph (said l key.PROGRAM))
+
+abbrev pub begun : Option ReadText → List Part
+begun journal = option_map_or (λ j. own (codes "pb_app audit FILE JOURNAL --digests --require-shut")) journal
+    (own (codes "sha256sum FILE\npb_app projects FILE"))
+
+abbrev pub options_said : Language → Rule → List Part
+options_said l r = let o = r.options in paragraph (say l key.OPTIONS (text (measure_name o.measure)
+    ∷ text (completion_name o.completion r.fill_up) ∷ amount l.amounts (codes "step") o.step
+    ∷ number (codes "limit") o.max_raises ∷ []))
+
+abbrev pub made_by : Language → List ℕ → List Part
+made_by l program = paragraph (say l key.MADE_BY (text program ∷ []))
+
+-- the sections, one after the other
+abbrev pub sections : Facts → CountedElectionView → RaiseEnd → List Part
+sections facts x end = let l = facts.language in budget l x ++ (winners facts x ++ (added facts x ++ (others facts x
+    ++ (categories facts x ++ (voters l x ++ (besides facts x ++ (rule l x end ++ check facts x.rule)))))))
+
+-- how many voters have a winner among theirs; and the row of so many winners
+abbrev pub got_said : Language → List ℕ → List Part
+got_said l won = paragraph (say l key.GOT (text (decimal (at_least 1 won)) ∷ number (codes "voters") (length won)
+    ∷ text (decimal (exactly 0 won)) ∷ noun_at l key.ALL (length won) ∷ noun_at l key.HAVE (at_least 1 won)
+    ∷ noun_at l key.LACK (exactly 0 won) ∷ []))
+
+abbrev pub exact_row : Language → List ℕ → ℕ → List Part
+exact_row l won n = ballots_row l key.EXACTLY n (exactly n won) won
+
+-- the project of a row; and the row of a place in the table of the others
+abbrev pub project_of : ProjectRow → ProjectView
+project_of r = record { id = r.id.now; name = r.name.now; cost = r.cost }
+
+abbrev pub lost_row : Facts → CountedElectionView → ℕ → List Part
+lost_row facts x place = if is_taken (winners_of x.counted) place then [] else row_at facts x place
+
+-- the projects that a raise more would elect are the election's, and how one of them is told
+abbrev pub KnowsPlaces : ElectionView → RaiseEnd → Type 0
+KnowsPlaces e Plain = ⊤
+KnowsPlaces e Exhausted = ⊤
+KnowsPlaces e (Over next) = All (λ place. place < length e.projects) next.only_then.items
+
+abbrev pub only_then : Language → ElectionView → ℕ → List Part
+only_then l e place = let p = project_at e place in item (titled p ++ (own (codes " (")
+    ++ (nameless (money_text p.cost) (text (shown l.costs p.cost)) ++ own (codes ")"))))
+
+-- which of these winners are of a category, and what it has of them
+abbrev pub winners_in : Categories → List ℕ → ℕ → List ℕ
+winners_in g winners k = filter (λ place. category_of g place == k) winners
+
+abbrev pub in_category : ElectionView → Categories → List ℕ → ℕ → InCategory
+in_category e g winners k =
+    let those = winners_in g winners k in
+    record { winners = length those; cost = sum_by (cost_at (support_of e)) those }

@@ -1,0 +1,60 @@
+-- What the parts of the search for losers know.
+use Rattle.std.specs.Prelude.{◌≡◌, ℕ, ◌-◌, ◌<◌, All, List, filter, length, min, not, slice_index, take}
+use Rattle.std.specs.List.{range_with_len}
+use Rattle.std.specs.List.Sorted.{IsPermutation, IsSorted}
+use Rattle.std.specs.Ordering.{flip_args, nat_cmp, on, then_cmp}
+use Rattle.pb_core.specs.Election.{ElectionView, most_voters}
+use Rattle.pb_price.specs.Supporters.{SupportView, support_of}
+use Rattle.pb_rounds.specs.MostVotes.{is_taken, votes_at}
+use Rattle.pb_rounds.specs.declared.rule.Rule.{Rule}
+use Rattle.pb_reasons.specs.Counted.{CountedView, IsCountBy, is_selected}
+use Rattle.pb_reasons.specs.Inner.Searching.{AreKnown}
+use Rattle.pb_reasons.specs.WhatIf.{IsFound, NoneWins, Says, Seen, seen}
+use Rattle.pb_reasons.specs.declared.changes.change.Change.TheVariants.{Cost, Voters}
+use Rattle.pb_reasons.specs.declared.changes.change.Verdict.TheVariants.{Lost}
+use Rattle.pb_reasons.specs.declared.changes.loser.Loser.{Loser}
+use Rattle.pb_reasons.specs.declared.changes.question.Question.{Question}
+use Rattle.pb_reasons.specs.declared.changes.ranked.Ranked.{Ranked}
+
+-- a project, as losers are ordered
+abbrev pub ranked_of : SupportView → ℕ → Ranked
+ranked_of s place = record { votes = record { 0 = votes_at s place }; place = place }
+
+-- the projects that are not among these winners, in the order of the file
+abbrev pub others_of : SupportView → List ℕ → List ℕ
+others_of s winners = filter (λ place. not (is_taken winners place)) (range_with_len 0 (length s.costs))
+
+-- these are all losers of a count, by place: those with most votes first, equal ones in the order of the file
+pub record AreLosers (e : ElectionView) (c : CountedView) (places : List ℕ) : Type 0 where
+  pub are : IsPermutation (filter (λ place. not (is_selected c place)) (range_with_len 0 (length e.projects))) places
+  pub in_order : IsSorted (then_cmp (flip_args (on (votes_at (support_of e)) nat_cmp)) nat_cmp) places
+
+-- the first so many losers of what a count comes to
+abbrev pub AreFirst : ElectionView → CountedView → ℕ → List ℕ → Type 0
+AreFirst e c first places = (all : List ℕ) × AreLosers e c all × (places ≡ take first all)
+
+-- a question about one project
+abbrev pub about : Rule → ℕ → Question
+about rule place = record { rule = rule; place = place }
+
+-- what is known of a loser with its own cost, of what a count reads
+pub record IsLoser (s : Seen) (rule : Rule) (place : ℕ) : Type 0 where
+  pub within : place < length s.costs
+  pub known : AreKnown s (about rule place) (slice_index s.costs place) Lost
+
+-- the same of a loser of an election
+pub record HasLost (e : ElectionView) (rule : Rule) (place : ℕ) : Type 0 where
+  pub says : Says e (about rule place) Lost
+  pub loser : IsLoser (seen e) rule place
+
+-- the first so many losers of a count by the rule, and that they have lost
+pub record AreAsked (e : ElectionView) (rule : Rule) (first : ℕ) (places : List ℕ) : Type 0 where
+  pub are : (c : CountedView) × IsCountBy rule e c × AreFirst e c first places
+  pub lost : All (HasLost e rule) places
+
+-- what is found of a loser, of what a count reads
+pub record IsSearched (s : Seen) (rule : Rule) (l : Loser) : Type 0 where
+  pub cost : IsFound s (about rule l.place) Cost 1 (slice_index s.costs l.place) l.found.cost.first l.found.cost.second
+  pub voters : IsFound s (about rule l.place) Voters 0 (min (length s.ballots) (most_voters - length s.ballots))
+      l.found.voters.first l.found.voters.second
+  pub doubled : NoneWins s (about rule l.place) l.found.voters.second.value
