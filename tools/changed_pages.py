@@ -59,7 +59,7 @@ STARTS = [
     ("<link rel='icon' href='data:,'>", "<link rel='stylesheet' href='other.css'>", '<link> to another file'),
     ("data-project='b'><th role='rowheader' scope='row'><span class='id' dir='auto'>", "data-project='b'><th role='rowheader' scope='row'><span class='id' dir='rtl'>",
      '<span> with a direction of its own'),
-    ("data-label='Missing'>", "data-label='Missing 9'>", 'a cell with the label “Missing 9”, which no column has'),
+    ("data-label='Left short when raising ended'>", "data-label='Left short 9'>", 'a cell with the label “Left short 9”, which no column has'),
     ("viewBox='0 0 10000 1'", "viewBox='0 0 3000 1'", 'a bar with another scale'),
     ("<span style='--from:0;--wide:3000'", "<span style='--from:0;--wide:3000;display:none'", '<span> with a style of its own'),
 ]

@@ -116,10 +116,10 @@ def heavy_city():
 
 
 def digested(file, journal, report):
-    """A report below the digests of a .pb file and its journal."""
+    """A report below the digests of a .pb file and its journal, and the standard rule."""
     named = ((b'file', file), (b'journal', journal))
     digests = [b'digest;%s;sha256;%s\n' % (name, hashlib.sha256(text).hexdigest().encode()) for name, text in named]
-    return b''.join(digests) + report
+    return b''.join(digests) + b'rule;ES/votes/add1/hundredths/step=1.00/ties=file\n' + report
 
 
 def report_of_heavy():

@@ -1,5 +1,5 @@
 -- How the run ends that compares a page, from the end of the run that makes it.
-use Rattle.std.proofs.Common.{◌≡◌, ◌≢◌, ◌∙◌, ℕ, List, [], Option, None, Some, Ok, Err, inl, inr, refl, sym, subst}
+use Rattle.std.proofs.Common.{◌≡◌, ◌≢◌, ◌∙◌, ◌++◌, ℕ, List, [], Option, None, Some, Ok, Err, inl, inr, refl, sym, subst}
 use Rattle.std.specs.Prelude.{◌⊎◌, IfSome}
 use Rattle.pb_core.specs.Election.{ElectionView}
 use Rattle.pb_read.specs.declared.warning.Warning.{Warning}
@@ -69,3 +69,19 @@ module _ {X : Type 0} (IsText : List ℕ → X → List ℕ → Type 0) (files :
       → IfSome found (λ at. IfBothKnown files beside (λ bytes x. (text : List ℕ) × IsText bytes x text × FirstDiffers text published at))
   differs_so None differs was = tt
   differs_so (Some at) differs was = other_text at differs was
+
+-- the same, whether or not the bytes are known that were read
+module _ {E : Type 0} (IsText : E → List ℕ → Type 0) (made published : List ℕ) where
+  -- a text that was written where none was
+  pub is_made : (before : List ℕ) → before ≡ [] → (e : E) × HasWritten (IsText e) (Some before) (Some made) → (e : E) × IsText e made
+  is_made before empty (e, (text, is, appends)) = (e, subst (IsText e) (sym (subst (λ (b : List ℕ). made ≡ b ++ text) empty appends)) is)
+
+  -- it is the published one
+  pub is_same : made ≡ published → (e : E) × IsText e made → (e : E) × IsText e published
+  is_same same (e, is) = (e, subst (IsText e) same is)
+
+  -- the published one differs from it
+  pub is_other : (found : Option ℕ) → IfSome found (FirstDiffers made published) → (e : E) × IsText e made
+      → IfSome found (λ at. (e : E) × (text : List ℕ) × IsText e text × FirstDiffers text published at)
+  is_other None differs was = tt
+  is_other (Some at) differs (e, is) = (e, made, is, differs)

@@ -1,11 +1,13 @@
 //! What a published page marks of how it was made.
 
+ghost use Rattle.std.specs.Prelude.{◌≡◌, IfSome, IsTrue, Some};
+
 use pb_command_line::currency::is_currency;
 use pb_command_line::{PageRun, SaidRule, is_link};
 use pb_core::money::Money;
 use pb_core::no_memory::NoMemory;
 use pb_rounds::measure::Measure;
-use pb_rounds::options::Completion;
+use pb_rounds::options::{Completion, LARGEST_STEP, MOST_RAISES};
 use pb_rounds::rule::FillUp;
 use pb_rounds::rule_names::{completion_named, measure_named};
 use std::alloc::Global;
@@ -48,7 +50,13 @@ impl Marks {
 
     /// What is asked for a page, and what is not given as it is marked. A link or a currency that no page of this
     /// program has is passed over.
-    pub(crate) fn filled<'m>(&'m self, asked: &PageRun<'m>) -> PageRun<'m> {
+    pub(crate) fn filled<'m>(&'m self, asked: &PageRun<'m>) -> PageRun<'m>
+        ensures title { IfSome asked.now.title (λ title. result.title ≡ Some title) }
+        ensures recount { IfSome asked.now.recount (λ address. result.recount ≡ Some address) }
+        ensures currency { IfSome asked.now.currency (λ currency. result.currency ≡ Some currency) }
+        ensures words { result.words ≡ asked.now.words }
+        ensures compares { IsTrue asked.now.compares → IsTrue result.compares }
+    {
         let recount = text_of(&self.recount).filter(|link| is_link(link));
         let currency = text_of(&self.currency).filter(|text| is_currency(text));
         PageRun {
@@ -138,8 +146,8 @@ fn rule_of(page: &str) -> SaidRule {
         match option {
             Some(RuleOption::Measure) => rule.measure = measure_named(word),
             Some(RuleOption::Completion) => rule = rule.completed(completion_named(word)),
-            Some(RuleOption::Step) => rule.step = word.parse().ok().map(step_of),
-            Some(RuleOption::Raises) => rule.max_raises = word.parse().ok(),
+            Some(RuleOption::Step) => rule.step = step_named(word),
+            Some(RuleOption::Raises) => rule.max_raises = raises_named(word),
             None => {}
         }
         if word == "--plain" {
@@ -161,9 +169,22 @@ fn option_named(word: &str) -> Option<RuleOption> {
     }
 }
 
-/// A step of so many hundredths.
-fn step_of(hundredths: u64) -> Money {
-    Money(hundredths)
+/// The step of this many hundredths, if a count can have it.
+fn step_named(word: &str) -> Option<Money> {
+    let hundredths: u64 = word.parse().ok()?;
+    if hundredths == 0 || hundredths > LARGEST_STEP.0 {
+        return None;
+    }
+    Some(Money(hundredths))
+}
+
+/// This limit of raises, if a count can have it.
+fn raises_named(word: &str) -> Option<u32> {
+    let raises: u32 = word.parse().ok()?;
+    if raises > MOST_RAISES {
+        return None;
+    }
+    Some(raises)
 }
 
 /// A text with the characters that a page writes by their numbers.

@@ -3,7 +3,7 @@
 ghost use Rattle.std.specs.Prelude.{◌≡◌, ◌≢◌, IfErr, OnOk};
 ghost use Rattle.pb_core.specs.Election.{ElectionView};
 ghost use Rattle.pb_commands.specs.Ends.{HasWritten};
-ghost use Rattle.pb_app.specs.Inner.Page.{IsPageBy};
+ghost use Rattle.pb_app.specs.Inner.Page.{IfDiffers, IsPageBy};
 
 use crate::command_run::CommandRun;
 use crate::keeping_watch::KeepingWatch;
@@ -69,7 +69,9 @@ fn write_page<'a, R: System, W: Write>(
 }
 
 /// The language of the file of words with this path, or English.
-pub(crate) fn speech_of<R: System>(rt: &R, path: Option<&str>) -> Result<Speech, RunRefusal> {
+pub(crate) fn speech_of<R: System>(rt: &R, path: Option<&str>) -> Result<Speech, RunRefusal>
+    ensures { IfErr result (λ refusal. IfDiffers refusal (λ line. ⊥)) }
+{
     let speech = match path {
         Some(path) => speech_in(rt, open_file(rt, path, RunText::Words)?),
         None => Speech::english(rt.alloc()),

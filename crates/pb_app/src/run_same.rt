@@ -42,11 +42,12 @@ pub(crate) fn run_same<
         (known J.remaining inputs.journal) (λ bytes journal. (text : List ℕ)
         × Gives (IsPageBy maker.now.run.now counting.now.rule.now) bytes journal text
         × FirstDiffers text published.now at))) }
-    ensures within { IfOk result (λ found. IfSome found (λ at. at ≤ length published.now)) }
 
     // Whether or not the bytes are known that were read.
     ensures is_page { IfOk result (λ found. found ≡ None
         → (e : ElectionView) × IsPageBy maker.now.run.now counting.now.rule.now e published.now) }
+    ensures is_other { IfOk result (λ found. IfSome found (λ at. (e : ElectionView) × (text : List ℕ)
+        × IsPageBy maker.now.run.now counting.now.rule.now e text × FirstDiffers text published.now at)) }
     ensures ends { Ends (Gives (IsPageBy maker.now.run.now counting.now.rule.now))
         (CountRefuses counting.now.rule.now.options) (P.remaining inputs.file)
         (known J.remaining inputs.journal) (H.refused_for watch.new.warnings.now) result }

@@ -1,9 +1,9 @@
 //! The command `page` with a published page: whether that is the page of the count.
 
-ghost use Rattle.std.specs.Prelude.{◌≡◌, ◌≢◌, ◌≤◌, IfErr, IfOk, IfSome, None, OnOk, codes, length};
+ghost use Rattle.std.specs.Prelude.{◌≡◌, ◌≢◌, ◌≤◌, ℕ, IfErr, IfOk, IfSome, List, None, OnOk, codes, length};
 ghost use Rattle.std.specs.Io.KnownBytes.{Appends};
 ghost use Rattle.pb_core.specs.Election.{ElectionView};
-ghost use Rattle.pb_app.specs.Inner.Page.{IsPageBy};
+ghost use Rattle.pb_app.specs.Inner.Page.{FirstDiffers, IfDiffers, IsPageBy, line_of};
 
 use crate::command_run::CommandRun;
 use crate::keeping_watch::KeepingWatch;
@@ -34,6 +34,9 @@ pub(crate) fn same_page<'a, R: System, W: Write>(
         × Appends (W.contents writer.old) (W.contents writer.new) (codes "same\n")) }
     ensures unchanged { IfErr result (λ refusal.
         refusal ≢ RunRefusal.Fault AppFault.Write → writer.new ≡ writer.old) }
+    ensures differs { IfErr result (λ refusal. IfDiffers refusal (λ line. (e : ElectionView) × (text : List ℕ)
+        × IsPageBy asked.now run.now.counting.rule.now e text
+        × (at : ℕ) × FirstDiffers text published.now at × (line ≡ line_of published.now at))) }
 {
     let speech = speech_of(run.counting.rt, asked.words)?;
     let maker = PageMaker {
@@ -65,7 +68,8 @@ fn difference<'a, R: System>(
 ) -> Result<Option<usize>, AppFault>
     ensures same { IfOk result (λ found. found ≡ None
         → (e : ElectionView) × IsPageBy maker.now.run.now run.now.counting.rule.now e published.now) }
-    ensures within { IfOk result (λ found. IfSome found (λ at. at ≤ length published.now)) }
+    ensures other { IfOk result (λ found. IfSome found (λ at. (e : ElectionView) × (text : List ℕ)
+        × IsPageBy maker.now.run.now run.now.counting.rule.now e text × FirstDiffers text published.now at)) }
 {
     let inputs = run.inputs(&maker.run.ballots)?;
     run_same(&run.counting, inputs, watch, maker, published)
@@ -79,6 +83,7 @@ fn differs<R: System>(
     at: usize,
 ) -> RunRefusal
     requires { at ≤ length published.now }
+    ensures { IfDiffers result (λ line. line ≡ line_of published.now at) }
 {
     let line = line_ends(published, at).saturating_add(1);
     let path = match &asked.same_as {

@@ -44,7 +44,7 @@ pub(crate) fn count<'a, R: System, W: Write>(
     }
     let mut text = Vec::new(run.counting.alloc);
     let told = tell(run, &asked.ballots, Table::Report, &mut text, seen);
-    put_below_digests(run, told, text, writer)
+    put_below_digests(run, told.map(|()| true), text, writer)
 }
 
 /// Checks a .pb file, and keeps its faults and warnings.
@@ -104,19 +104,33 @@ pub(crate) fn audit<'a, R: System, W: Write>(
         return report(run, asked, writer, notes);
     }
     let mut text = Vec::new(run.counting.alloc);
-    let told = report(run, asked, &mut text, notes);
+    let told = counting_report(run, asked, &mut text, notes);
     put_below_digests(run, told, text, writer)
 }
 
-/// Writes this text, if it was told whole, below the digests of what was read for it.
+/// Writes the report of an audit, and answers whether it counts: that of an open desk, which does not, has one
+/// row.
+fn counting_report<'a, R: System, W: Write>(
+    run: &CommandRun<'a, R>,
+    asked: &AuditRun<'a>,
+    writer: &mut W,
+    notes: &mut Notes,
+) -> Result<bool, AppFault> {
+    let mut lines = LineCount::new(writer);
+    report(run, asked, &mut lines, notes)?;
+    Ok(lines.lines > 1)
+}
+
+/// Writes this text, if it was told whole, below the digests of what was read for it, and where it counts below
+/// the name of the rule.
 fn put_below_digests<R: System, W: Write>(
     run: &CommandRun<'_, R>,
-    told: Result<(), AppFault>,
+    told: Result<bool, AppFault>,
     text: Vec<u8>,
     writer: &mut W,
 ) -> Result<(), AppFault> {
     let passed = match told {
-        Ok(()) => write_below_digests(run, text.as_slice(), writer),
+        Ok(counts) => write_below_digests(run, counts, text.as_slice(), writer),
         // A text in memory is refused for memory alone.
         Err(AppFault::Write) => Err(AppFault::Memory),
         Err(fault) => Err(fault),
@@ -128,6 +142,7 @@ fn put_below_digests<R: System, W: Write>(
 /// Writes this report below the digests of what was read for it.
 fn write_below_digests<R: System, W: Write>(
     run: &CommandRun<'_, R>,
+    counts: bool,
     report: &[u8],
     writer: &mut W,
 ) -> Result<(), AppFault> {
@@ -135,7 +150,8 @@ fn write_below_digests<R: System, W: Write>(
     match &file {
         Some(file) => {
             let digests = digests_of(file, journal.as_ref());
-            write_digested(run.counting.alloc, &digests, report, writer)
+            let rule = counts.then_some(run.counting.rule);
+            write_digested(run.counting.alloc, &digests, rule, report, writer)
         }
         None => write_out(writer, report, AppFault::Write),
     }

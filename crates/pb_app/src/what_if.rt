@@ -32,7 +32,9 @@ pub(crate) fn what_if<'a, R: System, W: Write>(
                 Err(fault) => return Err(RunRefusal::from(AppFault::from(fault))),
             }
         }
-        Whose::Project(project, change) => about_one(run, asked, election, project, change)?,
+        Whose::Project(project, change) => {
+            about_one(run, asked, election, project.unwrap_or(""), change)?
+        }
     };
     Ok(write_out(writer, text.as_slice(), AppFault::Write)?)
 }

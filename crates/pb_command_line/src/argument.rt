@@ -19,10 +19,10 @@ pub(crate) enum Takes {
     Measure,
     /// The name of a completion, where no raises are left out by an option of their own.
     Completion,
+    /// The name of a rule, where none of what it says is said by an option of its own.
+    Profile,
     /// A text, which its help calls so.
     Text(&'static str),
-    /// A text that has to be given, where not all are asked about by an option of their own.
-    OneOfAll(&'static str),
     /// An amount of money, where no further voters are asked about by an option of their own.
     Amount(&'static str),
     /// Nothing: it is given or not.
@@ -56,11 +56,11 @@ impl Argument {
             | Takes::Number(name)
             | Takes::NumberOfAll(name)
             | Takes::Text(name)
-            | Takes::OneOfAll(name)
             | Takes::Amount(name) => name,
             Takes::OptionalPath(_) => "PATH",
             Takes::Measure => "MEASURE",
             Takes::Completion => "COMPLETION",
+            Takes::Profile => "NAME",
             Takes::Path | Takes::Nothing | Takes::All => self.name,
         }
     }

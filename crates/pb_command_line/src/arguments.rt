@@ -135,6 +135,13 @@ pub(crate) const MEASURE: Argument = Argument {
     help: "Which project wins next. votes: the one whose price is lowest (price: the most that one supporter pays); cost: the one whose price, divided by its cost, is lowest [default: votes]",
 };
 
+/// The one name of the rule.
+pub(crate) const PROFILE: Argument = Argument {
+    name: "profile",
+    takes: Takes::Profile,
+    help: "The rule by its name, in place of --measure, --completion, --plain and --step; for example ES/cost/add1u/hundredths/step=1.00/ties=file (without shares that are raised: ES/votes/none/hundredths/ties=file)",
+};
+
 /// The file that gets the result.
 pub(crate) const OUTPUT: Argument = Argument {
     name: "output",
@@ -292,7 +299,7 @@ pub(crate) const SAME_AS: Argument = Argument {
 /// Which project is asked about.
 pub(crate) const PROJECT: Argument = Argument {
     name: "project",
-    takes: Takes::OneOfAll("ID"),
+    takes: Takes::Text("ID"),
     help: "The id of the project",
 };
 
@@ -329,7 +336,7 @@ pub(crate) fn of_count() -> &'static [Argument] {
     OF_COUNT
 }
 
-const OF_COUNT: &[Argument] = &[WORKERS, STEP, RAISES, PLAIN, COMPLETION, MEASURE];
+const OF_COUNT: &[Argument] = &[WORKERS, STEP, RAISES, PLAIN, COMPLETION, MEASURE, PROFILE];
 
 /// The options of what prints the result of a count, which stand together too.
 pub(crate) fn of_result() -> &'static [Argument] {

@@ -1,6 +1,7 @@
 //! What parsed arguments ask for.
 
-use crate::rule::{rule_of, said_rule};
+use crate::rule::rule_of;
+use crate::said_rule::SaidRule;
 use crate::task::{
     Admits, Asked, AuditRun, Ballots, BallotsRun, CheckRun, CompareRun, CountRun, DeskRun,
     OneChange, PageRun, ServeRun, Task, WhatIfRun, Whose,
@@ -15,11 +16,12 @@ use pb_rounds::rule::{FillUp, Rule};
 const FIRST: u32 = 100;
 
 /// What parsed arguments ask for; without a command it is a count of standard input.
-pub(crate) fn asked_by<'a>(matches: &ArgMatches<'a>) -> Asked<'a> {
+/// The rule is one of which options say this.
+pub(crate) fn asked_by<'a>(matches: &ArgMatches<'a>, said: &SaidRule) -> Asked<'a> {
     match matches.subcommand() {
         Some((name, given)) => Asked {
-            task: task_of(name, given),
-            rule: rule_of(given),
+            task: task_of(name, given, said),
+            rule: rule_of(given, said),
             output: given.get_str("output"),
             shows: shows_by(given),
             is_strict: given.get_flag("strict"),
@@ -48,16 +50,21 @@ pub(crate) fn asked_by<'a>(matches: &ArgMatches<'a>) -> Asked<'a> {
 }
 
 /// What the arguments of a command ask for.
-fn task_of<'a>(name: &str, given: &ArgMatches<'a>) -> Task<'a> {
+fn task_of<'a>(name: &str, given: &ArgMatches<'a>, said: &SaidRule) -> Task<'a> {
     let file = source_of(given, "FILE");
-    match count_of(name, given, ballots_of(given, file)) {
+    match count_of(name, given, said, ballots_of(given, file)) {
         Some(task) => task,
         None => desk_of(name, given, file),
     }
 }
 
 /// What the arguments of a command ask for that counts these ballots; no other command has a task here.
-fn count_of<'a>(name: &str, given: &ArgMatches<'a>, ballots: Ballots<'a>) -> Option<Task<'a>> {
+fn count_of<'a>(
+    name: &str,
+    given: &ArgMatches<'a>,
+    said: &SaidRule,
+    ballots: Ballots<'a>,
+) -> Option<Task<'a>> {
     let task = match name {
         "count" => Task::Count(CountRun {
             ballots,
@@ -74,7 +81,7 @@ fn count_of<'a>(name: &str, given: &ArgMatches<'a>, ballots: Ballots<'a>) -> Opt
             ballots,
             whose: whose_of(given),
         }),
-        "page" => Task::Page(page_of(given, ballots)),
+        "page" => Task::Page(page_of(given, said, ballots)),
         "export" => Task::Export(ballots),
         _ => return None,
     };
@@ -82,7 +89,7 @@ fn count_of<'a>(name: &str, given: &ArgMatches<'a>, ballots: Ballots<'a>) -> Opt
 }
 
 /// The page that the arguments ask for.
-fn page_of<'a>(given: &ArgMatches<'a>, ballots: Ballots<'a>) -> PageRun<'a> {
+fn page_of<'a>(given: &ArgMatches<'a>, said: &SaidRule, ballots: Ballots<'a>) -> PageRun<'a> {
     PageRun {
         ballots,
         title: given.get_str("title"),
@@ -91,7 +98,7 @@ fn page_of<'a>(given: &ArgMatches<'a>, ballots: Ballots<'a>) -> PageRun<'a> {
         currency: given.get_str("currency"),
         compares: given.get_flag("compare"),
         same_as: given.get_str("same-as").map(source_at),
-        given: said_rule(given),
+        given: *said,
     }
 }
 
@@ -134,8 +141,7 @@ fn whose_of<'a>(given: &ArgMatches<'a>) -> Whose<'a> {
     if given.get_flag("all") {
         return Whose::Losers(given.get_one("first").unwrap_or(FIRST));
     }
-    let project = given.get_str("project").unwrap_or("");
-    Whose::Project(project, change_of(given))
+    Whose::Project(given.get_str("project"), change_of(given))
 }
 
 /// The one change that is counted, if an option says so. A text that names no cost is one of 0.

@@ -1,7 +1,9 @@
 //! The command line as `clap` reads it, built from the commands and their arguments.
 
 use crate::argument::{Argument, Takes};
-use crate::arguments::{AGAINST, ALL, COST, FIRST, HISTORY, PLAIN, PROJECT, VOTER, VOTERS};
+use crate::arguments::{
+    AGAINST, ALL, COMPLETION, COST, FIRST, HISTORY, MEASURE, PLAIN, PROJECT, STEP, VOTER, VOTERS,
+};
 use crate::commands::{CommandForm, forms};
 use crate::helps::{ABOUT, AFTER_HELP};
 use crate::rule::is_of_count;
@@ -137,10 +139,18 @@ fn option<'a>(arg: Arg<'a>, value_name: &'static str, takes: Takes) -> Result<Ar
             arg.allow_negative_numbers(true)
                 .conflicts_with(PROJECT.name)
         }
-        Takes::OneOfAll(_) => arg.required_unless_present(ALL.name),
         Takes::Measure => Ok(arg.value_parser(MEASURES)),
         Takes::Completion => arg.value_parser(COMPLETIONS).conflicts_with(PLAIN.name),
+        Takes::Profile => alone(arg),
         Takes::Amount(_) => arg.conflicts_with(VOTERS.name),
         _ => Ok(arg),
     }
+}
+
+/// An option beside which no other may say a part of the rule.
+fn alone<'a>(arg: Arg<'a>) -> Result<Arg<'a>, AllocError> {
+    arg.conflicts_with(MEASURE.name)?
+        .conflicts_with(COMPLETION.name)?
+        .conflicts_with(PLAIN.name)?
+        .conflicts_with(STEP.name)
 }

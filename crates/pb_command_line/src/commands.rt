@@ -3,10 +3,11 @@
 use crate::argument_group::ArgumentGroup;
 use crate::argument_group::ArgumentGroup::{OfCount, OfResult, Own};
 use crate::arguments::{
-    AGAINST, ALL, BY_ID, BY_PROJECT, CLERKS, COMPARE, COST, CURRENCY, DIGEST, DIGESTS, DURABLE,
-    ELECTION, FIRST, HISTORY, JOURNAL, KEEP_FILE, KEEP_VOTERS, LEAST, LEFT_BY, NO_SHUT, OTHER_FILE,
-    OUTPUT, PROGRESS, PROJECT, QUIET, QUIET_BALLOTS, QUIET_DESK, QUIET_SERVE, RECOUNT,
-    REQUIRE_SHUT, ROLL, SAME_AS, SCRIPT, SERVED, SHUT, STRICT, TITLE, VOTER, VOTERS, WORDS,
+    AGAINST, ALL, BY_ID, BY_PROJECT, CLERKS, COMPARE, COMPLETION, COST, CURRENCY, DIGEST, DIGESTS,
+    DURABLE, ELECTION, FIRST, HISTORY, JOURNAL, KEEP_FILE, KEEP_VOTERS, LEAST, LEFT_BY, MEASURE,
+    NO_SHUT, OTHER_FILE, OUTPUT, PLAIN, PROFILE, PROGRESS, PROJECT, QUIET, QUIET_BALLOTS,
+    QUIET_DESK, QUIET_SERVE, RECOUNT, REQUIRE_SHUT, ROLL, SAME_AS, SCRIPT, SERVED, SHUT, STEP,
+    STRICT, TITLE, VOTER, VOTERS, WORDS,
 };
 use crate::helps::{AFTER_BALLOTS, AFTER_SERVE};
 
@@ -23,7 +24,7 @@ pub(crate) struct CommandForm {
 
 /// The forms of all commands, in the order in which the help lists them. A function that names a form is
 /// checked with all its texts, so a function of its own names each.
-pub(crate) fn forms() -> [&'static CommandForm; 13] {
+pub(crate) fn forms() -> [&'static CommandForm; 14] {
     [
         count(),
         projects(),
@@ -38,6 +39,7 @@ pub(crate) fn forms() -> [&'static CommandForm; 13] {
         audit(),
         ballots(),
         serve(),
+        bylaw(),
     ]
 }
 
@@ -244,4 +246,17 @@ const SERVE: &CommandForm = &CommandForm {
         NO_SHUT,
         QUIET_SERVE,
     ])],
+};
+
+/// The command that says a rule in the words of a by-law.
+fn bylaw() -> &'static CommandForm {
+    BYLAW
+}
+
+/// The command that says a rule in the words of a by-law.
+pub(crate) const BYLAW: &CommandForm = &CommandForm {
+    name: "bylaw",
+    notes: "Manual pages: man pb_app-counting.",
+    about: "Prints the rule of a count as a paragraph for a by-law",
+    groups: &[Own(&[STEP, PLAIN, COMPLETION, MEASURE, PROFILE])],
 };

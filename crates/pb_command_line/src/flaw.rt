@@ -23,6 +23,8 @@ pub(crate) enum Flaw<'a> {
     Currency(&'a str),
     /// No project can have the one cost that is tried.
     Cost,
+    /// No project is asked about.
+    NoProject,
     /// So many losers can't be asked about.
     First(u32),
     /// No voter has the id whose history is asked for: it is empty.
@@ -46,6 +48,9 @@ impl<'a> Flaw<'a> {
         }
         if let Some(flaw) = bad_currency(task) {
             return Some(flaw);
+        }
+        if has_no_project(task) {
+            return Some(Flaw::NoProject);
         }
         if has_no_cost(task) {
             return Some(Flaw::Cost);
@@ -82,6 +87,9 @@ impl<'a> Flaw<'a> {
             ),
             Flaw::Cost => eprintln!(rt;
                 "error: --cost must be an amount from 0.01 to 10000000000000. Write it with digits only, like 53.66: no currency, nothing between thousands, at most two decimals."
+            ),
+            Flaw::NoProject => eprintln!(rt;
+                "error: whatif needs the id of a project. Give it with --project, or ask about each project that lost with --all."
             ),
             Flaw::First(first) => eprintln!(rt;
                 "option --first: {first} is not allowed. Give a value from 1 to 10000."
@@ -138,6 +146,19 @@ fn bad_currency<'a>(task: &Task<'a>) -> Option<Flaw<'a>> {
             },
         ) if !is_currency(currency) => Some(Flaw::Currency(*currency)),
         _ => None,
+    }
+}
+
+/// Whether no project is asked about.
+fn has_no_project(task: &Task<'_>) -> bool {
+    match task {
+        Task::WhatIf(
+            WhatIfRun {
+                whose: Whose::Project(None, _),
+                ..
+            },
+        ) => true,
+        _ => false,
     }
 }
 

@@ -6,6 +6,7 @@ mod argument;
 mod argument_group;
 mod arguments;
 mod asked;
+mod bylaw;
 mod command_line;
 mod commands;
 pub mod currency;

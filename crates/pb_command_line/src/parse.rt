@@ -1,14 +1,20 @@
 //! What given arguments ask for.
 
 use crate::asked::asked_by;
+use crate::bylaw::bylaw_text;
 use crate::command_line::command_line;
+use crate::commands::BYLAW;
 use crate::elsewhere::{elsewhere_words, uncounted_words, without_dashes};
 use crate::flaw::Flaw;
 use crate::numbers::{BadNumber, bad_number};
+use crate::rule::{named_rule, refuse_profile, rule_of, said_rule};
+use crate::said_rule::SaidRule;
 use crate::task::Asked;
-use clap::Error;
 use clap::error::ErrorKind;
+use clap::{ArgMatches, Error};
+use pb_rounds::rule::Rule;
 use std::alloc::{AllocError, Global};
+use std::io;
 
 /// The status of arguments that are refused.
 const BAD_ARGUMENTS: u8 = 2;
@@ -34,25 +40,66 @@ pub fn parse<'a, R: Print + Eprint>(
 ) -> Result<Parsed<'a>, AllocError> {
     match command_line(alloc)?.try_get_matches_from(plain_help(arguments)) {
         Ok(matches) => {
-            let bad = match matches.subcommand() {
-                Some((_, given)) => bad_number(given),
-                None => None,
-            };
-            let asked = asked_by(&matches);
+            let parsed = parsed_by(rt, alloc, &matches);
             drop(matches);
-            if let Some(bad) = bad {
-                return Ok(Parsed::Ends(refuse_number(rt, &bad)));
-            }
-            if let Some(flaw) = Flaw::of(&asked.task) {
-                flaw.say(rt);
-                return Ok(Parsed::Ends(BAD_ARGUMENTS));
-            }
-            Ok(Parsed::Asks(asked))
+            parsed
         }
         Err(error) => {
             let end = refused(rt, alloc, &error, arguments);
             drop(error);
             end
+        }
+    }
+}
+
+/// What parsed arguments come to. They may be refused although each has its form.
+fn parsed_by<'a, R: Print + Eprint>(
+    rt: &R,
+    alloc: Global,
+    matches: &ArgMatches<'a>,
+) -> Result<Parsed<'a>, AllocError> {
+    let mut said = SaidRule::nothing();
+    if let Some((name, given)) = matches.subcommand() {
+        if let Some(bad) = bad_number(given) {
+            return Ok(Parsed::Ends(refuse_number(rt, &bad)));
+        }
+        let named = named_rule(alloc, given)?;
+        if let (Some(profile), None) = (given.get_str("profile"), named) {
+            refuse_profile(rt, alloc, profile)?;
+            return Ok(Parsed::Ends(BAD_ARGUMENTS));
+        }
+        said = said_rule(given, named);
+        if name == BYLAW.name {
+            return print_bylaw(rt, alloc, &rule_of(given, &said));
+        }
+    }
+    let asked = asked_by(matches, &said);
+    if let Some(flaw) = Flaw::of(&asked.task) {
+        flaw.say(rt);
+        return Ok(Parsed::Ends(BAD_ARGUMENTS));
+    }
+    Ok(Parsed::Asks(asked))
+}
+
+/// Prints this rule as a paragraph for a by-law.
+fn print_bylaw<'a, R: Print + Eprint>(
+    rt: &R,
+    alloc: Global,
+    rule: &Rule,
+) -> Result<Parsed<'a>, AllocError> {
+    let text = bylaw_text(alloc, rule)?;
+    let printed = rt.print(text.as_str());
+    drop(text);
+    Ok(end_of_print(rt, printed))
+}
+
+/// How the program ends that printed a text which was asked for.
+fn end_of_print<'a, R: Eprint>(rt: &R, printed: io::Result<()>) -> Parsed<'a> {
+    match printed {
+        Ok(()) => Parsed::Ends(0),
+        Err(reason) => {
+            let _ = eprintln!(rt; "standard output: {reason}.");
+            Parsed::Ends(NOT_PRINTED)
         }
     }
 }
@@ -93,13 +140,7 @@ fn refused<'a, R: Print + Eprint>(
         say_refused(rt, alloc, error, arguments)?;
         return Ok(Parsed::Ends(BAD_ARGUMENTS));
     }
-    match error.print(rt) {
-        Ok(()) => Ok(Parsed::Ends(0)),
-        Err(reason) => {
-            let _ = eprintln!(rt; "standard output: {reason}.");
-            Ok(Parsed::Ends(NOT_PRINTED))
-        }
-    }
+    Ok(end_of_print(rt, error.print(rt)))
 }
 
 /// Says why `clap` refuses these arguments, which commands have an option that the named one has not, and

@@ -30,6 +30,22 @@ impl SaidRule {
         rule
     }
 
+    /// What the name of this rule says.
+    pub fn named(rule: &Rule) -> SaidRule {
+        let options = &rule.options;
+        let step = match options.completion {
+            Completion::Add1 => Some(options.step),
+            Completion::Plain => None,
+        };
+        SaidRule {
+            measure: Some(options.measure),
+            completion: Some(options.completion),
+            fill_up: Some(rule.fill_up),
+            step,
+            max_raises: None,
+        }
+    }
+
     /// Nothing is said.
     pub fn nothing() -> SaidRule {
         SaidRule {

@@ -131,8 +131,9 @@ pub enum OneChange {
 /// Which project a question about changed elections is about.
 #[derive(Clone, Copy)]
 pub enum Whose<'a> {
-    /// The one with this id; with no change that is counted alone, changes are searched.
-    Project(&'a str, Option<OneChange>),
+    /// The one with this id; none where no option names one, and such arguments are refused. With no change
+    /// that is counted alone, changes are searched.
+    Project(Option<&'a str>, Option<OneChange>),
     /// Each of so many losers, those with most votes.
     Losers(u32),
 }

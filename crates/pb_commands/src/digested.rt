@@ -1,12 +1,16 @@
-//! The digests of what was read, above a report.
+//! The digests of what was read, and by which rule it was counted, above a report.
 
 ghost use Rattle.std.specs.Prelude.{◌≡◌, ◌++◌, ◌∷◌, ◌⊎◌, [], IfErr, OnOk, codes};
 ghost use Rattle.std.specs.Io.KnownBytes.{Appends};
 ghost use Rattle.std.specs.Option.{option_map_or};
 ghost use Rattle.pb_faults.specs.declared.fault.AppFault.TheVariants.{Memory, Write};
+ghost use Rattle.pb_rounds.specs.RuleNames.{profile_name};
 ghost use Rattle.pb_rows.specs.Writing.{text_of_row};
 
+use crate::report::put_row;
+use pb_core::no_memory::NoMemory;
 use pb_faults::{AppFault, write_out};
+use pb_rounds::rule::Rule;
 use pb_rows::RowsWriter;
 use std::alloc::Global;
 use std::io::Write;
@@ -18,10 +22,12 @@ pub struct Digests<'a> {
     pub journal: Option<&'a str>,
 }
 
-/// Writes a row for each digest and below them a report, as one text.
+/// Writes a row for each digest, then where there is a rule by which the report counted a row with its name, and
+/// below them the report, as one text.
 pub fn write_digested<W: Write>(
     alloc: Global,
     digests: &Digests<'_>,
+    counted_by: Option<&Rule>,
     report: &[u8],
     writer: &mut W,
 ) -> Result<(), AppFault>
@@ -29,7 +35,9 @@ pub fn write_digested<W: Write>(
         (text_of_row (codes "digest" ∷ codes "file" ∷ codes "sha256" ∷ digests.now.file.now ∷ [])
         ++ (option_map_or (λ journal.
         text_of_row (codes "digest" ∷ codes "journal" ∷ codes "sha256" ∷ journal.now ∷ []))
-        digests.now.journal [] ++ report.now))) }
+        digests.now.journal []
+        ++ (option_map_or (λ rule. text_of_row (codes "rule" ∷ profile_name rule.now ∷ [])) counted_by.entry []
+        ++ report.now)))) }
     ensures fault { IfErr result (λ fault. (fault ≡ Write) ⊎ (fault ≡ Memory) × (writer.new ≡ writer.old)) }
 {
     let mut rows = RowsWriter::start(alloc);
@@ -37,7 +45,34 @@ pub fn write_digested<W: Write>(
     if let Some(journal) = digests.journal {
         rows.put_row(&["digest", "journal", "sha256", journal])?;
     }
+    put_counted_by(alloc, &mut rows, counted_by)?;
     let mut text = rows.finish()?;
     text.extend_from_slice(report)?;
     write_out(writer, text.as_slice(), AppFault::Write)
+}
+
+/// Puts a row with the name of this rule, if there is one.
+fn put_counted_by(
+    alloc: Global,
+    rows: &mut RowsWriter,
+    counted_by: Option<&Rule>,
+) -> Result<(), NoMemory>
+    ensures { OnOk result (rows.new.text ≡ rows.old.text
+        ++ (option_map_or (λ rule. text_of_row (codes "rule" ∷ profile_name rule.now ∷ [])) counted_by.entry [])) }
+{
+    match counted_by {
+        Some(rule) => put_name(alloc, rows, rule),
+        None => Ok(()),
+    }
+}
+
+/// Puts a row with the name of this rule.
+fn put_name(alloc: Global, rows: &mut RowsWriter, rule: &Rule) -> Result<(), NoMemory>
+    ensures { OnOk result (rows.new.text
+        ≡ rows.old.text ++ text_of_row (codes "rule" ∷ profile_name rule.now ∷ [])) }
+{
+    let name = rule.profile(alloc)?;
+    let put = put_row(rows, &["rule", name.as_str()]);
+    drop(name);
+    put
 }

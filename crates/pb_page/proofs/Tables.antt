@@ -10,7 +10,7 @@ use Rattle.pb_page.specs.Amount.{shown}
 use Rattle.pb_page.specs.Content.{Part, amount, attribute, bar, cell, column, columns, figure, head, isolated, item, line, nameless, own, row, said, say, section, table, text, under}
 use Rattle.pb_page.specs.Inner.Counted.{exact_row, got_said, in_category, lost_row, only_then}
 use Rattle.pb_page.specs.Inner.Filling.{cut}
-use Rattle.pb_page.specs.Page.{added, at_least, ballots_row, besides, categories, category_name, category_of, category_row, cells, choices_won, compared_row, ended_row, others, project_at, projects, row_at, titled, width, winners}
+use Rattle.pb_page.specs.Page.{added, at_least, ballots_row, besides, categories, category_name, category_of, category_row, cells, choices_won, compared_row, ended_row, others, project_at, projects, row_at, short_key, titled, width, winners}
 use Rattle.pb_page.specs.Words.{sentence}
 use Rattle.pb_page.specs.declared.categories.Categories.{Categories}
 use Rattle.pb_page.specs.declared.facts.Facts.{Facts}
@@ -208,17 +208,20 @@ added_are facts x some rest =
     ADDED_OPENING.now (key.ADDED_HEADING ∷ key.ADDED_CAPTION ∷ key.NUMBER ∷ key.PROJECT ∷ key.COST ∷ key.VOTES ∷ [])
     (flat_map (row_at facts x) x.counted.added) (λ rest. refl) rest)
 
-pub others_are : (facts : Facts) (x : CountedElectionView) → length (winners_of x.counted) == length x.election.projects ≡ false
+pub others_are : (facts : Facts) (x : CountedElectionView) (k : ℕ) → k ≡ short_key x.rule → length (winners_of x.counted) == length x.election.projects ≡ false
     → (rest : List ℕ) → before (table_put facts OTHERS_OPENING.now
-    (key.OTHERS_HEADING ∷ key.OTHERS_CAPTION ∷ key.PROJECT ∷ key.COST ∷ key.VOTES ∷ key.LEFT ∷ key.MISSING ∷ [])
+    (key.OTHERS_HEADING ∷ key.OTHERS_CAPTION ∷ key.PROJECT ∷ key.COST ∷ key.VOTES ∷ key.LEFT ∷ k ∷ [])
     (flat_map (lost_row facts x) (range_with_len 0 (length x.election.projects)))) rest
     ≡ before (others facts x) rest
 unfolding others cut
-others_are facts x some rest =
-    rw some (projects_as facts (codes " class='lost'") (codes "others") key.OTHERS_HEADING key.OTHERS_CAPTION
-    (columns facts.language [] key.PROJECT (key.COST ∷ key.VOTES ∷ key.LEFT ∷ key.MISSING ∷ []))
-    OTHERS_OPENING.now (key.OTHERS_HEADING ∷ key.OTHERS_CAPTION ∷ key.PROJECT ∷ key.COST ∷ key.VOTES ∷ key.LEFT ∷ key.MISSING ∷ [])
-    (flat_map (lost_row facts x) (range_with_len 0 (length x.election.projects))) (λ rest. refl) rest)
+others_are facts x k is some rest =
+    let rows = flat_map (lost_row facts x) (range_with_len 0 (length x.election.projects)) in
+    let Put : ℕ → List ℕ = λ n. before (table_put facts OTHERS_OPENING.now
+    (key.OTHERS_HEADING ∷ key.OTHERS_CAPTION ∷ key.PROJECT ∷ key.COST ∷ key.VOTES ∷ key.LEFT ∷ n ∷ []) rows) rest in
+    rw some (ap Put is ∙ projects_as facts (codes " class='lost'") (codes "others") key.OTHERS_HEADING key.OTHERS_CAPTION
+    (columns facts.language [] key.PROJECT (key.COST ∷ key.VOTES ∷ key.LEFT ∷ short_key x.rule ∷ []))
+    OTHERS_OPENING.now (key.OTHERS_HEADING ∷ key.OTHERS_CAPTION ∷ key.PROJECT ∷ key.COST ∷ key.VOTES ∷ key.LEFT ∷ short_key x.rule ∷ [])
+    rows (λ rest. refl) rest)
 
 pub no_others : (facts : Facts) (x : CountedElectionView) → length (winners_of x.counted) == length x.election.projects ≡ true
     → (rest : List ℕ) → before (heads facts.language NONE_LOST.now (key.OTHERS_HEADING ∷ key.NO_OTHERS ∷ [])) rest ≡ before (others facts x) rest
@@ -248,55 +251,55 @@ unfolding cut
 category_cell_is facts place g name some is rest =
     ap (λ (t : List ℕ). before (cell (attribute (codes "data-label") (said facts.language key.CATEGORY)) (isolated t)) rest) is ∙ rw some refl
 
-pub row_is : (facts : Facts) (x : CountedElectionView) (place : ℕ) (p : ProjectView) (id name : List ℕ) (cost budget votes : ℕ) (e : Ending)
-    → p ≡ project_at x.election place → id ≡ p.id → name ≡ p.name → cost ≡ p.cost
+pub row_is : (facts : Facts) (x : CountedElectionView) (place : ℕ) (p : ProjectView) (id name : List ℕ) (cost short budget votes : ℕ) (e : Ending)
+    → p ≡ project_at x.election place → id ≡ p.id → name ≡ p.name → cost ≡ p.cost → short ≡ short_key x.rule
     → budget ≡ x.election.budget → votes ≡ (project_reason x.election x.counted place).votes → e ≡ (project_reason x.election x.counted place).ending
     → (rest : List ℕ)
-    → before (cut ROW_OPENING.now (id ∷ []) ++ (ended_row facts.language budget (record { id = id; name = name; cost = cost }) votes e
+    → before (cut ROW_OPENING.now (id ∷ []) ++ (ended_row facts.language short budget (record { id = id; name = name; cost = cost }) votes e
     ++ (category_cell facts place ++ own ROW_CLOSING.now))) rest
     ≡ before (row_at facts x place) rest
-row_is facts x place p id name cost budget votes e p_is id_is name_is cost_is budget_is votes_is e_is rest =
+row_is facts x place p id name cost short budget votes e p_is id_is name_is cost_is short_is budget_is votes_is e_is rest =
     let r = project_reason x.election x.counted place in let q = project_at x.election place in
-    rw (id_is, name_is, cost_is, p_is, budget_is, votes_is, e_is)
-    (row_as q.id (ended_row facts.language x.election.budget q r.votes r.ending) (category_cell facts place) rest)
+    rw (id_is, name_is, cost_is, p_is, short_is, budget_is, votes_is, e_is)
+    (row_as q.id (ended_row facts.language (short_key x.rule) x.election.budget q r.votes r.ending) (category_cell facts place) rest)
 
 abbrev won_put : Language → ProjectView → (wide votes : ℕ) → Won → List Part
 won_put l p wide votes w = cut WINNER.now (sentence l.words key.ROUND ∷ decimal w.round ∷ p.id ∷ p.name ∷ decimal wide ∷ sentence l.words key.COST
     ∷ money_text p.cost ∷ shown l.costs p.cost ∷ sentence l.words key.VOTES ∷ decimal votes ∷ sentence l.words key.PRICE ∷ money_text w.price
     ∷ shown l.amounts w.price ∷ sentence l.words key.IN_FULL ∷ decimal w.in_full ∷ [])
 
-pub won_is : (l : Language) (whole : ℕ) (p : ProjectView) (wide votes : ℕ) (w : Won) → wide ≡ width p.cost whole → (rest : List ℕ)
-    → before (won_put l p wide votes w) rest ≡ before (ended_row l whole p votes (ending.Won w)) rest
+pub won_is : (l : Language) (short whole : ℕ) (p : ProjectView) (wide votes : ℕ) (w : Won) → wide ≡ width p.cost whole → (rest : List ℕ)
+    → before (won_put l p wide votes w) rest ≡ before (ended_row l short whole p votes (ending.Won w)) rest
 unfolding cut
-won_is l whole p wide votes w is rest = ap (λ (n : ℕ). before (won_put l p n votes w) rest) is
+won_is l short whole p wide votes w is rest = ap (λ (n : ℕ). before (won_put l p n votes w) rest) is
 
 abbrev added_put : Language → ProjectView → (wide votes : ℕ) → Added → List Part
 added_put l p wide votes a = cut ADDED.now (sentence l.words key.NUMBER ∷ decimal a.number ∷ p.id ∷ p.name ∷ decimal wide ∷ sentence l.words key.COST
     ∷ money_text p.cost ∷ shown l.costs p.cost ∷ sentence l.words key.VOTES ∷ decimal votes ∷ [])
 
-pub added_is : (l : Language) (whole : ℕ) (p : ProjectView) (wide votes : ℕ) (a : Added) → wide ≡ width p.cost whole → (rest : List ℕ)
-    → before (added_put l p wide votes a) rest ≡ before (ended_row l whole p votes (ending.Added a)) rest
+pub added_is : (l : Language) (short whole : ℕ) (p : ProjectView) (wide votes : ℕ) (a : Added) → wide ≡ width p.cost whole → (rest : List ℕ)
+    → before (added_put l p wide votes a) rest ≡ before (ended_row l short whole p votes (ending.Added a)) rest
 unfolding cut
-added_is l whole p wide votes a is rest = ap (λ (n : ℕ). before (added_put l p n votes a) rest) is
+added_is l short whole p wide votes a is rest = ap (λ (n : ℕ). before (added_put l p n votes a) rest) is
 
-abbrev lost_put : Language → ProjectView → (wide votes : ℕ) → Lost → (says : List Part) → List Part
-lost_put l p wide votes lost says = cut OTHER.now (p.id ∷ p.name ∷ decimal wide ∷ sentence l.words key.COST ∷ money_text p.cost ∷ shown l.costs p.cost
+abbrev lost_put : Language → (short : ℕ) → ProjectView → (wide votes : ℕ) → Lost → (says : List Part) → List Part
+lost_put l short p wide votes lost says = cut OTHER.now (p.id ∷ p.name ∷ decimal wide ∷ sentence l.words key.COST ∷ money_text p.cost ∷ shown l.costs p.cost
     ∷ sentence l.words key.VOTES ∷ decimal votes ∷ sentence l.words key.LEFT ∷ money_text lost.left ∷ shown l.amounts lost.left
-    ∷ sentence l.words key.MISSING ∷ money_text lost.missing ∷ []) ++ (says ++ own OTHER_CLOSING.now)
+    ∷ sentence l.words short ∷ money_text lost.missing ∷ []) ++ (says ++ own OTHER_CLOSING.now)
 
-lost_as : (l : Language) (p : ProjectView) (wide votes : ℕ) (lost : Lost) (says : List Part) (rest : List ℕ)
-    → before (lost_put l p wide votes lost says) rest
+lost_as : (l : Language) (short : ℕ) (p : ProjectView) (wide votes : ℕ) (lost : Lost) (says : List Part) (rest : List ℕ)
+    → before (lost_put l short p wide votes lost says) rest
     ≡ before (cells l p wide votes ++ (under l key.LEFT (amount l.amounts (codes "left") lost.left)
-    ++ under l key.MISSING (figure (codes "missing") (money_text lost.missing) says))) rest
+    ++ under l short (figure (codes "missing") (money_text lost.missing) says))) rest
 unfolding cut
-lost_as l p wide votes lost says rest = simp before_more
+lost_as l short p wide votes lost says rest = simp before_more
 
-pub lost_is : (l : Language) (whole : ℕ) (p : ProjectView) (wide votes : ℕ) (lost : Lost) → wide ≡ width lost.left p.cost → (rest : List ℕ)
-    → before (lost_put l p wide votes lost (say l key.SHORT (text (shown l.amounts lost.missing) ∷ []))) rest
-    ≡ before (ended_row l whole p votes (ending.Lost lost)) rest
-lost_is l whole p wide votes lost is rest =
+pub lost_is : (l : Language) (short whole : ℕ) (p : ProjectView) (wide votes : ℕ) (lost : Lost) → wide ≡ width lost.left p.cost → (rest : List ℕ)
+    → before (lost_put l short p wide votes lost (say l key.SHORT (text (shown l.amounts lost.missing) ∷ []))) rest
+    ≡ before (ended_row l short whole p votes (ending.Lost lost)) rest
+lost_is l short whole p wide votes lost is rest =
     let says = say l key.SHORT (text (shown l.amounts lost.missing) ∷ []) in
-    ap (λ (n : ℕ). before (lost_put l p n votes lost says) rest) is ∙ lost_as l p (width lost.left p.cost) votes lost says rest
+    ap (λ (n : ℕ). before (lost_put l short p n votes lost says) rest) is ∙ lost_as l short p (width lost.left p.cost) votes lost says rest
 
 -- a project of the next raise
 abbrev then_shown : Language → ProjectView → List Part

@@ -94,15 +94,19 @@ abbrev pub cells : Language → ProjectView → (wide votes : ℕ) → List Part
 cells l p wide votes = head (titled p ++ bar wide) ++ (under l key.COST (amount l.costs (codes "cost") p.cost)
     ++ under l key.VOTES (number (codes "votes") votes))
 
--- the row of a project up to its category, by how it ended
-abbrev pub ended_row : Language → (whole : ℕ) → ProjectView → (votes : ℕ) → Ending → List Part
-ended_row l whole p votes (Won w) = under l key.ROUND (number (codes "round") w.round)
+-- what stands above what projects were short, by whether shares are raised; and the row of a project up to its
+-- category, by how it ended
+abbrev pub short_key : Rule → ℕ
+short_key r = by_completion r.options.completion r.fill_up key.MISSING key.LEFT_SHORT key.MISSING key.LEFT_SHORT
+
+abbrev pub ended_row : Language → (short whole : ℕ) → ProjectView → (votes : ℕ) → Ending → List Part
+ended_row l short whole p votes (Won w) = under l key.ROUND (number (codes "round") w.round)
     ++ (cells l p (width p.cost whole) votes ++ (under l key.PRICE (amount l.amounts (codes "price") w.price)
     ++ under l key.IN_FULL (number (codes "in_full") w.in_full)))
-ended_row l whole p votes (Added a) =
+ended_row l short whole p votes (Added a) =
     under l key.NUMBER (number (codes "added") a.number) ++ cells l p (width p.cost whole) votes
-ended_row l whole p votes (Lost lost) = cells l p (width lost.left p.cost) votes
-    ++ (under l key.LEFT (amount l.amounts (codes "left") lost.left) ++ under l key.MISSING
+ended_row l short whole p votes (Lost lost) = cells l p (width lost.left p.cost) votes
+    ++ (under l key.LEFT (amount l.amounts (codes "left") lost.left) ++ under l short
     (figure (codes "missing") (money_text lost.missing) (say l key.SHORT (text (shown l.amounts lost.missing) ∷ []))))
 
 -- the row of the project at this place, and a table of projects: where there are categories, with a column for
@@ -110,7 +114,7 @@ ended_row l whole p votes (Lost lost) = cells l p (width lost.left p.cost) votes
 abbrev pub row_at : Facts → CountedElectionView → ℕ → List Part
 row_at facts x place = let l = facts.language in let p = project_at x.election place in
     let r = project_reason x.election x.counted place in row (attribute (codes "data-project") (text p.id))
-    (ended_row l x.election.budget p r.votes r.ending ++ option_map_or (λ g.
+    (ended_row l (short_key x.rule) x.election.budget p r.votes r.ending ++ option_map_or (λ g.
     cell (attribute (codes "data-label") (said l key.CATEGORY)) (isolated (category_name g (category_of g place)))) facts.categories [])
 
 abbrev pub projects : Facts → (class name : List ℕ) → (heading caption : ℕ) → (columns rows : List Part) → List Part
@@ -137,7 +141,7 @@ unfoldable pub others : Facts → CountedElectionView → List Part
 others facts x = let l = facts.language in if length (winners_of x.counted) == length x.election.projects
     then section l [] (codes "others") key.OTHERS_HEADING (paragraph (said l key.NO_OTHERS))
     else projects facts (codes " class='lost'") (codes "others") key.OTHERS_HEADING key.OTHERS_CAPTION
-    (columns l [] key.PROJECT (key.COST ∷ key.VOTES ∷ key.LEFT ∷ key.MISSING ∷ []))
+    (columns l [] key.PROJECT (key.COST ∷ key.VOTES ∷ key.LEFT ∷ short_key x.rule ∷ []))
     (flat_map (λ place. if is_taken (winners_of x.counted) place then [] else row_at facts x place)
     (range_with_len 0 (length x.election.projects)))
 

@@ -173,3 +173,5 @@ pub(crate) const CATEGORY: u16 = 96;
 pub(crate) const CATEGORY_WON: u16 = 97;
 
 pub(crate) const CATEGORY_COST: u16 = 98;
+
+pub(crate) const LEFT_SHORT: u16 = 99;

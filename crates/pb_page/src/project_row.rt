@@ -15,6 +15,7 @@ use crate::language::Language;
 use crate::markup::Value;
 use crate::place::Place;
 use crate::put::{put, put_own};
+use crate::rule::short_key;
 use crate::sentences::say;
 use crate::templates::{
     ADDED, OTHER, OTHER_CLOSING, ROW_CATEGORY, ROW_CLOSING, ROW_OPENING, WINNER,
@@ -33,6 +34,8 @@ pub struct ProjectRow<'a> {
     pub votes: u32,
     /// The budget of the election.
     pub budget: Money,
+    /// The key of what stands above what projects were short.
+    pub short: u16,
 }
 
 /// The row of the project at this place.
@@ -55,6 +58,7 @@ pub(crate) fn put_row(
         cost: project.cost(),
         votes: reason.votes,
         budget: election.budget(),
+        short: short_key(&count.rule()),
     };
     put(page, &facts.language, ROW_OPENING, &[Value::Text(row.id)])?;
     put_ended(page, &facts.language, &row, &reason.ending)?;
@@ -70,7 +74,7 @@ fn put_ended<'a>(
     ending: &Ending,
 ) -> Result<(), NoMemory>
     ensures { OnOk result (Grows page.old.items page.new.items
-        (ended_row language.now row.now.budget (project_of row.now) row.now.votes ending.now)) }
+        (ended_row language.now row.now.short row.now.budget (project_of row.now) row.now.votes ending.now)) }
 {
     match ending {
         Ending::Won(won) => put_elected(page, language, row, won),
@@ -87,7 +91,7 @@ fn put_elected<'a>(
     won: &Won,
 ) -> Result<(), NoMemory>
     ensures { OnOk result (Grows page.old.items page.new.items
-        (ended_row language.now row.now.budget (project_of row.now) row.now.votes (Ending.Won won.now))) }
+        (ended_row language.now row.now.short row.now.budget (project_of row.now) row.now.votes (Ending.Won won.now))) }
 {
     let cells = [
         Value::Said(keys::ROUND),
@@ -117,7 +121,7 @@ fn put_added<'a>(
     added: &Added,
 ) -> Result<(), NoMemory>
     ensures { OnOk result (Grows page.old.items page.new.items
-        (ended_row language.now row.now.budget (project_of row.now) row.now.votes (Ending.Added added.now))) }
+        (ended_row language.now row.now.short row.now.budget (project_of row.now) row.now.votes (Ending.Added added.now))) }
 {
     let cells = [
         Value::Said(keys::NUMBER),
@@ -142,7 +146,7 @@ fn put_lost<'a>(
     lost: &Lost,
 ) -> Result<(), NoMemory>
     ensures { OnOk result (Grows page.old.items page.new.items
-        (ended_row language.now row.now.budget (project_of row.now) row.now.votes (Ending.Lost lost.now))) }
+        (ended_row language.now row.now.short row.now.budget (project_of row.now) row.now.votes (Ending.Lost lost.now))) }
 {
     let cells = [
         Value::Text(row.id),
@@ -156,7 +160,7 @@ fn put_lost<'a>(
         Value::Said(keys::LEFT),
         Value::Amount(lost.left),
         Value::Shown(lost.left, language.amounts),
-        Value::Said(keys::MISSING),
+        Value::Said(row.short),
         Value::Amount(lost.missing),
     ];
     put(page, language, OTHER, &cells)?;

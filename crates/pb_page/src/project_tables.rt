@@ -15,6 +15,7 @@ use crate::keys;
 use crate::markup::Value;
 use crate::project_row::put_row;
 use crate::put::{put, put_own};
+use crate::rule::short_key;
 use crate::templates::{
     ADDED_OPENING, HEAD_CATEGORY, HEAD_CLOSING, NONE_LOST, NONE_WON, OTHERS_OPENING, TABLE_CLOSING,
     WINNERS_OPENING,
@@ -161,7 +162,7 @@ pub(crate) fn put_others(
         Value::Said(keys::COST),
         Value::Said(keys::VOTES),
         Value::Said(keys::LEFT),
-        Value::Said(keys::MISSING),
+        Value::Said(short_key(&count.rule())),
     ];
     put(page, &facts.language, OTHERS_OPENING, &heads)?;
     put_head_category(page, facts)?;

@@ -4,7 +4,7 @@ ghost use Rattle.std.specs.Prelude.{◌≡◌, ◌==◌, OnOk, if◌then◌else�
 ghost use Rattle.pb_page.specs.Content.{item, said};
 ghost use Rattle.pb_page.specs.Inner.Counted.{KnowsPlaces, filled_up, share_said};
 ghost use Rattle.pb_page.specs.Inner.Grown.{Grows};
-ghost use Rattle.pb_page.specs.Page.{rule};
+ghost use Rattle.pb_page.specs.Page.{rule, short_key};
 ghost use Rattle.pb_page.specs.declared.keys.TheConstants as key;
 ghost use Rattle.pb_rounds.specs.RuleNames.{by_completion, by_measure};
 
@@ -122,6 +122,16 @@ fn raises_key(rule: &Rule, raised: u32) -> u16
                 keys::RAISED
             }
         }
+    }
+}
+
+/// The key of what stands above what projects were short.
+pub(crate) fn short_key(rule: &Rule) -> u16
+    ensures { result ≡ short_key rule.now }
+{
+    match (rule.options.completion, rule.fill_up) {
+        (Completion::Plain, FillUp::Nothing | FillUp::MostVotes) => keys::MISSING,
+        (Completion::Add1, FillUp::Nothing | FillUp::MostVotes) => keys::LEFT_SHORT,
     }
 }
 

@@ -23,6 +23,7 @@ pub mod FairToGroups
 pub mod FrontSteps
 pub mod Fronts
 pub mod Listed
+pub mod NamesApart
 pub mod BestKey
 pub mod BestIs
 pub mod CheapestRounds

@@ -1,4 +1,4 @@
--- What rules are called: on the command line, in an exported file by Pabulib's word, and there in words.
+-- What rules are called: on the command line, by one name, in an exported file by Pabulib's word, and there in words.
 use Rattle.std.specs.Prelude.{ℕ, ◌++◌, Bool, false, true, List, [], codes, decimal, if◌then◌else◌}
 use Rattle.pb_core.specs.MoneyText.{money_text}
 use Rattle.pb_rounds.specs.declared.measure.Measure.{Measure}
@@ -32,6 +32,12 @@ measure_name m = by_measure m VOTES.now COST.now
 
 abbrev pub completion_name : Completion → FillUp → List ℕ
 completion_name c f = by_completion c f NONE.now ADD1.now UTILITARIAN.now ADD1U.now
+
+-- one name for a rule, which says nothing of the most raises
+abbrev pub profile_name : Rule → List ℕ
+profile_name rule = let o = rule.options in let step = codes "/step=" ++ money_text o.step in
+    codes "ES/" ++ (measure_name o.measure ++ (codes "/" ++ (completion_name o.completion rule.fill_up ++ (codes "/hundredths"
+    ++ (by_completion o.completion rule.fill_up [] step [] step ++ codes "/ties=file")))))
 
 -- Pabulib's word for a rule, if it has one
 abbrev pub rule_word : Completion → FillUp → List ℕ

@@ -1,4 +1,4 @@
-//! Laws over counts, each as the contract of a function that does nothing.
+//! Laws over counts and their rules, each as the contract of a function that does nothing.
 
 ghost use Rattle.std.specs.Prelude.{◌≡◌, ◌↔◌, ◌+◌, ◌*◌, ◌<◌, ◌≤◌, ℕ, List, None, Some, length};
 ghost use Rattle.pb_core.specs.Election.{ElectionView, IsElection};
@@ -6,14 +6,17 @@ ghost use Rattle.pb_price.specs.Supporters.{SupportView, support_of};
 ghost use Rattle.pb_rounds.specs.Cheapest.{IsRun};
 ghost use Rattle.pb_rounds.specs.Completed.{AreSpent, IsCompleted};
 ghost use Rattle.pb_rounds.specs.Count.{add1_of, count_of, opening_share};
-ghost use Rattle.pb_rounds.specs.CountFault.{refusal_of};
+ghost use Rattle.pb_rounds.specs.CountFault.{largest_step, refusal_of};
 ghost use Rattle.pb_rounds.specs.Counted.{IsCountFault, IsCountOf};
 ghost use Rattle.pb_rounds.specs.Fairness.{GroupsHaveWinners, IsFairToGroups};
 ghost use Rattle.pb_rounds.specs.Outcome.{OutcomeView, settled};
+ghost use Rattle.pb_rounds.specs.RuleNames.{profile_name};
 ghost use Rattle.pb_rounds.specs.Run.{ElectedView, RunView, outcome_of};
 ghost use Rattle.pb_rounds.specs.declared.count_fault.CountFault.TheVariants.{RaisesSpent};
 ghost use Rattle.pb_rounds.specs.declared.measure.Measure.{Measure};
+ghost use Rattle.pb_rounds.specs.declared.options.Completion.TheVariants.{Add1};
 ghost use Rattle.pb_rounds.specs.declared.options.CountOptions.{CountOptions};
+ghost use Rattle.pb_rounds.specs.declared.rule.Rule.{Rule};
 
 /// The opening share is the largest that all voters can get of the budget. Where nobody votes it is 0.
 pub fn opening_share_is_largest()
@@ -64,4 +67,14 @@ pub fn outcomes_are_fair_to_groups()
         → IsFairToGroups options.measure (support_of e) o.share o.elected }
     ensures winners { (e : ElectionView) (options : CountOptions) (o : OutcomeView) → IsCountOf e options o
         → GroupsHaveWinners options.measure (support_of e) o.share o.elected }
+{}
+
+/// Two rules of one name have the same measure, raise shares or not, fill up or not, and where they raise shares
+/// have the same step.
+pub fn names_tell_rules_apart()
+    ensures { (first second : Rule) → first.options.step ≤ largest_step → second.options.step ≤ largest_step
+        → profile_name first ≡ profile_name second
+        → (first.options.measure ≡ second.options.measure) × (first.options.completion ≡ second.options.completion)
+        × (first.fill_up ≡ second.fill_up)
+        × (first.options.completion ≡ Add1 → first.options.step ≡ second.options.step) }
 {}

@@ -16,6 +16,7 @@ pub mod options;
 pub mod outcome;
 mod pace;
 mod pricing;
+pub mod profile_named;
 mod queue;
 mod raise_end;
 mod reach;

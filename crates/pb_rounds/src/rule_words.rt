@@ -1,12 +1,13 @@
-//! A rule in the words of an exported file.
+//! A rule by its one name, and in the words of an exported file.
 
 ghost use Rattle.std.specs.Prelude.{◌≡◌, ◌++◌, [], IfOk, OnOk, codes, decimal, string_bytes};
 ghost use Rattle.std.specs.Prelude.{if◌then◌else◌};
-ghost use Rattle.pb_rounds.specs.RuleNames.{completion_text, fills_up, rule_text, rule_word};
+ghost use Rattle.pb_rounds.specs.RuleNames.{completion_text, fills_up, profile_name, rule_text, rule_word};
 
 use crate::measure::Measure;
 use crate::options::{Completion, CountOptions};
 use crate::rule::{FillUp, Rule};
+use crate::rule_names::{completion_name, measure_name};
 use itoa::Buffer;
 use pb_core::no_memory::NoMemory;
 use std::alloc::Global;
@@ -20,6 +21,28 @@ impl Rule {
             (Completion::Plain, FillUp::Nothing) => "equalshares",
             (Completion::Add1, FillUp::Nothing) => "equalshares/add1",
             (Completion::Plain | Completion::Add1, FillUp::MostVotes) => "unknown",
+        }
+    }
+
+    /// Its name, such as `ES/votes/add1/hundredths/step=1.00/ties=file`: the measure, the completion, and where
+    /// shares are raised by how much. The most raises is no part of it.
+    pub fn profile(&self, alloc: Global) -> Result<String, NoMemory>
+        ensures { IfOk result (λ text. string_bytes text ≡ profile_name self.now) }
+    {
+        let measure = measure_name(self.options.measure);
+        let completion = completion_name(self.options.completion, self.fill_up);
+        match self.options.completion {
+            Completion::Plain => {
+                Ok(format!(in alloc; "ES/{measure}/{completion}/hundredths/ties=file")?)
+            }
+            Completion::Add1 => {
+                let step = self.options.step.text(alloc)?;
+                let name = format!(in alloc;
+                    "ES/{measure}/{completion}/hundredths/step={step}/ties=file"
+                );
+                drop(step);
+                Ok(name?)
+            }
         }
     }
 

@@ -18,7 +18,7 @@ const VALID: &str =
     "valid|is_valid|invalid|accepted|status|withdrawn|cancelled|deleted|duplicate|counted|finished|\
     completed|round|wazny|ważny|gueltig|gültig|platny|platný|geldig|valide";
 
-const BEGINNINGS: &str = "withdrawn|cancelled|invalid|removed|rejected_|merged_into";
+const BEGINNINGS: &str = "withdrawn|cancelled|invalid|removed|rejected_";
 
 /// Those of them that may have something else, and others that may.
 const VALID_OR_MORE: &str = "status|accepted|finished|completed|voted|has_voted";

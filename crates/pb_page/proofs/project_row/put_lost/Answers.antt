@@ -8,7 +8,7 @@ use Rattle.pb_page.proofs.project_row.put_lost.Goals as goal
 pub returns : goal.returns
 returns c =
     let l = c.args.language.now in let r = c.args.row.now in let lost = c.args.lost.now in
-    alike_put _ _ (ended_row l r.budget (project_of r) r.votes (Lost lost)) _ _ (then_put _ _ _ _ _ _ c.in_ok-put.ensures
+    alike_put _ _ (ended_row l r.short r.budget (project_of r) r.votes (Lost lost)) _ _ (then_put _ _ _ _ _ _ c.in_ok-put.ensures
     (then_put _ _ _ _ _ _ c.in_ok-say.ensures
     c.put_own.ensures))
-    (lost_is l r.budget (project_of r) _ r.votes lost c.bar.ensures)
+    (lost_is l r.short r.budget (project_of r) _ r.votes lost c.bar.ensures)

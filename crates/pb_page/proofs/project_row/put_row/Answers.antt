@@ -17,6 +17,7 @@ returns c =
     (then_put _ _ _ _ _ _ c.in_ok-put_ended.ensures
     (then_put _ _ _ _ _ _ c.in_ok-put_category.ensures
     c.put_own.ensures)))
-    (row_is c.args.facts.now x c.args.place p _ _ _ _ _ _ project c.id.ensures.id c.name.ensures c.cost.ensures.cost
+    (row_is c.args.facts.now x c.args.place p _ _ _ _ _ _ _ project c.id.ensures.id c.name.ensures c.cost.ensures.cost
+    (rw c.rule.ensures at c.short_key.ensures)
     (c.budget.ensures.budget ∙ ap (λ (e : ElectionView). e.budget) c.election-election.ensures.election)
     (ap (λ (r : ProjectReason). r.votes) reason) (ap (λ (r : ProjectReason). r.ending) reason))

@@ -28,4 +28,4 @@ returns c =
     (then_put _ _ _ _ _ _ c.in_ok-put_own.ensures
     (then_put _ _ _ _ _ _ c.in_ok-put_lost_rows.ensures
     c.put_own-2.ensures))))
-    (others_are c.args.facts.now x some)
+    (others_are c.args.facts.now x _ (rw c.rule.ensures at c.short_key.ensures) some)
