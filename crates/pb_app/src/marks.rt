@@ -11,10 +11,9 @@ use pb_rounds::options::{Completion, LARGEST_STEP, MOST_RAISES};
 use pb_rounds::rule::FillUp;
 use pb_rounds::rule_names::{completion_named, measure_named};
 use std::alloc::Global;
-use std::str;
 
 /// What a published page marks of how it was made; what it does not mark is nothing. A wrong mark makes another
-/// page, which is not the same.
+/// page, which is not the same, or none.
 #[derive(Drop)]
 pub(crate) struct Marks {
     title: Option<String>,
@@ -36,9 +35,16 @@ enum RuleOption {
 }
 
 impl Marks {
-    /// What this page marks.
+    /// What this page marks. In the place of bytes that are no text stands a sign that no page has there.
     pub(crate) fn of(alloc: Global, page: &[u8]) -> Result<Marks, NoMemory> {
-        let page = str::from_utf8(page).unwrap_or("");
+        let text = String::from_utf8_lossy(alloc, page)?;
+        let marks = Marks::of_text(alloc, text.as_str());
+        drop(text);
+        marks
+    }
+
+    /// What a page with this text marks.
+    fn of_text(alloc: Global, page: &str) -> Result<Marks, NoMemory> {
         Ok(Marks {
             title: shown(alloc, between(page, "<title>", "</title>"))?,
             recount: shown(alloc, link_of(page))?,

@@ -22,7 +22,7 @@ use Rattle.pb_rounds.specs.declared.rule.FillUp.{FillUp}
 use Rattle.pb_rounds.specs.declared.rule.FillUp.TheVariants.{Nothing, MostVotes}
 use Rattle.pb_rounds.specs.declared.rule.Rule.{Rule}
 use Rattle.pb_rows.specs.Reading.{records_of}
-use Rattle.pb_commands.specs.Counted.{IsTold}
+use Rattle.pb_commands.specs.Inner.Counted.{IsTold}
 use Rattle.pb_commands.specs.Closed.{Gives}
 use Rattle.pb_commands.specs.Ends.{IsOutsideFault}
 use Rattle.pb_faults.specs.Fault.{merged}

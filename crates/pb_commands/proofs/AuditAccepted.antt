@@ -22,7 +22,7 @@ use Rattle.pb_script.specs.Serving.{program_room}
 use Rattle.pb_faults.specs.DeskRow.{entries_row}
 use Rattle.pb_commands.specs.Audited.{AuditWrites, IsDeskOf, IsTextOf}
 use Rattle.pb_commands.specs.Inner.Audited.{IsRefusedDesk}
-use Rattle.pb_commands.specs.Counted.{IsTold}
+use Rattle.pb_commands.specs.Inner.Counted.{IsTold}
 use Rattle.pb_commands.specs.Report.{report_of}
 use Rattle.pb_commands.specs.declared.demand.Demand.{Demand}
 use Rattle.pb_commands.specs.Ends.{IsOutsideFault}

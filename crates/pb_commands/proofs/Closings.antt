@@ -14,7 +14,7 @@ use Rattle.pb_rows.specs.Writing.{text_of_row}
 use Rattle.pb_faults.specs.DeskRow.{entries_row}
 use Rattle.pb_commands.specs.Audited.{IsTextOf}
 use Rattle.pb_commands.specs.Inner.Audited.{IsRefusedDesk}
-use Rattle.pb_commands.specs.Counted.{IsTold}
+use Rattle.pb_commands.specs.Inner.Counted.{IsTold}
 use Rattle.pb_commands.specs.Report.{report_of}
 
 when_true : (b : Bool) (A B : Type 0) → b ≡ true → A → MatchBool b A B

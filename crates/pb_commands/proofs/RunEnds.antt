@@ -1,6 +1,7 @@
 -- How the runs end that write a report, a table or a file of a count, an audit, ballots, or a desk's journal.
 use Rattle.std.proofs.Common.{◌≡◌, ◌≢◌, ◌∙◌, ℕ, List, Option, Some, None, Ok, Err, false, true, refl, sym, ap, subst}
 use Rattle.std.proofs.lemmas.Bool.{true≢false}
+use Rattle.std.proofs.lemmas.Option.{none-some}
 use Rattle.std.specs.Prelude.{IfErr, IfSome, IsErrAnd, Result}
 use Rattle.pb_core.specs.Election.{ElectionView}
 use Rattle.pb_desk.specs.Desk.{DeskView, closed_election, standing_of}
@@ -106,9 +107,9 @@ module _ (rule : Rule) (files : Option (List ℕ)) (journals : Option (Option (L
   module _ (e : ElectionView) (o : OutcomeView) (is_count : IsCountOf e rule.options o) where
     stopped_outside : (kept : Further) (text : List ℕ) (fault : AppFault) → IsExportOf rule kept e text → IsStopped e fault → merged fault ≡ fault → IsOutsideFault fault
     stopped_outside kept text Memory writes stopped is = refl
-    stopped_outside kept text (Export export.SectionWord) writes stopped is = cc (writes.can export.SectionWord stopped)
-    stopped_outside kept text (Export export.CommaInId) writes stopped is = cc (writes.can export.CommaInId stopped)
-    stopped_outside kept text (Export export.OfNoFile) writes stopped is = cc (writes.can export.OfNoFile stopped)
+    stopped_outside kept text (Export export.SectionWord) writes stopped is = absurd (none-some _ (sym writes.can ∙ stopped (λ is. cc)))
+    stopped_outside kept text (Export export.CommaInId) writes stopped is = absurd (none-some _ (sym writes.can ∙ stopped (λ is. cc)))
+    stopped_outside kept text (Export export.OfNoFile) writes stopped is = absurd (none-some _ (sym writes.can ∙ stopped (λ is. cc)))
     stopped_outside kept text (Export export.NoMemory) writes stopped is = cc is
     stopped_outside kept text fault writes stopped is = absurd stopped
 

@@ -10,10 +10,12 @@ use Rattle.std.proofs.lemmas.Option.{none-some, same_Some, slice_get_past, slice
 use Rattle.pb_core.specs.Election.{ElectionView, IsElection}
 use Rattle.pb_price.specs.Price.{total_rest}
 use Rattle.pb_price.specs.Supporters.{SupportView, cost_at, support_of, supporters_at}
+use Rattle.pb_reasons.proofs.AllWinners.{spent_within}
 use Rattle.pb_reasons.proofs.Due.{round_is}
 use Rattle.pb_reasons.proofs.Told.{elected_has_round}
 use Rattle.pb_rounds.specs.MostVotes.{is_taken}
-use Rattle.pb_reasons.specs.Counted.{CountedView, IsCounted, is_selected}
+use Rattle.pb_reasons.specs.Counted.{CountedView, is_selected}
+use Rattle.pb_reasons.specs.Inner.Counts.{IsCounted}
 use Rattle.pb_reasons.specs.Reasons.{all_payments, ending_of, paid_for, project_reason, round_of, voter_reason}
 use Rattle.pb_reasons.specs.declared.project_reason.Ending.TheVariants as ending
 use Rattle.pb_reasons.specs.declared.project_reason.Lost.{Lost}
@@ -108,14 +110,6 @@ columns_sum s rests (w ∷ elected) (row ∷ rows) all =
     let first = sum_by_place row s.voters all.0.one_each in
     let later = columns_sum s rests elected rows all.1 in
     omega (arith, both, first, later, all.0.collected, sum_by-cons (λ (w : ElectedView). w.collected) w elected)
-
--- what is spent is collected
-spent_within : (s : SupportView) (rests : List ℕ) (elected : List ElectedView) (rows : List (List ℕ)) → AllZip (PaysFor s rests) elected rows → spent_on s elected ≤ sum_by (λ (w : ElectedView). w.collected) elected
-spent_within s rests [] [] all = omega arith
-spent_within s rests [] (row ∷ rows) all = absurd all
-spent_within s rests (w ∷ elected) [] all = absurd all
-spent_within s rests (w ∷ elected) (row ∷ rows) all =
-    omega (arith, spent_within s rests elected rows all.1, all.0.covered, sum_by-cons (λ (w : ElectedView). w.collected) w elected, sum_by-cons (λ (w : ElectedView). cost_at s w.place) w elected)
 
 pub paid_told : (e : ElectionView) (c : CountedView) → IsElection e → IsCounted e c
     → (sum_by (λ voter. (voter_reason e c voter).paid) (range_with_len 0 (length e.voters)) ≡ sum_by (λ (w : ElectedView). w.collected) c.outcome.elected)

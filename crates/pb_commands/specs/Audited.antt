@@ -3,11 +3,11 @@ use Rattle.std.specs.Prelude.{◌≡◌, ℕ, ◌++◌, MatchBool, List, [], Som
 use Rattle.pb_desk.specs.Audit.{IsAudited}
 use Rattle.pb_desk.specs.Desk.{DeskView, closed_election, standing_of}
 use Rattle.pb_read.specs.StandsFor.{StandsFor}
+use Rattle.pb_reasons.specs.Counted.{CountedView, IsCountBy}
 use Rattle.pb_rounds.specs.declared.rule.Rule.{Rule}
 use Rattle.pb_rows.specs.Reading.{records_of}
 use Rattle.pb_rows.specs.Writing.{text_of_row}
 use Rattle.pb_script.specs.Serving.{program_room}
-use Rattle.pb_commands.specs.Counted.{IsTold}
 use Rattle.pb_commands.specs.Report.{report_of}
 use Rattle.pb_commands.specs.declared.demand.Demand.{Demand}
 use Rattle.pb_commands.specs.declared.demand.Demand.TheVariants.{Shut}
@@ -23,7 +23,8 @@ pub record IsDeskOf (bytes journal : List ℕ) (d : DeskView) : Type 0 where
 -- leaves
 abbrev pub IsTextOf : Rule → DeskView → List ℕ → Type 0
 IsTextOf rule d text = (report : List ℕ) × (text ≡ text_of_row (entries_row d) ++ report)
-    × MatchBool (standing_of d).is_shut (IsTold report_of rule (closed_election d) report) (report ≡ [])
+    × MatchBool (standing_of d).is_shut
+    ((c : CountedView) × IsCountBy rule (closed_election d) c × (report ≡ report_of (closed_election d) c)) (report ≡ [])
 
 -- what these bytes make a run of `audit` write: of a shut desk, where one is demanded
 abbrev pub AuditWrites : Demand → Rule → List ℕ → List ℕ → List ℕ → Type 0

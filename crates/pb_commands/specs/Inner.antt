@@ -3,6 +3,7 @@
 pub mod Audited
 pub mod Ballots
 pub mod Checked
+pub mod Counted
 pub mod DeskRun
 pub mod Exporting
 pub mod History

@@ -2,7 +2,6 @@
 pub mod Report
 pub mod Tables
 pub mod Ends
-pub mod Counted
 pub mod Audited
 pub mod Ballots
 pub mod DeskRun

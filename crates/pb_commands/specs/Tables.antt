@@ -2,7 +2,7 @@
 -- is, or beside most votes first.
 use Rattle.std.specs.Prelude.{◌≡◌, ℕ, List, [], ◌∷◌, ◌++◌, codes, decimal, if◌then◌else◌, length, map}
 use Rattle.std.specs.Prelude.{slice_index_or}
-use Rattle.std.specs.List.{join_with_byte, range_with_len}
+use Rattle.std.specs.List.{enumerate_from, join_with_byte, range_with_len}
 use Rattle.pb_core.specs.Election.{ElectionView, project_ids, voter_ids}
 use Rattle.pb_core.specs.MoneyText.{money_text}
 use Rattle.pb_price.specs.Supporters.{cost_at, support_of}
@@ -14,14 +14,12 @@ use Rattle.pb_reasons.specs.Reasons.{all_payments, project_reason, voter_payment
 use Rattle.pb_reasons.specs.declared.payment.Payment.{Payment}
 use Rattle.pb_reasons.specs.declared.project_reason.Ending.{Ending}
 use Rattle.pb_reasons.specs.declared.project_reason.Ending.TheVariants as ending
-use Rattle.pb_reasons.specs.declared.project_reason.Added.{Added}
-use Rattle.pb_reasons.specs.declared.project_reason.Lost.{Lost}
-use Rattle.pb_reasons.specs.declared.project_reason.Won.{Won}
 use Rattle.pb_reasons.specs.declared.rule_row.RuleRow.{RuleRow}
 use Rattle.pb_rounds.specs.MostVotes.{is_taken, votes_at}
 use Rattle.pb_rounds.specs.PriceSystem.{IsPriceSystem}
 use Rattle.pb_rounds.specs.RuleNames.{fills_up}
 use Rattle.pb_rounds.specs.declared.rule.Rule.{Rule}
+use Rattle.pb_rows.specs.Reading.{Fields}
 use Rattle.pb_rows.specs.Tables.{Column, table_text}
 use Rattle.pb_commands.specs.Report.{report_of}
 use Rattle.pb_commands.specs.declared.table.Table.{Table}
@@ -36,25 +34,19 @@ project_head e =
     ∷ (codes "cost", λ place. money_text (cost_at (support_of e) place))
     ∷ (codes "votes", λ place. decimal (votes_at (support_of e) place)) ∷ []
 
--- what is said of an elected project, of one that is neither elected nor added, and of an added one
-abbrev pub on_ending : (Won → List ℕ) → (Lost → List ℕ) → (Added → List ℕ) → Ending → List ℕ
-on_ending won lost added (ending.Won w) = won w
-on_ending won lost added (ending.Lost l) = lost l
-on_ending won lost added (ending.Added a) = added a
+-- the fields of an ending, up to its last: what another would say is empty
+abbrev pub fields_of : Ending → Fields
+fields_of (ending.Won w) = decimal w.round ∷ money_text w.price ∷ money_text w.collected ∷ decimal w.in_full ∷ []
+fields_of (ending.Lost l) = [] ∷ [] ∷ [] ∷ [] ∷ money_text l.left ∷ money_text l.missing ∷ []
+fields_of (ending.Added a) = [] ∷ [] ∷ [] ∷ [] ∷ [] ∷ [] ∷ decimal a.number ∷ []
 
--- the columns of projects: what another ending would say is empty, and the number of an added project stands
--- where an outcome is filled up
+-- the columns of projects: behind the first are those of endings; the number of an added project stands where an
+-- outcome is filled up
 abbrev pub project_columns : ElectionView → CountedView → List (Column ℕ)
 project_columns e c = project_head e
-    ++ map (λ (k : Column Ending). (k.0, λ (place : ℕ). k.1 (project_reason e c place).ending)) (
-    (codes "round", on_ending (λ w. decimal w.round) (λ l. []) (λ a. []))
-    ∷ (codes "price", on_ending (λ w. money_text w.price) (λ l. []) (λ a. []))
-    ∷ (codes "collected", on_ending (λ w. money_text w.collected) (λ l. []) (λ a. []))
-    ∷ (codes "in_full", on_ending (λ w. decimal w.in_full) (λ l. []) (λ a. []))
-    ∷ (codes "left", on_ending (λ w. []) (λ l. money_text l.left) (λ a. []))
-    ∷ (codes "missing", on_ending (λ w. []) (λ l. money_text l.missing) (λ a. []))
-    ∷ (if fills_up c.fill_up
-    then (codes "added", on_ending (λ w. []) (λ l. []) (λ a. decimal a.number)) ∷ [] else []))
+    ++ map (λ (k : ℕ × List ℕ). (k.1, λ (place : ℕ). slice_index_or (fields_of (project_reason e c place).ending) k.0 []))
+    (enumerate_from 0 (codes "round" ∷ codes "price" ∷ codes "collected" ∷ codes "in_full" ∷ codes "left"
+    ∷ codes "missing" ∷ (if fills_up c.fill_up then codes "added" ∷ [] else [])))
 
 -- the columns of voters, each by its position; payments are each a place, `:` and an amount, with `,` between
 abbrev pub voter_columns : ElectionView → CountedView → List (Column ℕ)

@@ -2,9 +2,9 @@
 
 ghost use Rattle.std.specs.Prelude.{◌≡◌, ◌<◌, ◌+◌, ℕ, Some, false, length, slice_get, sum_by};
 ghost use Rattle.std.specs.List.{range_with_len};
-ghost use Rattle.pb_core.specs.Election.{ElectionView, IsElection};
 ghost use Rattle.pb_price.specs.Supporters.{cost_at, support_of};
-ghost use Rattle.pb_reasons.specs.Counted.{CountedView, IsCounted, is_selected};
+ghost use Rattle.pb_reasons.specs.Counted.{is_selected};
+ghost use Rattle.pb_reasons.specs.CountedElection.{CountedElectionView, IsCountedElection};
 ghost use Rattle.pb_reasons.specs.Reasons.{all_payments, project_reason, voter_reason};
 ghost use Rattle.pb_reasons.specs.declared.project_reason.Ending.TheVariants as ending;
 ghost use Rattle.pb_reasons.specs.declared.project_reason.Lost.{Lost};
@@ -20,24 +20,25 @@ ghost use Rattle.pb_reasons.specs.Totals.{totals_of};
 /// and its surplus sum to what the voters paid, which is what was collected, and what the added projects
 /// cost.
 pub fn tables_tell()
-    ensures missing { (e : ElectionView) (c : CountedView) (place : ℕ)
-        → IsElection e → IsCounted e c → place < length e.projects → is_selected c place ≡ false
-        → (lost : Lost) × ((project_reason e c place).ending ≡ ending.Lost lost)
-        × (0 < lost.missing) × (lost.left + lost.missing ≡ cost_at (support_of e) place) }
-    ensures share { (e : ElectionView) (c : CountedView) (voter : ℕ)
-        → IsElection e → IsCounted e c → voter < length e.voters
-        → (voter_reason e c voter).paid + (voter_reason e c voter).left ≡ c.outcome.share }
-    ensures payments { (e : ElectionView) (c : CountedView) → IsElection e → IsCounted e c
-        → IsPriceSystem (support_of e) c.outcome.share c.outcome.elected c.outcome.rests
-        (all_payments e c.outcome) }
-    ensures elected { (e : ElectionView) (c : CountedView) (round : ℕ) (w : ElectedView)
-        → IsElection e → IsCounted e c → slice_get c.outcome.elected round ≡ Some w
-        → (won : Won) × ((project_reason e c w.place).ending ≡ ending.Won won)
+    ensures missing { (x : CountedElectionView) (place : ℕ)
+        → IsCountedElection x → place < length x.election.projects → is_selected x.counted place ≡ false
+        → (lost : Lost) × ((project_reason x.election x.counted place).ending ≡ ending.Lost lost)
+        × (0 < lost.missing) × (lost.left + lost.missing ≡ cost_at (support_of x.election) place) }
+    ensures share { (x : CountedElectionView) (voter : ℕ)
+        → IsCountedElection x → voter < length x.election.voters
+        → (voter_reason x.election x.counted voter).paid + (voter_reason x.election x.counted voter).left
+        ≡ x.counted.outcome.share }
+    ensures payments { (x : CountedElectionView) → IsCountedElection x
+        → IsPriceSystem (support_of x.election) x.counted.outcome.share x.counted.outcome.elected
+        x.counted.outcome.rests (all_payments x.election x.counted.outcome) }
+    ensures elected { (x : CountedElectionView) (round : ℕ) (w : ElectedView)
+        → IsCountedElection x → slice_get x.counted.outcome.elected round ≡ Some w
+        → (won : Won) × ((project_reason x.election x.counted w.place).ending ≡ ending.Won won)
         × (won.round ≡ round + 1) × (won.price ≡ w.price) × (won.collected ≡ w.collected) }
-    ensures paid { (e : ElectionView) (c : CountedView)
-        → IsElection e → IsCounted e c
-        → (sum_by (λ voter. (voter_reason e c voter).paid) (range_with_len 0 (length e.voters))
-        ≡ sum_by (λ w. w.collected) c.outcome.elected)
-        × ((totals_of e c).spent + (totals_of e c).surplus
-        ≡ sum_by (λ w. w.collected) c.outcome.elected + sum_by (cost_at (support_of e)) c.added) }
+    ensures paid { (x : CountedElectionView) → IsCountedElection x
+        → let paid = sum_by (λ w. w.collected) x.counted.outcome.elected in
+        let totals = totals_of x.election x.counted in
+        (sum_by (λ voter. (voter_reason x.election x.counted voter).paid)
+        (range_with_len 0 (length x.election.voters)) ≡ paid)
+        × (totals.spent + totals.surplus ≡ paid + sum_by (cost_at (support_of x.election)) x.counted.added) }
 {}

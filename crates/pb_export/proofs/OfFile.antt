@@ -1,5 +1,5 @@
 -- Every election that a file stands for can be written, but for the ids that are refused.
-use Rattle.std.proofs.Common.{◌≡◌, ◌≤◌, ◌&&◌, All, ℕ, Bool, true, false, cond, not, List, [], ◌∷◌, ◌++◌, Option, Some, None, Result, Ok, Err, refl, ap, sym, ◌∙◌, subst, arith}
+use Rattle.std.proofs.Common.{◌≡◌, ◌≤◌, ◌&&◌, All, ℕ, Bool, true, false, cond, not, List, [], ◌∷◌, ◌++◌, get_or, Option, Some, None, Result, Ok, Err, refl, ap, sym, ◌∙◌, subst, arith}
 use Rattle.std.specs.Prelude.{codes, nat_le}
 use Rattle.std.specs.List.{AllByRecursion, AllZip, list_all}
 use Rattle.std.specs.Option.{option_map_or}
@@ -24,6 +24,7 @@ use Rattle.std.proofs.lemmas.Slice.Eq.{bytes_eq-Decides}
 use Rattle.pb_export.proofs.Metas.{small_enough}
 use Rattle.pb_export.specs.Export.{is_of_file}
 use Rattle.pb_export.specs.Inner.Parts.{is_small, is_tidy}
+use Rattle.std.proofs.lemmas.List.Sums.{list_all-from_AllPass}
 
 rows_tidy : (records : List Fields) → AllByRecursion AllText records → AllByRecursion IsTidy (rows_of records)
 rows_tidy [] texts = tt
@@ -121,3 +122,17 @@ of_file records e stands =
     let metas = projects.3 in
     let limit : (most : ℕ) → e.max_length ≡ Some most → most ≤ most_projects = λ most is. limit_of_value (value_of (codes "max_length") metas.1) most (sym (ap (λ meta. meta.max_length) metas.3) ∙ ap Ok is) in
     and_from _ _ (tested e.projects named.0 named.1) (small_tested e.max_length limit)
+
+-- the test, in the words of its law
+pub file_is : (e : ElectionView) → is_of_file e ≡ true
+    → All (λ p. (trim p.id ≡ p.id) × (trim p.name ≡ p.name)) e.projects × ((most : ℕ) → e.max_length ≡ Some most → most ≤ most_projects)
+file_is e is = let of = tested_file e is in (λ k p below. (of.ids k p below, of.names k p below), of.limit)
+
+pub it_is_of_file : (e : ElectionView)
+    → All (λ p. (trim p.id ≡ p.id) × (trim p.name ≡ p.name)) e.projects × ((most : ℕ) → e.max_length ≡ Some most → most ≤ most_projects)
+    → is_of_file e ≡ true
+it_is_of_file e (tidy, limit) =
+    let test : ProjectView → Bool = λ p. is_tidy p.id && is_tidy p.name in
+    let each : All (λ p. test p ≡ true) e.projects = λ k d below.
+    (let p = get_or e.projects k d in and_from _ _ ((bytes_eq-Decides (trim p.id) p.id).1 (tidy k d below).0) ((bytes_eq-Decides (trim p.name) p.name).1 (tidy k d below).1)) in
+    and_from _ _ (list_all-from_AllPass test e.projects each) (small_tested e.max_length limit)

@@ -18,7 +18,7 @@ use Rattle.pb_read.proofs.ListFacts.{AllByRecursion-append, AllByRecursion-left,
 use Rattle.pb_read.specs.Inner.Fields.{trimmed}
 use Rattle.pb_read.specs.Rows.{is_blank, rows_of}
 use Rattle.pb_read.specs.StandsFor.{GivesAll, StandsFor}
-use Rattle.pb_export.specs.Export.{has_comma_in_vote, has_section_word}
+use Rattle.pb_export.specs.Inner.Parts.{has_comma_in_vote, has_section_word}
 use Rattle.pb_export.specs.Inner.Parts.{KeyView, has_comma, is_section_word, key_rows, projects_from, vote_row}
 use Rattle.pb_export.specs.FileRows.{file_rows, meta_rows, projects_rows, votes_rows}
 use Rattle.pb_export.specs.declared.further.Further.{Further}

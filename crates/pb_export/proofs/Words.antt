@@ -3,7 +3,7 @@ use Rattle.std.proofs.Common.{◌≡◌, ◌||◌, ℕ, Bool, List, [], ◌∷�
 use Rattle.std.specs.List.{list_any}
 use Rattle.std.proofs.lemmas.List.Folds.{list_any-append}
 use Rattle.pb_core.specs.Election.{ElectionView, ProjectView, VoterView, project_ids, voter_ids}
-use Rattle.pb_export.specs.Export.{has_section_word}
+use Rattle.pb_export.specs.Inner.Parts.{has_section_word}
 use Rattle.pb_export.specs.Inner.Parts.{is_section_word}
 
 list_any-map : {X : Type 0} (f : X → List ℕ) (test : List ℕ → Bool) (xs : List X) → list_any test (map f xs) ≡ list_any (λ x. test (f x)) xs

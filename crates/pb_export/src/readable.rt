@@ -2,8 +2,9 @@
 
 ghost use Rattle.std.specs.Prelude.{◌≡◌, ◌<◌, ◌&&◌, [], ◌∷◌, All, codes, length, map, slice_index_or};
 ghost use Rattle.std.specs.List.{list_all, list_any};
-ghost use Rattle.pb_export.specs.Export.{has_comma_in_vote, has_section_word, is_of_file};
-ghost use Rattle.pb_export.specs.Inner.Parts.{can_be_named, has_comma, is_own_key, is_section_word, is_small, is_tidy};
+ghost use Rattle.pb_export.specs.Export.{is_of_file};
+ghost use Rattle.pb_export.specs.Inner.Parts.{can_be_named, has_comma, has_comma_in_vote, has_section_word, is_own_key};
+ghost use Rattle.pb_export.specs.Inner.Parts.{is_section_word, is_small, is_tidy};
 ghost use Rattle.pb_export.specs.FileRows.{may_follow};
 ghost use Rattle.pb_read.specs.Rows.{is_word};
 

@@ -1,13 +1,13 @@
 //! Elections, written as .pb files.
 
-ghost use Rattle.std.specs.Prelude.{◌≡◌, ◌<◌, ◌++◌, ◌∷◌, [], ℕ, All, IfErr, IfOk, OnOk, length, map};
+ghost use Rattle.std.specs.Prelude.{◌≡◌, ◌≢◌, ◌<◌, ◌++◌, ◌∷◌, [], ℕ, All, IfErr, IfOk, None, OnOk, Some, length, map};
 ghost use Rattle.std.specs.Prelude.{string_bytes};
 ghost use Rattle.csv.specs.Records.{AllText};
 ghost use Rattle.pb_core.specs.Election.{project_ids};
 ghost use Rattle.pb_read.specs.StandsFor.{StandsFor};
 ghost use Rattle.pb_rows.specs.Reading.{records_of};
 ghost use Rattle.pb_rows.specs.Writing.{text_of_row, text_of_rows};
-ghost use Rattle.pb_export.specs.Export.{CanBeWritten, IsExportFault};
+ghost use Rattle.pb_export.specs.Export.{export_refusal};
 ghost use Rattle.pb_export.specs.Inner.Behind.{behind};
 ghost use Rattle.pb_export.specs.Inner.Growing.{Grows};
 ghost use Rattle.pb_export.specs.Inner.Parts.{key_row, key_rows, limit_rows, project_row, terms_rows, vote_text};
@@ -46,8 +46,8 @@ pub fn write_pb(alloc: Global, election: &Election, told: &Told<'_>) -> Result<V
         (file_rows election.now told.now.rule.now told.now.comment.now told.now.votes.now
         told.now.selected.now
         told.now.further.now)) }
-    ensures ok { OnOk result (CanBeWritten election.now) }
-    ensures fault { IfErr result (IsExportFault election.now) }
+    ensures ok { OnOk result (export_refusal election.now ≡ None) }
+    ensures fault { IfErr result (λ fault. fault ≢ ExportFault.NoMemory → export_refusal election.now ≡ Some fault) }
 {
     // Rows and amounts that are written are read back; and what is true of every election holds of what is
     // read back.

@@ -130,7 +130,7 @@ const FIRST: &[SentenceEntry] = &[
     plain!("others.heading", "The other projects"),
     plain!(
         "others.caption",
-        "In the order of the file. What a project's supporters have left, and what it was short of its cost, are told at the final share. What it was short is no measure of how near it was: shares are counted money, not the budget's, and a project that cost so much less might still not win. What would have made it win, the command pb_app whatif looks for. The bar is what its supporters have left, as a part of its cost."
+        "In the order of the file. What a project's supporters have left, and what it was short of its cost, are told at the final share. What it was short is no measure of how near it was: shares are counted money, not the budget's, and a project that cost so much less might still not win. The command pb_app whatif looks for what would have made it win. The bar is what its supporters have left, as a part of its cost."
     ),
     plain!("others.none", "There are none."),
     plain!("column.left", "Its supporters have left"),

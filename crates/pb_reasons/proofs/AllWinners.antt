@@ -1,21 +1,26 @@
 -- The winners: the elected and the added together.
-use Rattle.std.proofs.Common.{◌≡◌, ◌≢◌, ℕ, zero, suc, ◌+◌, ◌-◌, List, [], ◌∷◌, ◌++◌, false, map, refl, sym, ◌∙◌, ap, subst, arith, ◌||◌}
+use Rattle.std.proofs.Common.{◌≡◌, ◌≢◌, ℕ, zero, suc, ◌+◌, ◌-◌, ◌≤◌, List, [], ◌∷◌, ◌++◌, false, map, refl, sym, ◌∙◌, ap, subst, arith, ◌||◌}
 use Rattle.std.specs.Prelude.{◌==◌, All, AllPairs, sum_by}
+use Rattle.std.specs.List.{AllZip}
 use Rattle.std.proofs.lemmas.Bool.{eqb-false, or_parts}
 use Rattle.std.proofs.lemmas.List.Elements.{All-append, All-map, All-weaker}
 use Rattle.std.proofs.lemmas.List.Folds.{list_any-append}
 use Rattle.std.proofs.lemmas.List.Kept.{AllPairs-cons}
+use Rattle.std.proofs.lemmas.List.Sums.{sum_by-append, sum_by-cons}
 use Rattle.pb_core.specs.Election.{ElectionView, IsElection}
 use Rattle.pb_rounds.proofs.Added.{added_differ, added_were_not_taken, election_is_filled}
 use Rattle.pb_rounds.proofs.Filled.{rule_from_filled}
 use Rattle.pb_rounds.specs.MostVotes.{IsMostVotesFirst, fits, is_taken, left_after}
-use Rattle.pb_price.specs.Supporters.{cost_at, support_of}
+use Rattle.pb_price.specs.Supporters.{SupportView, cost_at, support_of}
 use Rattle.pb_rounds.specs.Count.{spent_on}
 use Rattle.pb_rounds.specs.Outcome.{OutcomeView}
+use Rattle.pb_rounds.specs.PriceSystem.{PaysFor}
 use Rattle.pb_rounds.specs.Run.{ElectedView, is_elected}
 use Rattle.pb_rounds.specs.declared.rule.FillUp.{FillUp}
 use Rattle.pb_rounds.specs.declared.rule.FillUp.TheVariants.{Nothing, MostVotes}
-use Rattle.pb_reasons.specs.Counted.{CountedView, IsCounted, added_to, counted, is_selected, winners_of}
+use Rattle.pb_reasons.specs.Counted.{CountedView, counted, is_selected, winners_of}
+use Rattle.pb_reasons.specs.CountedElection.{CountedElectionView, IsCountedElection}
+use Rattle.pb_reasons.specs.Inner.Counts.{IsCounted, added_to}
 use Rattle.pb_reasons.specs.Totals.{totals_of}
 use Rattle.pb_reasons.specs.Inner.Told.{AreApart}
 use Rattle.pb_reasons.proofs.Tellable.{count_can_be_told}
@@ -28,6 +33,35 @@ pub selected_are_winners : (c : CountedView) (place : ℕ) → is_selected c pla
 selected_are_winners c place =
     ap (λ b. b || is_taken c.added place) (elected_are_taken c.outcome.elected place)
     ∙ sym (list_any-append (λ t. t == place) (map (λ w. w.place) c.outcome.elected) c.added)
+
+-- what the winners cost
+places_cost : (s : SupportView) (elected : List ElectedView) → sum_by (cost_at s) (map (λ w. w.place) elected) ≡ spent_on s elected
+places_cost s [] = refl
+places_cost s (w ∷ elected) =
+    sum_by-cons (cost_at s) w.place (map (λ v. v.place) elected) ∙ ap (λ n. cost_at s w.place + n) (places_cost s elected)
+    ∙ sym (sum_by-cons (λ (v : ElectedView). cost_at s v.place) w elected)
+
+pub winners_cost : (e : ElectionView) (c : CountedView) → (totals_of e c).spent ≡ sum_by (cost_at (support_of e)) (winners_of c)
+winners_cost e c =
+    let s = support_of e in
+    let parts = sum_by-append (cost_at s) (map (λ (w : ElectedView). w.place) c.outcome.elected) c.added in
+    omega (arith, parts, places_cost s c.outcome.elected)
+
+-- what was paid for the elected is at least what they cost
+pub spent_within : (s : SupportView) (rests : List ℕ) (elected : List ElectedView) (rows : List (List ℕ)) → AllZip (PaysFor s rests) elected rows → spent_on s elected ≤ sum_by (λ (w : ElectedView). w.collected) elected
+spent_within s rests [] [] all = omega arith
+spent_within s rests [] (row ∷ rows) all = absurd all
+spent_within s rests (w ∷ elected) [] all = absurd all
+spent_within s rests (w ∷ elected) (row ∷ rows) all =
+    omega (arith, spent_within s rests elected rows all.1, all.0.covered, sum_by-cons (λ (w : ElectedView). w.collected) w elected, sum_by-cons (λ (w : ElectedView). cost_at s w.place) w elected)
+
+pub paid_beyond : (c : CountedElectionView) → IsCountedElection c
+    → (totals_of c.election c.counted).surplus + sum_by (λ (w : ElectedView). cost_at (support_of c.election) w.place) c.counted.outcome.elected
+    ≡ sum_by (λ (w : ElectedView). w.collected) c.counted.outcome.elected
+paid_beyond c is =
+    let o = c.counted.outcome in
+    let within = spent_within (support_of c.election) o.rests o.elected is.is_count.price_system.0 is.is_count.price_system.1.paid in
+    omega (arith, within)
 
 -- nobody is elected twice, or added twice, or both
 differ : (elected : List ElectedView) (added : List ℕ) → AllPairs AreApart elected → AllPairs (λ place other. place ≢ other) added

@@ -14,7 +14,8 @@ use Rattle.pb_rounds.specs.Run.{ElectedView, is_elected}
 use Rattle.pb_reasons.specs.Comparison.{choices_of}
 use Rattle.pb_rounds.specs.declared.rule.FillUp.{FillUp}
 use Rattle.pb_rounds.specs.declared.rule.FillUp.TheVariants.{Nothing, MostVotes}
-use Rattle.pb_reasons.specs.Counted.{CountedView, IsCounted, counted, winners_of}
+use Rattle.pb_reasons.specs.Counted.{CountedView, counted, winners_of}
+use Rattle.pb_reasons.specs.Inner.Counts.{IsCounted}
 use Rattle.pb_reasons.specs.Reasons.{voter_reason}
 use Rattle.pb_reasons.proofs.AllWinners.{elected_are_taken, selected_are_winners}
 

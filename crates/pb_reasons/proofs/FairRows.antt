@@ -23,7 +23,7 @@ most_grows : (f : ℕ → ℕ) (least : ℕ) (xs : List ℕ) → least ≤ fold 
 most_grows f least [] = omega arith
 most_grows f least (x ∷ xs) = let more = most_grows f (max least (f x)) xs in omega (arith, more)
 
-at_most_the_most : (f : ℕ → ℕ) (least : ℕ) (xs : List ℕ) (k x : ℕ) → k < length xs → get_or xs k x ≡ x → f x ≤ fold (λ most x. max most (f x)) least xs
+pub at_most_the_most : (f : ℕ → ℕ) (least : ℕ) (xs : List ℕ) (k x : ℕ) → k < length xs → get_or xs k x ≡ x → f x ≤ fold (λ most x. max most (f x)) least xs
 at_most_the_most f least [] k x below here = absurd (omega (arith, below))
 at_most_the_most f least (y ∷ ys) zero x below here =
     let same : f y ≡ f x = ap f here in

@@ -25,6 +25,7 @@ pub mod TieOrder
 pub mod Rooms
 pub mod Spendings
 pub mod FairRows
+pub mod FairWords
 pub mod Changed
 pub mod ChoicesWon
 pub mod Copies

@@ -11,7 +11,8 @@ use Rattle.pb_rounds.specs.Cheapest.{IsRun}
 use Rattle.pb_rounds.specs.Completed.{After, AreSpent, GoesOn, IsCompleted, IsExhausted}
 use Rattle.pb_rounds.specs.Count.{add1_of, opening_share, spent_on}
 use Rattle.pb_rounds.specs.CountFault.{most_raises}
-use Rattle.pb_rounds.specs.Counted.{CountsTo, IsCountOf}
+use Rattle.pb_rounds.specs.Counted.{IsCountOf}
+use Rattle.pb_rounds.specs.Inner.Counted.{CountsTo}
 use Rattle.pb_rounds.specs.Outcome.{OutcomeView}
 use Rattle.pb_rounds.specs.Run.{ElectedView}
 use Rattle.pb_rounds.specs.declared.count_fault.CountFault.{CountFault}

@@ -15,7 +15,8 @@ use Rattle.pb_rounds.specs.declared.rule.Rule.{Rule}
 use Rattle.pb_rounds.specs.Run.{ElectedView}
 use Rattle.pb_rounds.specs.declared.rule.FillUp.{FillUp}
 use Rattle.pb_rounds.specs.declared.rule.FillUp.TheVariants.{Nothing, MostVotes}
-use Rattle.pb_reasons.specs.Counted.{CountedView, IsCountBy, IsCounted, counted}
+use Rattle.pb_reasons.specs.Counted.{CountedView, IsCountBy, counted}
+use Rattle.pb_reasons.specs.Inner.Counts.{IsCounted}
 use Rattle.pb_reasons.specs.CountedElection.{CountedElectionView, IsCountedElection}
 use Rattle.pb_reasons.specs.Reasons.{ending_of, project_reason, round_of}
 use Rattle.pb_reasons.specs.Inner.Numbers.{AreNumbers}

@@ -19,7 +19,8 @@ use Rattle.pb_rounds.specs.Run.{ElectedView, is_elected}
 use Rattle.pb_rounds.specs.declared.measure.Measure.{Measure}
 use Rattle.pb_rounds.specs.declared.measure.Measure.TheVariants.{Votes, Cost}
 use Rattle.pb_rounds.specs.declared.options.CountOptions.{CountOptions}
-use Rattle.pb_reasons.specs.Ties.{is_as_good, is_tied, ties_in, ties_of}
+use Rattle.pb_reasons.specs.Inner.Rounds.{is_as_good}
+use Rattle.pb_reasons.specs.Ties.{is_tied, ties_in, ties_of}
 use Rattle.pb_reasons.specs.declared.tie.Tie.{Tie}
 
 others_from : (elected : List ElectedView) (place : ℕ) → is_elected elected place ≡ false → All (λ w. w.place ≢ place) elected
@@ -35,7 +36,9 @@ earlier number other place other_place (inr more) same = more.1
 
 as_good_is_later : (m : Measure) (s : SupportView) (w : ElectedView) (place price : ℕ) → IsCheaper m s w.place w.price place price
     → is_as_good m s w place price ≡ true → w.place < place
-as_good_is_later Votes s w place price cheaper good = earlier w.price price w.place place cheaper (sym (eqb-true price w.price good))
+as_good_is_later Votes s w place price cheaper good =
+    let same : price * 1 ≡ w.price * 1 = eqb-true (price * 1) (w.price * 1) good in
+    earlier w.price price w.place place cheaper (omega (arith, same))
 as_good_is_later Cost s w place price cheaper good =
     earlier (w.price * cost_at s place) (price * cost_at s w.place) w.place place cheaper (sym (eqb-true (price * cost_at s w.place) (w.price * cost_at s place) good))
 

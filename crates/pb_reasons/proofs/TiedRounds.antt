@@ -1,5 +1,5 @@
 -- The ties of a round, project by project.
-use Rattle.std.proofs.Common.{◌≡◌, ℕ, zero, suc, ◌<◌, ◌≤◌, Bool, true, false, cond, List, [], ◌∷◌, ◌++◌, length, set, take, map, Option, Some, None, refl, sym, ◌∙◌, ap, inl, inr, arith}
+use Rattle.std.proofs.Common.{◌≡◌, ℕ, zero, suc, ◌*◌, ◌<◌, ◌≤◌, Bool, true, false, cond, List, [], ◌∷◌, ◌++◌, length, set, take, map, Option, Some, None, refl, sym, ◌∙◌, ap, inl, inr, arith}
 use Rattle.std.specs.Prelude.{◌==◌, filter, nat_le, not}
 use Rattle.std.specs.Option.{option_map_or}
 use Rattle.std.proofs.lemmas.Bool.{cases_Bool, cases_eq, leb-false, ne_eqb, false≢true, and_right}
@@ -15,14 +15,17 @@ use Rattle.pb_price.proofs.RestsFall.{no_price_falls, no_price_stays}
 use Rattle.pb_rounds.specs.Run.{ElectedView, is_elected}
 use Rattle.pb_rounds.specs.declared.measure.Measure.{Measure}
 use Rattle.pb_rounds.specs.declared.measure.Measure.TheVariants.{Votes, Cost}
-use Rattle.pb_reasons.specs.Inner.Rounds.{AreOpeningBounds, AreTieBounds, IsTieBound, scaled, target, ties_among}
-use Rattle.pb_reasons.specs.Ties.{is_as_good, is_tied}
+use Rattle.pb_reasons.specs.Inner.Rounds.{AreOpeningBounds, AreTieBounds, IsTieBound, is_as_good, scaled, target, ties_among}
+use Rattle.pb_reasons.specs.Ties.{is_tied}
 use Rattle.pb_reasons.specs.declared.tie.Tie.{Tie}
 
 -- ---- one project
 
+once : (n : ℕ) → n * 1 ≡ n
+once n = omega arith
+
 good_is_target : (m : Measure) (s : SupportView) (w : ElectedView) (place price : ℕ) → is_as_good m s w place price ≡ (scaled m s w price == target m s w place)
-good_is_target Votes s w place price = refl
+good_is_target Votes s w place price = rw (once price, once w.price) refl
 good_is_target Cost s w place price = refl
 
 -- a higher price counts for more

@@ -1,6 +1,7 @@
 -- Words that only private contracts and the invariants of private fields speak of: nobody has to believe
 -- them.
 pub mod Comparing
+pub mod Counts
 pub mod Kept
 pub mod Losers
 pub mod Numbers

@@ -31,14 +31,12 @@ paid_for e o place voter = slice_index (slice_index_or (all_payments e o) (round
 
 -- how a project ended: elected, added, or neither
 abbrev pub ending_of : ElectionView → CountedView → ℕ → Option ElectedView → Ending
-ending_of e c place (Some w) =
-    let supporters = supporters_at (support_of e) place in
-    Won (record {
-      round = round_of c.outcome.elected place + 1;
-      price = w.price;
-      collected = w.collected;
-      in_full = count_by (λ voter. paid_for e c.outcome place voter == w.price) supporters;
-    })
+ending_of e c place (Some w) = Won (record {
+  round = round_of c.outcome.elected place + 1;
+  price = w.price;
+  collected = w.collected;
+  in_full = count_by (λ voter. paid_for e c.outcome place voter == w.price) (supporters_at (support_of e) place);
+})
 ending_of e c place None =
     let left = total_rest (supporters_at (support_of e) place) c.outcome.rests in
     if is_taken c.added place then Added (record { number = position_or_len (λ p. p == place) c.added + 1 })

@@ -5,24 +5,18 @@ use Rattle.std.specs.List.{range_with_len}
 use Rattle.std.specs.Option.{option_map_or}
 use Rattle.pb_core.specs.Election.{ElectionView}
 use Rattle.pb_price.specs.Price.{price_at}
-use Rattle.pb_price.specs.Supporters.{SupportView, cost_at, support_of}
+use Rattle.pb_price.specs.Supporters.{SupportView, support_of}
 use Rattle.pb_rounds.specs.Cheapest.{rests_after}
 use Rattle.pb_rounds.specs.Outcome.{OutcomeView}
-use Rattle.pb_rounds.specs.Run.{ElectedView, is_elected}
+use Rattle.pb_rounds.specs.Run.{ElectedView, is_elected, weight_of}
 use Rattle.pb_rounds.specs.declared.measure.Measure.{Measure}
-use Rattle.pb_rounds.specs.declared.measure.Measure.TheVariants.{Votes, Cost}
 use Rattle.pb_reasons.specs.declared.tie.Tie.{Tie}
 
--- this price of the project at this place is as good as the winner's: the same, or under measure cost the
--- same for its cost, compared by cross products
-abbrev pub is_as_good : Measure → SupportView → (winner : ElectedView) → (place price : ℕ) → Bool
-is_as_good Votes s winner place price = price == winner.price
-is_as_good Cost s winner place price = price * cost_at s winner.place == winner.price * cost_at s place
-
--- the project at this place is not elected, and has a price at these rests that is as good as the winner's
+-- the project at this place is not elected, and has a price at these rests that is as good as the winner's: the
+-- same, or under measure cost the same for its cost, compared by cross products
 abbrev pub is_tied : Measure → SupportView → (elected : List ElectedView) (rests : List ℕ) (winner : ElectedView) → ℕ → Bool
-is_tied m s elected rests winner place =
-    not (is_elected elected place) && option_map_or (is_as_good m s winner place) (price_at s rests place) false
+is_tied m s elected rests winner place = not (is_elected elected place) && option_map_or
+    (λ price. price * weight_of m s winner.place == winner.price * weight_of m s place) (price_at s rests place) false
 
 -- the ties of a round, from 0, in the order of the file; its rests are those after the rounds before it
 abbrev pub ties_in : Measure → SupportView → (share : ℕ) (elected : List ElectedView) → (round : ℕ) → List Tie

@@ -8,7 +8,7 @@ use Rattle.pb_reasons.specs.declared.totals.Totals.{Totals}
 
 -- what the elected and the added cost together, and what was paid beyond the costs of the elected
 abbrev pub totals_of : ElectionView → CountedView → Totals
-totals_of e c =
-    let elected = spent_on (support_of e) c.outcome.elected in
-    let added = sum_by (cost_at (support_of e)) c.added in
-    record { spent = elected + added; surplus = sum_by (λ w. w.collected) c.outcome.elected - elected }
+totals_of e c = let spent = spent_on (support_of e) c.outcome.elected in record {
+  spent = spent + sum_by (cost_at (support_of e)) c.added;
+  surplus = sum_by (λ w. w.collected) c.outcome.elected - spent;
+}

@@ -2,7 +2,8 @@
 
 ghost use Rattle.std.specs.Prelude.{◌≡◌, ◌-◌, ◌<◌, ◌≤◌, ◌^◌, IfOk, map};
 ghost use Rattle.pb_price.specs.Supporters.{support_of};
-ghost use Rattle.pb_reasons.specs.Counted.{added_to, counted, winners_of};
+ghost use Rattle.pb_reasons.specs.Counted.{counted, winners_of};
+ghost use Rattle.pb_reasons.specs.Inner.Counts.{added_to};
 ghost use Rattle.pb_reasons.specs.Inner.OfOutcome.{IsOutcome};
 ghost use Rattle.pb_rounds.specs.Counted.{IsCountOf};
 ghost use Rattle.pb_rounds.specs.declared.options.CountOptions.{CountOptions};

@@ -1,7 +1,7 @@
 //! What is kept of a count, to answer from.
 
 ghost use Rattle.std.specs.Prelude.{◌≡◌, ◌<◌, IfOk, false, length, slice_index_or};
-ghost use Rattle.pb_reasons.specs.Counted.{IsCounted};
+ghost use Rattle.pb_reasons.specs.Inner.Counts.{IsCounted};
 ghost use Rattle.pb_reasons.specs.Inner.Kept.{IsKept};
 ghost use Rattle.pb_reasons.specs.Inner.OfOutcome.{ending_as};
 ghost use Rattle.pb_reasons.specs.Inner.Told.{CanBeTold};

@@ -2,10 +2,10 @@
 
 ghost use Rattle.std.specs.Prelude.{◌≡◌, ◌++◌, ◌∷◌, [], ◌<◌, ◌≤◌, All, OnOk, Some, length, nat_le, take};
 ghost use Rattle.pb_price.specs.Price.{AreRests};
-ghost use Rattle.pb_reasons.specs.Inner.Rounds.{AreTieBounds, IsTieBound, scaled, target, ties_among};
+ghost use Rattle.pb_reasons.specs.Inner.Rounds.{AreTieBounds, IsTieBound, is_as_good, scaled, target, ties_among};
 ghost use Rattle.pb_reasons.specs.Inner.Rounds.{ties_with};
 ghost use Rattle.pb_reasons.specs.Inner.TieQueue.{AreQueued, limit_of};
-ghost use Rattle.pb_reasons.specs.Ties.{is_as_good, is_tied};
+ghost use Rattle.pb_reasons.specs.Ties.{is_tied};
 ghost use Rattle.pb_rounds.specs.Run.{weight_of};
 
 use crate::tie::Tie;

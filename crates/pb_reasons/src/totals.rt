@@ -4,7 +4,7 @@ ghost use Rattle.std.specs.Prelude.{◌≡◌, ◌<◌, ◌^◌, All, length, su
 ghost use Rattle.pb_core.specs.Election.{IsElection};
 ghost use Rattle.pb_price.specs.Supporters.{cost_at, support_of};
 ghost use Rattle.pb_rounds.specs.Count.{spent_on};
-ghost use Rattle.pb_reasons.specs.Counted.{IsCounted};
+ghost use Rattle.pb_reasons.specs.Inner.Counts.{IsCounted};
 ghost use Rattle.pb_reasons.specs.Inner.OfOutcome.{collected_for, IsOutcome, outcome_totals};
 ghost use Rattle.pb_reasons.specs.Totals.{totals_of};
 

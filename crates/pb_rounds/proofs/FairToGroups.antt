@@ -1,6 +1,7 @@
 -- Every outcome is fair to groups.
 use Rattle.std.proofs.Common.{◌≡◌, ◌≢◌, ℕ, suc, ◌+◌, ◌*◌, ◌<◌, ◌≤◌, min, List, [], ◌∷◌, ◌++◌, length, Bool, true, false, cond, Option, Some, None, refl, sym, subst, ◌∙◌, ap, inl, inr, arith}
-use Rattle.std.specs.Prelude.{All, Any, ◌⊎◌, filter, nat_le, replicate, slice_index, sum_by, zip, if◌then◌else◌}
+use Rattle.std.specs.List.{list_any}
+use Rattle.std.specs.Prelude.{All, Any, ◌==◌, ◌⊎◌, filter, nat_le, replicate, slice_index, sum_by, zip, if◌then◌else◌}
 use Rattle.std.proofs.Math.Nat.{mul-le-mul_right}
 use Rattle.std.proofs.lemmas.Bool.{cases_lt, le-leb, leb-true, cond-true}
 use Rattle.std.proofs.lemmas.List.{get_or-replicate, length-replicate}
@@ -14,12 +15,16 @@ use Rattle.pb_price.proofs.SupporterLists.{known_voters, support_form}
 use Rattle.pb_rounds.specs.declared.measure.Measure.{Measure}
 use Rattle.pb_rounds.specs.declared.measure.Measure.TheVariants.{Votes, Cost}
 use Rattle.pb_rounds.specs.Cheapest.{IsCheaper, IsLeft, IsRun, rests_after}
-use Rattle.pb_rounds.specs.Fairness.{paid_within, supported_by, IsFairToGroups, GroupsHaveWinners}
+use Rattle.pb_rounds.specs.Fairness.{paid_within, IsFairToGroups, GroupsHaveWinners}
 use Rattle.pb_rounds.specs.Inner.Listed.{is_listed}
 use Rattle.pb_rounds.specs.Payments.{paid_in_turn, payments_of}
 use Rattle.pb_rounds.specs.Run.{ElectedView, charged, payment_of, weight_of}
 use Rattle.pb_rounds.proofs.Charged.{charged_at, payment_at, payment-within_price}
 use Rattle.pb_rounds.proofs.Explained.{paid_in_turn-cons}
+
+-- the elected projects that a voter supports
+abbrev supported_by : SupportView → (voter : ℕ) → List ElectedView → List ElectedView
+supported_by s voter elected = filter (λ w. list_any (λ v. v == voter) (supporters_at s w.place)) elected
 
 -- some number is above the limit, or none is
 some_or_none : (f : ℕ → ℕ) (limit : ℕ) (xs : List ℕ) → Any (λ x. limit < f x) xs ⊎ All (λ x. f x ≤ limit) xs

@@ -37,3 +37,4 @@ pub mod Filled
 pub mod InOrder
 pub mod PassedOver
 pub mod VotesOrder
+pub mod InWords

@@ -1,5 +1,5 @@
 -- What a count promises: of its outcome, and of each refusal.
-use Rattle.std.specs.Prelude.{◌≡◌, ℕ, ◌+◌, ◌*◌, ◌≤◌, List, None, Some, Result, MatchResult}
+use Rattle.std.specs.Prelude.{◌≡◌, ℕ, ◌+◌, ◌*◌, ◌≤◌, List, None, Some}
 use Rattle.pb_core.specs.Election.{ElectionView}
 use Rattle.pb_price.specs.Supporters.{support_of}
 use Rattle.pb_rounds.specs.Cheapest.{IsRun}
@@ -38,7 +38,3 @@ IsCountFault e options RaisesSpent =
     × AreSpent options.measure e options.step options.max_raises
 IsCountFault e options NoMemory = refusal_of options ≡ None
 IsCountFault e options fault = refusal_of options ≡ Some fault
-
--- what a count comes to: an outcome, or a fault
-abbrev pub CountsTo : ElectionView → CountOptions → Result OutcomeView CountFault → Type 0
-CountsTo e options result = MatchResult result (IsCountOf e options) (IsCountFault e options)

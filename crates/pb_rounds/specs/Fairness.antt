@@ -28,14 +28,10 @@ abbrev pub IsFairToGroups : Measure → SupportView → (share : ℕ) → List E
 IsFairToGroups m s share elected = OfSomeMember s elected
     (λ place amount voter. share < paid_within m s share elected place amount voter + amount)
 
--- the elected projects that a voter supports
-abbrev pub supported_by : SupportView → (voter : ℕ) → List ElectedView → List ElectedView
-supported_by s voter elected = filter (λ w. list_any (λ v. v == voter) (supporters_at s w.place)) elected
-
 -- So in each group some member supports so many elected projects that, at the amount for each, they and one
 -- more would take more than the share; under measure cost, so costly ones that, at the amount for as much
 -- cost as the project's, they and the project would.
 abbrev pub GroupsHaveWinners : Measure → SupportView → (share : ℕ) → List ElectedView → Type 0
 GroupsHaveWinners m s share elected = OfSomeMember s elected (λ place amount voter.
-    share * weight_of m s place
-    < amount * (sum_by (λ w. weight_of m s w.place) (supported_by s voter elected) + weight_of m s place))
+    let supported = filter (λ w. list_any (λ v. v == voter) (supporters_at s w.place)) elected in
+    share * weight_of m s place < amount * (sum_by (λ w. weight_of m s w.place) supported + weight_of m s place))

@@ -3,6 +3,7 @@
 pub mod Between
 pub mod Bounds
 pub mod Count
+pub mod Counted
 pub mod Front
 pub mod Key
 pub mod KeyOrder

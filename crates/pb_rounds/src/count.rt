@@ -1,7 +1,7 @@
 //! Counts of elections, plain or completed by raises.
 
 ghost use Rattle.std.specs.Prelude.{◌≡◌, ◌+◌, ◌≤◌, ℕ, List, None, IfOk, IfErr, MatchBool};
-ghost use Rattle.std.specs.Prelude.{IsOkUnless, length};
+ghost use Rattle.std.specs.Prelude.{IsOkUnless, MatchResult, length};
 ghost use Rattle.pb_core.specs.Election.{IsElection};
 ghost use Rattle.pb_core.specs.Money.{largest_money};
 ghost use Rattle.pb_price.specs.Price.{largest_share};
@@ -11,7 +11,7 @@ ghost use Rattle.pb_rounds.specs.Cheapest.{IsRun};
 ghost use Rattle.pb_rounds.specs.Count.{opening_share, share_after};
 ghost use Rattle.pb_rounds.specs.Inner.Count.{IsCompletionFault};
 ghost use Rattle.pb_rounds.specs.CountFault.{refusal_of};
-ghost use Rattle.pb_rounds.specs.Counted.{CountsTo, IsCountFault, IsCountOf};
+ghost use Rattle.pb_rounds.specs.Counted.{IsCountFault, IsCountOf};
 ghost use Rattle.pb_rounds.specs.PriceSystem.{IsPriceSystem};
 ghost use Rattle.pb_rounds.specs.PricingRecord.{HasPricing};
 ghost use Rattle.pb_rounds.specs.Inner.RaiseEnds.{CanComplete, IsCompletion, IsOutcomeAt};
@@ -125,7 +125,7 @@ pub fn count<R: Threads + Sync, A: Allocator + Send + Sync, B: Allocator>(
 ) -> Result<Outcome<A>, CountFault>
 where
     A: Copy,
-    ensures { CountsTo election.now options.now result }
+    ensures { MatchResult result (IsCountOf election.now options.now) (IsCountFault election.now options.now) }
 {
     count_watched(rt, alloc, election, options, &NoGate)
 }
@@ -140,7 +140,7 @@ pub fn count_watched<R: Threads + Sync, G: Gate, A: Allocator + Send + Sync, B: 
 ) -> Result<Outcome<A>, CountFault>
 where
     A: Copy,
-    ensures { CountsTo election.now options.now result }
+    ensures { MatchResult result (IsCountOf election.now options.now) (IsCountFault election.now options.now) }
 {
     if let Some(fault) = refusal_of(options) {
         return Err(fault);

@@ -27,7 +27,8 @@ use Rattle.pb_faults.specs.Fault.{line, told}
 use Rattle.pb_faults.specs.declared.fault.AppFault.{AppFault}
 use Rattle.pb_faults.specs.declared.fault.AppFault.TheVariants.{Script}
 use Rattle.pb_script.specs.declared.script_fault.ScriptFault.TheVariants.{ReadFailed}
-use Rattle.pb_serving.specs.Answered.{answers_from, Answers, Becomes, Halts, IsBehind}
+use Rattle.pb_serving.specs.Answered.{answers_from, Answers, Halts, IsBehind}
+use Rattle.pb_serving.specs.Inner.Batch.{Becomes}
 use Rattle.pb_serving.specs.Inner.Batch.{IsRowAsking}
 
 abbrev pub Outcome : Type 0

@@ -12,7 +12,8 @@ use Rattle.pb_rows.specs.Reading.{Fields}
 use Rattle.pb_script.specs.RowsView.{HasGiven, RowsView}
 use Rattle.pb_script.specs.declared.admission.Admission.{Admission}
 use Rattle.pb_script.specs.Inner.ScriptReading.{HaveGone}
-use Rattle.pb_serving.specs.Answered.{Becomes, Halts, IsBehind}
+use Rattle.pb_serving.specs.Answered.{Halts, IsBehind}
+use Rattle.pb_serving.specs.Inner.Batch.{Becomes}
 use Rattle.pb_serving.specs.Inner.Batch.{refused, EndsBy, IsRowAsking}
 use Rattle.pb_serving.specs.declared.batch.BatchEnd.{BatchEnd}
 use Rattle.pb_serving.specs.declared.batch.BatchEnd.TheVariants.{More, Refused, Over, ReadFailed, NoMemory}

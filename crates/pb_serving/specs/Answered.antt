@@ -2,7 +2,7 @@
 use Rattle.std.specs.Prelude.{◌≡◌, ◌⊎◌, ◌<◌, ◌≤◌, ℕ, suc, ◌+◌, ◌-◌, ◌^◌, ◌++◌, ◌==◌, min, List, [], ◌∷◌}
 use Rattle.std.specs.Prelude.{IfSome, Result, Ok, Err, codes, decimal, filter_map, length, if◌then◌else◌}
 use Rattle.std.specs.List.{AllZip}
-use Rattle.std.specs.Result.{result_ok}
+use Rattle.std.specs.Result.{result_map_both, result_ok}
 use Rattle.pb_core.specs.Request.{EntryView}
 use Rattle.pb_desk.specs.Desk.{DeskView}
 use Rattle.pb_desk.specs.Replay.{most_clerks}
@@ -28,11 +28,6 @@ abbrev pub heading : ℕ → DeskView → List ℕ
 heading torn d =
     (if torn == 0 then [] else text_of_row (codes "torn" ∷ decimal torn ∷ [])) ++ text_of_row (entries_row d)
 
--- a row is admitted, and asks what this entry has; or it is refused for this
-abbrev pub Becomes : Admission → Fields → Result EntryView RowRefusal → Type 0
-Becomes a row (Ok x) = Judges a most_clerks row (Ok (record { clerk = x.clerk; request = x.request }))
-Becomes a row (Err why) = Judges a most_clerks row (Err why)
-
 -- what is said to the rows that became these, where the next entry and the next row have these numbers
 abbrev pub answers_from : ℕ → ℕ → List (Result EntryView RowRefusal) → List ℕ
 answers_from entry row [] = []
@@ -40,9 +35,12 @@ answers_from entry row (Err why ∷ more) =
     line (told (Script (fault_of_row why row))).1 ++ answers_from entry (suc row) more
 answers_from entry row (Ok x ∷ more) = text_of_row (row_of entry x) ++ answers_from (suc entry) (suc row) more
 
--- these rows of the input were answered by this text, and their entries came to the journal
+-- these rows of the input were answered by this text, and their entries came to the journal: each row is
+-- admitted, and asks what its entry has; or it is refused for this
 abbrev pub Answers : Admission → List Fields → List EntryView → List EntryView → List ℕ → Type 0
-Answers a rows before after text = (became : List (Result EntryView RowRefusal)) × AllZip (Becomes a) rows became
+Answers a rows before after text = (became : List (Result EntryView RowRefusal))
+    × AllZip (λ row x. Judges a most_clerks row
+    (result_map_both (λ (x : EntryView). record { clerk = x.clerk; request = x.request }) (λ why. why) x)) rows became
     × (after ≡ before ++ filter_map result_ok became) × (text ≡ answers_from (length before + 1) 1 became)
 
 -- the file stands for a journal that begins with the first of these journals, and is a first part of the

@@ -1,10 +1,10 @@
 -- Parts of what is asked of an election, and of its file's rows; private contracts speak of them.
-use Rattle.std.specs.Prelude.{◌==◌, ◌||◌, ℕ, Bool, true, false, List, [], ◌∷◌, Option, codes, decimal, filter}
+use Rattle.std.specs.Prelude.{◌==◌, ◌||◌, ℕ, Bool, true, false, List, [], ◌∷◌, ◌++◌, Option, codes, decimal, filter}
 use Rattle.std.specs.Prelude.{if◌then◌else◌, is_some, map, nat_le, slice_index, slice_index_or}
 use Rattle.std.specs.List.{enumerate_from, join_with_byte, list_any}
 use Rattle.std.specs.Option.{option_map_or, option_to_list}
 use Rattle.std.specs.Str.{bytes_eq, trim}
-use Rattle.pb_core.specs.Election.{ProjectView, VoterView, most_projects}
+use Rattle.pb_core.specs.Election.{ElectionView, ProjectView, VoterView, most_projects, project_ids, voter_ids}
 use Rattle.pb_core.specs.declared.terms.Terms.{Terms}
 use Rattle.pb_export.specs.FileRows.{amount_text, may_follow}
 use Rattle.pb_read.specs.MetaKeys.{key_of, key_text}
@@ -15,6 +15,16 @@ use Rattle.pb_rows.specs.Reading.{Fields}
 -- a further key: its name, and its value
 abbrev pub KeyView : Type 0
 KeyView = List ℕ × List ℕ
+
+-- the id of a project or a voter would be read as a section's head
+abbrev pub has_section_word : ElectionView → Bool
+has_section_word e = list_any (λ id. is_some (head_of (id ∷ []))) (project_ids e ++ voter_ids e)
+
+-- a ballot approves a project whose id has a comma
+abbrev pub has_comma_in_vote : ElectionView → Bool
+has_comma_in_vote e =
+    list_any (λ v. list_any (λ place. list_any (λ b. b == 44) (slice_index_or (project_ids e) place [])) v.ballot)
+    e.voters
 
 -- an id has a comma
 abbrev pub has_comma : List ℕ → Bool

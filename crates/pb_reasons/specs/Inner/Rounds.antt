@@ -1,14 +1,18 @@
 -- How the ties of a round are looked for, with a lower bound of each price; private contracts speak of it.
-use Rattle.std.specs.Prelude.{◌≡◌, ℕ, ◌*◌, ◌<◌, ◌≤◌, false, List, Option, Some, None, filter}
+use Rattle.std.specs.Prelude.{◌≡◌, ℕ, ◌*◌, ◌<◌, ◌≤◌, ◌==◌, Bool, false, List, Option, Some, None, filter}
 use Rattle.std.specs.Prelude.{if◌then◌else◌, length, map, slice_index_or}
 use Rattle.std.specs.List.{range_with_len}
 use Rattle.pb_price.specs.Price.{price_at}
 use Rattle.pb_price.specs.Supporters.{SupportView, cost_at}
-use Rattle.pb_rounds.specs.Run.{ElectedView, is_elected}
+use Rattle.pb_rounds.specs.Run.{ElectedView, is_elected, weight_of}
 use Rattle.pb_rounds.specs.declared.measure.Measure.{Measure}
 use Rattle.pb_rounds.specs.declared.measure.Measure.TheVariants.{Votes, Cost}
 use Rattle.pb_reasons.specs.Ties.{is_tied}
 use Rattle.pb_reasons.specs.declared.tie.Tie.{Tie}
+
+-- this price of the project at this place is as good as the winner's
+abbrev pub is_as_good : Measure → SupportView → (winner : ElectedView) → (place price : ℕ) → Bool
+is_as_good m s winner place price = price * weight_of m s winner.place == winner.price * weight_of m s place
 
 -- the two numbers that are compared: what a price counts for, and what it has to count for to be as good as
 -- the winner's

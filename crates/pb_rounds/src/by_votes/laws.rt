@@ -1,10 +1,23 @@
 //! Laws over most votes first, each as the contract of a function that does nothing.
 
-ghost use Rattle.std.specs.Prelude.{◌≡◌, ◌≢◌, ◌↔◌, ◌<◌, ◌≤◌, ◌++◌, ℕ, List, All, AllPairs, false, sum_by};
+ghost use Rattle.std.specs.Prelude.{◌≡◌, ◌≢◌, ◌⊎◌, ◌↔◌, ◌<◌, ◌≤◌, ◌++◌, ℕ, List, All, AllPairs, Contains, false, sum_by};
+ghost use Rattle.std.specs.Prelude.{true};
 ghost use Rattle.pb_core.specs.Election.{ElectionView, IsElection};
-ghost use Rattle.pb_price.specs.Supporters.{cost_at, support_of};
-ghost use Rattle.pb_rounds.specs.MostVotes.{IsMostVotesFirst, fits, is_taken, left_after, most_votes_first};
-ghost use Rattle.pb_rounds.specs.MostVotes.{votes_at};
+ghost use Rattle.pb_price.specs.Supporters.{SupportView, cost_at, support_of};
+ghost use Rattle.pb_rounds.specs.MostVotes.{IsMostVotesFirst, comes_first, fits, is_taken, left_after};
+ghost use Rattle.pb_rounds.specs.MostVotes.{most_votes_first, votes_at};
+
+/// What the tests of the rule say. A project fits if it has a supporter, is not taken, and costs no more than is
+/// left. One comes first with more votes, or with as many and a lower cost, or with these too and an earlier
+/// place in the file.
+pub fn tests_of_most_votes_are_their_words()
+    ensures taken { (taken : List ℕ) (place : ℕ) → (is_taken taken place ≡ true) ↔ Contains taken place }
+    ensures fits { (s : SupportView) (taken : List ℕ) (left place : ℕ) → (fits s taken left place ≡ true)
+        ↔ ((0 < votes_at s place) × (¬ Contains taken place) × (cost_at s place ≤ left)) }
+    ensures first { (s : SupportView) (place other : ℕ) → (comes_first s place other ≡ true)
+        ↔ ((votes_at s other < votes_at s place) ⊎ ((votes_at s other ≡ votes_at s place)
+        × ((cost_at s place < cost_at s other) ⊎ ((cost_at s place ≡ cost_at s other) × (place < other))))) }
+{}
 
 /// Most votes first adds the one list of projects of which the words of its rule hold.
 pub fn most_votes_first_is_its_rule()

@@ -1,11 +1,13 @@
 -- The rows of the input that are served together.
 use Rattle.std.specs.Prelude.{◌≡◌, ℕ, true, List, Option, None, Result, Ok, Err, [], ◌∷◌, ◌++◌}
 use Rattle.std.specs.List.{AllZip}
-use Rattle.pb_core.specs.Request.{asked}
+use Rattle.std.specs.Result.{result_map_both}
+use Rattle.pb_core.specs.Request.{EntryView, asked}
 use Rattle.pb_desk.specs.Replay.{most_clerks}
 use Rattle.pb_rows.specs.Reading.{Fields, IsNext}
 use Rattle.pb_script.specs.Admission.{Judges}
 use Rattle.pb_script.specs.declared.admission.Admission.{Admission}
+use Rattle.pb_script.specs.declared.admission.RowRefusal.{RowRefusal}
 use Rattle.pb_script.specs.Inner.ScriptReading.{HaveGone, NoneLeft}
 use Rattle.pb_script.specs.RowsView.{HasFailed, HasGiven, RowsView}
 use Rattle.pb_durable.specs.declared.clerk_request.ClerkRequest.{ClerkRequest}
@@ -16,6 +18,11 @@ use Rattle.pb_serving.specs.declared.batch.BatchEnd.TheVariants.{More, Refused, 
 abbrev pub refused : BatchEnd → ℕ
 refused (Refused why) = 1
 refused end = 0
+
+-- the row asks what this entry has, or is refused for this
+abbrev pub Becomes : Admission → Fields → Result EntryView RowRefusal → Type 0
+Becomes a row x = Judges a most_clerks row
+    (result_map_both (λ (x : EntryView). record { clerk = x.clerk; request = x.request }) (λ why. why) x)
 
 -- the row asks this
 abbrev pub IsRowAsking : Admission → Fields → ClerkRequest → Type 0

@@ -1,21 +1,29 @@
-use Rattle.std.proofs.Common.{◌≡◌, ◌++◌, ℕ, List, true, false, true≢false, ap, ◌∙◌, refl, subst, sym}
+use Rattle.std.proofs.Common.{◌≡◌, ◌++◌, ℕ, List, None, Some, true, false, ap, ◌∙◌, refl, subst, sym}
 use Rattle.pb_core.specs.Election.{ElectionView}
 use Rattle.pb_read.specs.StandsFor.{StandsFor}
 use Rattle.pb_rows.specs.Reading.{records_of}
 use Rattle.pb_rows.specs.Writing.{text_of_rows}
-use Rattle.pb_export.specs.Export.{has_comma_in_vote, has_section_word, is_of_file, CanBeWritten}
+use Rattle.pb_export.specs.Export.{export_refusal, is_of_file}
+use Rattle.pb_export.specs.Inner.Parts.{has_comma_in_vote, has_section_word}
 use Rattle.pb_export.specs.FileRows.{file_rows}
-use Rattle.pb_export.specs.declared.export_fault.ExportFault.TheVariants.{SectionWord, CommaInId, OfNoFile, NoMemory}
+use Rattle.pb_export.specs.declared.export_fault.ExportFault.TheVariants.{SectionWord, CommaInId, OfNoFile}
 use Rattle.pb_export.proofs.OfFile.{tested_file}
 use Rattle.pb_export.proofs.Stands.{stands}
 use Rattle.pb_export.proofs.write_pb.write_pb.Goals as goal
 
--- nothing refuses an election that has passed all three tests
-can_be : (e : ElectionView) → has_section_word e ≡ false → has_comma_in_vote e ≡ false → is_of_file e ≡ true → CanBeWritten e
-can_be e words commas of_file SectionWord is = absurd (true≢false (sym is ∙ words))
-can_be e words commas of_file CommaInId is = absurd (true≢false (sym is.1 ∙ commas))
-can_be e words commas of_file OfNoFile is = absurd (true≢false (sym of_file ∙ is.2))
-can_be e words commas of_file NoMemory is = refl
+-- what refuses an election, by the three tests
+has_word : (e : ElectionView) → has_section_word e ≡ true → export_refusal e ≡ Some SectionWord
+has_word e words = rw words refl
+
+has_comma : (e : ElectionView) → has_section_word e ≡ false → has_comma_in_vote e ≡ true → export_refusal e ≡ Some CommaInId
+has_comma e words commas = rw (words, commas) refl
+
+of_none : (e : ElectionView) → has_section_word e ≡ false → has_comma_in_vote e ≡ false → is_of_file e ≡ false → export_refusal e ≡ Some OfNoFile
+of_none e words commas of_file = rw (words, commas, of_file) refl
+
+-- nothing refuses an election that has passed all three
+can_be : (e : ElectionView) → has_section_word e ≡ false → has_comma_in_vote e ≡ false → is_of_file e ≡ true → export_refusal e ≡ None
+can_be e words commas of_file = rw (words, commas, of_file) refl
 
 pub returns-in-Ok-finish-clause-ok : goal.returns-in-Ok-finish-clause-ok
 returns-in-Ok-finish-clause-ok c =

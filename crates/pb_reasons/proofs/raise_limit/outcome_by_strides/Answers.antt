@@ -1,5 +1,5 @@
 use Rattle.std.proofs.Common.{◌≡◌, ◌-◌, ◌*◌, ◌^◌, ap, min, subst}
-use Rattle.pb_rounds.specs.Counted.{CountsTo}
+use Rattle.pb_rounds.specs.Inner.Counted.{CountsTo}
 use Rattle.pb_rounds.specs.declared.options.Completion.TheVariants.{Add1}
 use Rattle.pb_rounds.specs.declared.options.CountOptions.{CountOptions}
 use Rattle.pb_reasons.proofs.RaiseLimits.{strided_count}
