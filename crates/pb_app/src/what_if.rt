@@ -6,7 +6,6 @@ use pb_command_line::{OneChange, WhatIfRun, Whose};
 use pb_commands::{
     AppFault, Changes, WhatIfFault, election_of, losers_text, what_if_text, write_out,
 };
-use pb_core::election::Election;
 use pb_reasons::Change;
 use pb_streams::{End, RunRefusal};
 use pb_witness::warnings::Warnings;
@@ -32,45 +31,46 @@ pub(crate) fn what_if<'a, R: System, W: Write>(
                 Err(fault) => return Err(RunRefusal::from(AppFault::from(fault))),
             }
         }
-        Whose::Project(project, change) => {
-            about_one(run, asked, election, project.unwrap_or(""), change)?
+        Whose::Project(project, _) => {
+            let id = project.unwrap_or("");
+            match what_if_text(&run.counting, election, id, changes_of(asked)) {
+                Ok(text) => text,
+                Err(fault) => return Err(refusal(alloc, asked, id, fault)),
+            }
         }
     };
     Ok(write_out(writer, text.as_slice(), AppFault::Write)?)
 }
 
-/// The rows about the project with this id.
-fn about_one<'a, R: System>(
-    run: &CommandRun<'a, R>,
-    asked: &WhatIfRun<'a>,
-    election: Election,
-    project: &str,
-    change: Option<OneChange>,
-) -> Result<Vec<u8>, RunRefusal> {
-    let alloc = run.counting.alloc;
-    let changes = match change {
-        Some(OneChange::Cost(cost)) => Changes::One(Change::Cost, cost.0),
-        Some(OneChange::Voters(further)) => Changes::One(Change::Voters, u64::from(further)),
-        None => Changes::Searched,
-    };
-    match what_if_text(&run.counting, election, project, changes) {
-        Ok(text) => Ok(text),
-        Err(WhatIfFault::Count(fault)) => Err(RunRefusal::from(AppFault::from(fault))),
-        Err(WhatIfFault::NoProject) => {
-            let words = no_project_words(alloc, project, asked.ballots.file.path());
-            Err(RunRefusal::Told(End::Arguments, words))
+/// The changes that are asked about.
+fn changes_of(asked: &WhatIfRun<'_>) -> Changes {
+    match asked.whose {
+        Whose::Project(_, Some(OneChange::Cost(cost))) => Changes::One(Change::Cost, cost.0),
+        Whose::Project(_, Some(OneChange::Voters(further))) => {
+            Changes::One(Change::Voters, u64::from(further))
         }
-        Err(WhatIfFault::OutOfRange(most)) => {
-            let words = range_words(alloc, change, most);
-            Err(RunRefusal::Told(End::Arguments, words))
+        _ => Changes::Searched,
+    }
+}
+
+/// What refuses the rows about the project with this id.
+fn refusal(alloc: Global, asked: &WhatIfRun<'_>, id: &str, fault: WhatIfFault) -> RunRefusal {
+    match fault {
+        WhatIfFault::Count(fault) => RunRefusal::from(AppFault::from(fault)),
+        WhatIfFault::NoProject => {
+            let words = no_project_words(alloc, id, asked.ballots.file.path());
+            RunRefusal::Told(End::Arguments, words)
+        }
+        WhatIfFault::OutOfRange(most) => {
+            RunRefusal::Told(End::Arguments, range_words(alloc, asked, most))
         }
     }
 }
 
 /// Words for a change that is out of its range, whose largest value is this.
-fn range_words(alloc: Global, change: Option<OneChange>, most: u64) -> Said {
-    match change {
-        Some(OneChange::Voters(_)) => too_many_voters_words(alloc, most),
+fn range_words(alloc: Global, asked: &WhatIfRun<'_>, most: u64) -> Said {
+    match asked.whose {
+        Whose::Project(_, Some(OneChange::Voters(_))) => too_many_voters_words(alloc, most),
         _ => no_cost_words(alloc),
     }
 }

@@ -38,10 +38,11 @@ fn put_projects(out: &mut WordsWriter, ids: &str) {
         1 => " (project ",
         _ => " (projects ",
     };
-    let mut before = first;
+    let mut is_first = true;
     for id in ids.split(',').filter(|id| !id.trim().is_empty()) {
+        let before = if is_first { first } else { ", " };
         out.fill("{}{}", &[Own(before), Quoted(id.trim())]);
-        before = ", ";
+        is_first = false;
     }
     out.put(")")
 }

@@ -34,9 +34,14 @@ pub enum KeyFault {
 }
 
 impl KeyLine<'_> {
+    /// The place of the number at this index.
+    fn place(&self, index: u8) -> PlaceholderValue<'_> {
+        let name = self.numbers.get(usize::from(index)).copied().unwrap_or("");
+        Own(name)
+    }
+
     /// Puts the line and its key, what is wrong there, and what to do.
     pub fn put(&self, out: &mut WordsWriter, fault: KeyFault) {
-        let place = |index: u8| Own(self.numbers.get(usize::from(index)).copied().unwrap_or(""));
         let (form, value) = match fault {
             KeyFault::Repeated => (
                 ": an earlier line has the same key.\nDelete one of the two lines.\n",
@@ -57,11 +62,11 @@ impl KeyLine<'_> {
             KeyFault::LoneBrace => (": a `{` or a `}` has no partner.\n", Own("")),
             KeyFault::MissingPlace(index) => (
                 ": {{}} is missing.\nWrite it where the page should show this value.\n",
-                place(index),
+                self.place(index),
             ),
             KeyFault::RepeatedPlace(index) => (
                 ": {{}} is there more than once.\nWrite it only once.\n",
-                place(index),
+                self.place(index),
             ),
         };
         let line = Number(u64::from(self.number));

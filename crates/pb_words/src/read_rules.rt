@@ -62,6 +62,8 @@ pub(crate) fn amount_remedy(value: &str) -> &'static str {
         "Spreadsheets shorten numbers like this, and digits may be lost. Get the amount again, and write it with digits only, like `1200` or `1200.50`.\n"
     } else if has_cents(value) {
         "If the two digits behind the sign are decimals, write a point in place of it, like `1200.50`. If not, ask whoever made the file which amount is meant.\n"
+    } else if value.ends_with('%') {
+        "This is a part of another amount. Ask of which one, work it out, and write the result with digits only, like `1200` or `1200.50`.\n"
     } else if is_one_of(SHORT_WORDS, unit) {
         "If this stands for thousands or millions, write the amount in full, with digits only, like `1200` or `1200.50`.\n"
     } else if has_one_of(PARTS, value) && !has_one_of(WHOLES, value) {

@@ -70,11 +70,11 @@ fn put_faults<R: Files>(
 }
 
 /// Puts what is said of each of these faults, where so much is known of the file: of one cause once.
-fn put_each_fault<R: Files>(
+fn put_each_fault<'c, R: Files>(
     out: &mut WordsWriter,
-    text: &Text<R>,
+    text: &'c Text<'c, R>,
     faults: &[ReadFault],
-    known: Known<'_>,
+    known: Known<'c>,
 ) {
     let can_be_read = text.is_file();
     let mut names_row = false;

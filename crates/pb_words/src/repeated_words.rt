@@ -96,7 +96,10 @@ impl<R: Files> Case<'_, R> {
             Repeat::Copy if is_voter =>
                 "The two rows are the same. If they are one person's, delete one of them.\n",
             Repeat::Copy => "The two rows are the same. Delete one of them.\n",
-            Repeat::Unknown => words_of(kind).1,
+            Repeat::Unknown => {
+                out.put(words_of(kind).1);
+                ""
+            }
         };
         out.fill(remedy, &[Name(self.text.path)]);
         match repeat {

@@ -222,7 +222,7 @@ impl<R: Files> Case<'_, R> {
     /// Puts what to do about an id that no project has.
     fn put_unknown_remedy(&self, out: &mut WordsWriter, found: &FoundCause) {
         let place = self.place_of(found);
-        let (remedy, line) = (remedy_of(found.cause), Number(place.line));
+        let remedy = remedy_of(found.cause);
         match found.cause {
             Cause::Unknown | Cause::Near | Cause::OtherForm | Cause::Word
                 if found.votes.count == 1 && self.text.is_last(self.faulty.mark) => {
@@ -231,15 +231,19 @@ impl<R: Files> Case<'_, R> {
                 );
                 return out.put(remedy);
             }
-            Cause::Cut => out.fill(remedy, &[line]),
+            Cause::Cut => out.fill(remedy, &[Number(place.line)]),
             Cause::Swallowed => {
                 let _ = put_swallowing(out, self.text, place.mark);
             }
             Cause::Alike(how, false) if how != Hidden => out.fill(
                 "The project {} on line {} {}. If it is meant, write its id in the vote.\n",
-                &[Quoted(place.project), line, Own(difference(how))],
+                &[
+                    Quoted(place.project),
+                    Number(place.line),
+                    Own(difference(how)),
+                ],
             ),
-            _ => out.fill(remedy, &[Quoted(place.project), line]),
+            _ => out.fill(remedy, &[Quoted(place.project), Number(place.line)]),
         }
         match clean_of(&place) {
             Some(DROP_UNKNOWN) if self.known.witness.unknown.are_series() => out.put(

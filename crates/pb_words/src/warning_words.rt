@@ -238,48 +238,59 @@ fn put_text<R: Files>(
     (form, row): (&str, Option<&ByteRecord>),
 ) {
     let value = row.map_or("", |row| text_at(row, odd.value_place));
-    let names = odd.names.and_then(|mark| text.row_at(mark));
-    let name = names
-        .as_ref()
-        .map_or("", |names| text_at(names, odd.value_place));
-    let place = (odd.value_place as u64).saturating_add(1);
-    let column = match name {
-        "" => Number(place),
-        name => Quoted(name),
-    };
-    let twice = match odd.oddity {
-        Oddity::TwiceInVote => twice_in(text.alloc, value),
-        _ => "",
-    };
-    let line = line_of(text, odd.before.unwrap_or(odd.mark));
     let fields = row.map_or(0, |row| row.len() as u64);
-    let file = text.path.map_or(Own("FILE"), |path| Name(Some(path)));
-    out.fill_named(
-        form,
-        &figures_of(odd, value),
-        &[
-            ("value", Quoted(value)),
-            ("column", column),
-            ("fields", Number(fields)),
-            ("line", Number(line)),
-            ("twice", Quoted(twice)),
-            ("short", Quoted(value.trim_end_matches('0'))),
-            ("file", file),
-        ],
-    );
+    let line = line_of(text, odd.before.unwrap_or(odd.mark));
+    for (place, piece) in form.split('{').enumerate() {
+        match piece.split_once('}') {
+            Some((name, rest)) if place > 0 => {
+                match name {
+                    "column" => put_column_name(out, text, odd),
+                    "fields" => out.fill("{}", &[Number(fields)]),
+                    "line" => out.fill("{}", &[Number(line)]),
+                    "file" if text.path.is_none() => out.put("FILE"),
+                    "file" => out.fill("{}", &[Name(text.path)]),
+                    "twice" => {
+                        let twice = twice_in(text.alloc, value);
+                        out.fill("{}", &[Quoted(twice)])
+                    }
+                    name => put_figure(out, name, odd, value),
+                }
+                out.put(rest)
+            }
+            _ => out.put(piece),
+        }
+    }
 }
 
-/// The figures that are known of an odd row, with what they are called in a text.
-fn figures_of<'t>(odd: &Odd, value: &str) -> [(&'static str, PlaceholderValue<'t>); 7] {
+/// Puts the name of the column that an odd row is spoken of for, or its number.
+fn put_column_name<R: Files>(out: &mut WordsWriter, text: &Text<R>, odd: &Odd) {
+    let number = (odd.value_place as u64).saturating_add(1);
+    let Some(names) = odd.names.and_then(|mark| text.row_at(mark)) else {
+        return out.fill("{}", &[Number(number)]);
+    };
+    match text_at(&names, odd.value_place) {
+        "" => out.fill("{}", &[Number(number)]),
+        name => out.fill("{}", &[Quoted(name)]),
+    }
+    drop(names)
+}
+
+/// Puts what is known of an odd row, by what it is called in a text; `value` is the field that is odd.
+fn put_figure(out: &mut WordsWriter, name: &str, odd: &Odd, value: &str) {
     let limit = odd.limit.unwrap_or(0);
-    let amount = Money::read(value).map_or(0, |amount| amount.0);
-    [
-        ("number", Number(odd.number)),
-        ("rows", Count(odd.number, "row")),
-        ("projects", Count(odd.number, "project")),
-        ("limit", Number(limit)),
-        ("amount", Amount(amount)),
-        ("sum", Amount(odd.number)),
-        ("most", Amount(limit)),
-    ]
+    match name {
+        "value" => out.fill("{}", &[Quoted(value)]),
+        "short" => out.fill("{}", &[Quoted(value.trim_end_matches('0'))]),
+        "number" => out.fill("{}", &[Number(odd.number)]),
+        "rows" => out.fill("{}", &[Count(odd.number, "row")]),
+        "projects" => out.fill("{}", &[Count(odd.number, "project")]),
+        "limit" => out.fill("{}", &[Number(limit)]),
+        "amount" => {
+            let amount = Money::read(value).map_or(0, |amount| amount.0);
+            out.fill("{}", &[Amount(amount)])
+        }
+        "sum" => out.fill("{}", &[Amount(odd.number)]),
+        "most" => out.fill("{}", &[Amount(limit)]),
+        _ => {}
+    }
 }

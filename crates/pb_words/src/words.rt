@@ -86,29 +86,6 @@ impl WordsWriter {
         }
     }
 
-    /// Puts a text that is the program's own, with its value, which is one of these, in place of each name in
-    /// braces.
-    pub(crate) fn fill_named(
-        &mut self,
-        form: &str,
-        values: &[(&str, PlaceholderValue<'_>)],
-        others: &[(&str, PlaceholderValue<'_>)],
-    ) {
-        for (place, piece) in form.split('{').enumerate() {
-            match piece.split_once('}') {
-                Some((name, rest)) if place > 0 => {
-                    for (known, value) in values.iter().chain(others) {
-                        if *known == name {
-                            self.put_value(value);
-                        }
-                    }
-                    self.put(rest)
-                }
-                _ => self.put(piece),
-            }
-        }
-    }
-
     fn put_value(&mut self, value: &PlaceholderValue<'_>) {
         match value {
             PlaceholderValue::Own(text) => self.put(text),
