@@ -23,11 +23,11 @@ AMOUNT_REPAIRS = [('-–—', 'dash for cents', re.compile(r'(?<=\d[.,])[-–—
                    lambda found: found[0].replace(found[1], ''))]
 # What changes are called: those that an option decides, and all.
 DECIDED = ['--drop-unknown', '--drop-zero-cost', '--round', '--repeated-voters', '--encoding', '--marks',
-           '--single-choice']
+           '--single-choice', 'rows joined']
 KNOWN = {*DECIDED, *(it[1] for it in VOTE_REPAIRS + AMOUNT_REPAIRS), UNSEEN, DUST, 'encoding', 'separator',
          'spaces before quotation marks', 'workbook', 'row added', 'empty row', 'text above META',
          'text above the columns', 'column names again', 'key and value', 'heading of rows to join',
-         'rows joined', 'point and zero'}
+         'point and zero'}
 # Groups of thousands by one mark: the mark, further groups, the mark of decimals.
 GROUPS = re.compile(r'[1-9][0-9]{0,2}([.,])[0-9]{3}((?:\1[0-9]{3})*)(?:(?!\1)([.,])[0-9]+)?')
 # Ids that a spreadsheet shortened, or has as dates; and dates as it writes them.
@@ -67,7 +67,7 @@ WORDS = {
     'VoteType': 'only approval ballots are counted; if each voter picks one project, name `--single-choice`',
     'BadMoney': 'an amount is digits, with at most one point or comma: no currency, no letters, no footnotes; if it is '
         'below 0, find out the right one, and do not just delete the sign; write it in full (`12k` may be 12000, '
-        '`12$50` may be 12.50); if a word such as `net`, `each` or `a year` is beside it, ask for the whole cost',
+        '`12$50` may be 12.50, `25%` is a part of another amount); if a word such as `net`, `each` or `a year` is beside it, ask for the whole cost',
     'MoneyTooFine': 'more than two decimals: if that is meant, name `--round half-up`, `down` or `up`',
     'MoneyTooLarge': 'the amount has too many digits',
     'ZeroCost': 'the cost is 0: write it, or drop the project and the votes for it by `--drop-zero-cost`',
@@ -80,13 +80,17 @@ WORDS = {
     # rows, columns and amounts
     'another election': 'another election begins here, or the sections are not in the order META, PROJECTS, '
         'VOTES: make a file of each election',
+    'padded': 'lines end in commas, which a spreadsheet may have put there: delete the commas at the line ends',
     'open mark': 'here a quotation mark is not closed, or is too many',
     'above': 'the row stands above META or the column names: delete a title; move anything else below',
     'conflict': 'it is a mark of a merge conflict: two versions of rows are there: ask which is right, and keep '
         'that one alone',
     'left out': 'it says that rows were left out: get the whole file',
-    'other separator': 'it is one field: if `,` or tabs separate its fields, write `;`, but keep the `,` '
-        'between the ids of a vote; if it is a heading or a note, delete it',
+    'other separator': 'it is one field: if `,` or tabs separate its fields, or another sign stands in place of `;`, '
+        'or nothing, write `;` there, but keep the `,` between the ids of a vote; if it is a heading or a note, delete it',
+    'quoted': 'quotation marks around the whole row make one field of it: delete these',
+    'slid': 'the first voter has no vote, and the last vote no voter: the column `vote` may have slid down by one '
+        'cell: compare a few rows with the ballots before you write an id',
     'rest': 'it may be the rest of the vote in the row above, which ends in a comma: if so, put it there; if it is a '
         "voter's id, write `;` behind it",
     'a column each': 'it has a column for each project: make one column vote of them, with `,` between the '
@@ -119,12 +123,16 @@ WORDS = {
         'lines of their own, write `,` between them',
     'places': 'it stands beside ids, so the votes may be places, counted from 0: get the ids',
     'sign': 'it has a sign: votes against a project, and points, are no approvals',
+    'cut off': 'it seems to be cut off, as programs show long texts: get the votes again, whole',
+    'coded': 'codes such as `%2C` stand for other characters in it, as in the address of a web page: decode all of '
+        'them, or get the votes again',
     'id and more': 'it has the id of a project and more: ids have only `,` between; look at the ballot, since `1-3` may '
         'be a range, and `2 or 3` one of both; points, ranks and what is crossed out are no approvals; if a spreadsheet '
         'made one number of ids, get them again, as text',
     'marked': 'a mark stands beside the id of the project {}: ask whether the voter approves it',
     'alike': 'the project {} differs only by case, zeros, marks, white space, how letters are coded, letters '
-        'before its number, or letters for digits (O for 0, B for 8): if it is meant, correct one of both',
+        'before its number, or letters for digits (O for 0, B for 8): if it is meant, correct one of both; if votes have the other form too, '
+        'get them again, as text',
     'no commas': 'it is made of ids whose commas are lost: get the votes again, as text',
     'date': 'a spreadsheet made a date of the id {}: get PROJECTS again',
     'name': 'it is the name of the project {}, or a part of it: if this project is meant, write its id',
@@ -304,8 +312,10 @@ class Cleaner:
         if tuple(parts) != SECTIONS:
             lost = ', '.join(it.upper() for it in SECTIONS if it not in parts)
             lost = f'the file has no heading {lost} on a row of its own: ' if lost else ''
-            opened = (row for row in self.rows if re.search('\n(PROJECTS|VOTES)\\b', '\t'.join(row.fields)))
-            row, why = next(((row, 'open mark') for row in opened), (last, 'SectionOrder'))
+            found = [(row, 'padded') for row in self.rows[:1] for it in row.log if re.fullmatch('META,+', it[2], re.I)]
+            found += [(row, 'open mark') for row in self.rows
+                      if re.search('\n(PROJECTS|VOTES)\\b', '\t'.join(row.fields))]
+            row, why = (found or [(last, 'SectionOrder')])[0]
             raise Refused(f'record {row.key}: {lost}{WORDS[why]}')
         return parts.values()
 
@@ -354,8 +364,9 @@ class Cleaner:
             elif self.is_cut and any(map(seen, row.fields[width:])):
                 self.refuse(row, 'cut')
             elif len(row.fields) == 1 < width:
-                is_rest = section is self.votes and cut == [above]
-                rest = ['rest'] if is_rest and ids >= {*map(seen, row.fields[0].split(','))} else []
+                pieces = {*map(seen, row.fields[0].split(','))} - {''}
+                rest = ['rest'] if section is self.votes and cut == [above] and ids >= pieces else []
+                rest += ['quoted'] if ';' in row.fields[0] and not self.is_cut else []
                 for why in [*rest, *(why for why, look in SHORT if re.search(look, row.fields[0], re.I))][:1]:
                     self.refuse(row, why)
 
@@ -470,6 +481,9 @@ class Cleaner:
                 odd[row] = pieces, lost
             if ('+' in name or ':' in name) and CHANGED.fullmatch(name):
                 self.refuse(row, 'changed id', shown(name))
+        # Of the first row and of the last: whether the voter is there, and the vote.
+        if [bool(seen(row.fields[at])) for row in rows[:1] + rows[-1:] for at in (voter, vote)] == [1, 0, 0, 1]:
+            self.refuse(rows[-1], 'slid')
         self.judge_fields(odd, voter, vote, bare)
         self.clean_unknown(rows, odd, vote)
         for name in filter(None, repeated):
@@ -498,7 +512,9 @@ class Cleaner:
             done = {it.lower() for it in said}
             if len(done) > 1 and done & {*DONE}:
                 self.refuse(first, 'log', shown(next(it for it in said if it.lower() in DONE)))
-        if self.is_long and way == 'merge':
+        if self.is_long and not way:
+            self.refuse(more[0], 'other way')
+        elif self.is_long and way == 'merge':
             what = 'rows joined'
         elif way and len(name) > 15 and name.isdigit() and not name[15:].strip('0'):
             self.refuse(more[0], 'changed id', shown(name))
@@ -606,8 +622,9 @@ class Cleaner:
         like, called = self.alike.get(plain(piece), ''), self.called.get(plain(piece), '')
         is_run = self.length > 1 and len(cut) > 1 and self.ids.keys() >= {*cut}
         marked = unmarked(piece) if unmarked(piece) in self.ids else ''
-        causes = [('lines', len(piece.splitlines()) > 1), ('places', piece == '0' and piece in self.beside),
+        causes = [('lines', len(piece.splitlines()) > 1), ('cut off', re.search(r'(\.\.\.|…)$', piece)), ('places', piece == '0' and piece in self.beside),
                   ('sign', re.fullmatch('[-+\u2212].+', piece)), ('marked', marked),
+                  ('coded', re.search('%2[0c]', piece, re.I)),
                   ('id and more', len(parts) > 1 and any(it in self.ids for it in parts)),
                   ('alike', like), ('no commas', is_run), ('date', date), ('name', called)]
         return next((it for it in causes if it[1]), ('', ''))

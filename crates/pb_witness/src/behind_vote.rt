@@ -1,7 +1,7 @@
 //! Ids of projects that stand behind the vote, where no count reads them.
 
 use crate::changed::{has_digit, has_one_of, has_part, is_digits, is_one_of};
-use crate::columns::{NUMBERS, is_of_validity};
+use crate::column_kinds::{NUMBERS, is_of_validity};
 use crate::prelude::*;
 use crate::warnings::places_of;
 

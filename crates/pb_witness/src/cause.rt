@@ -61,10 +61,19 @@ pub enum Cause {
     More,
     /// The id of a project was changed.
     ChangedProject,
-    /// It is a word in place of ids, or looks like a phone's keys or a list of PHP.
+    /// It is a word in place of ids, or looks like a phone's keys, a list of PHP, or a web page's address.
     Word,
     Keycaps,
     Php,
+    Percent,
+    /// It ends in three dots.
+    CutOff,
+    /// It has a sign for each project.
+    Signs,
+    /// It lacks the zeros that the id of a project has, also in other votes.
+    Kept,
+    /// It is ids of one character each, with nothing between them, or another id.
+    Run,
     /// It ends with `=`, as e-mail programs break lines.
     Mail,
     /// It has a character that no id of a project has.
@@ -96,7 +105,12 @@ impl Cause {
 }
 
 /// What an id has in it that shows its cause.
-const LOOKS: [(&str, Cause); 2] = [("\u{20e3}", Cause::Keycaps), (":{i:", Cause::Php)];
+const LOOKS: [(&str, Cause); 4] = [
+    ("\u{20e3}", Cause::Keycaps),
+    (":{i:", Cause::Php),
+    ("%2c", Cause::Percent),
+    ("%20", Cause::Percent),
+];
 
 /// What between ids makes several of them one piece.
 const BETWEEN: [(char, Cause); 9] = [
@@ -133,7 +147,12 @@ pub(crate) fn cause_of(
     }
     for by in [By::Id, By::Digits, By::Number, By::Name, By::Mention] {
         if let Some(place) = projects.find(by, id)? {
-            return Ok(cause_by(by, id, projects, place));
+            let (cause, project) = cause_by(by, id, projects, place);
+            let lacks_zeros = cause == Cause::Alike(Difference::Zeros, false);
+            if lacks_zeros && witness.rows.is_named(place) {
+                return Ok((Cause::Kept, project));
+            }
+            return Ok((cause, project));
         }
     }
     match last_cause(id, witness, projects) {
@@ -183,6 +202,10 @@ fn plain_cause(id: &str, ids: &Ids, projects: &Projects, has_columns: bool) -> O
         Cause::Mail
     } else if id.eq_ignore_ascii_case(Column::Vote.name()) {
         Cause::NamesAgain
+    } else if id.ends_with("...") || id.ends_with('\u{2026}') {
+        Cause::CutOff
+    } else if is_by_signs(id, ids) {
+        Cause::Signs
     } else if let Some((_, cause)) = LOOKS.iter().find(|(look, _)| has_word(id, look)) {
         *cause
     } else if let Some(cause) = wrapped(id, ids) {
@@ -236,7 +259,8 @@ fn changed(id: &str, ids: &Ids, projects: &Projects) -> Option<Cause> {
     } else if is_date(id, false) {
         Some(Cause::Date)
     } else if is_together(id, ids, projects.length) {
-        Some(Cause::Together)
+        let is_sure = projects.length > 1;
+        Some(if is_sure { Cause::Together } else { Cause::Run })
     } else {
         None
     }
@@ -244,11 +268,26 @@ fn changed(id: &str, ids: &Ids, projects: &Projects) -> Option<Cause> {
 
 /// Whether a text is ids of this length, one behind the other.
 fn is_together(text: &str, ids: &Ids, length: usize) -> bool {
-    if length < 2 || text.len() <= length {
+    if length < 1 || text.len() <= length {
         return false;
     }
     let is_id = |piece: &[u8]| str::from_utf8(piece).is_ok_and(|id| ids.projects.has(id));
     text.as_bytes().chunks(length).all(is_id)
+}
+
+/// The fewest projects that have signs in a vote.
+const MANY: usize = 5;
+
+/// Whether a text has a sign for each project: its id, or one of these.
+fn is_by_signs(text: &str, ids: &Ids) -> bool {
+    let is_sign = |c: char| "-._".contains(c);
+    let is_id = |piece: &[u8]| str::from_utf8(piece).is_ok_and(|id| ids.projects.has(id));
+    let are_ids = |part: &str| part.as_bytes().chunks(1).all(is_id);
+    let count = ids.projects.len();
+    count >= MANY
+        && text.len() == count
+        && text.contains(is_sign)
+        && text.split(is_sign).all(are_ids)
 }
 
 /// The cause of an id that is like none of a project.
@@ -256,13 +295,15 @@ fn last_cause(id: &str, witness: &Witness, projects: &Projects) -> (Cause, Optio
     let is_beside = |c: char| !c.is_alphanumeric() && (":=(#".contains(c) || projects.lacks(c));
     let is_id = |part: &str| witness.ids.projects.has(part.trim());
     let parts = id.split(is_beside).filter(|part| is_id(part)).count();
-    let is_dash = |c: char| c == '-' || c == '\u{2013}';
+    let is_dash = |c: char| "-:>\u{2013}\u{2192}".contains(c);
     let is_other = |word: &str| !word.is_empty() && !is_id(word) && !has_digit(word);
     let ends = id.split_once(is_dash).unwrap_or(("", ""));
     let cause = if is_id(ends.0) && is_id(ends.1) {
         Cause::Range
     } else if parts > 1 && id.split(|c: char| c.is_whitespace()).any(is_other) {
         Cause::Joined
+    } else if parts > 1 {
+        Cause::Range
     } else if parts > 0 {
         Cause::More
     } else if projects.changed.is_some() {

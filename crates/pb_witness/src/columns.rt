@@ -1,95 +1,34 @@
 //! Columns of PROJECTS and VOTES that no count reads, and that may say what should count.
 
-use crate::changed::{begins, has_digit, has_one_of, has_part, has_word, is_digits, is_one_of};
+use crate::changed::{has_digit, has_part, is_digits, is_one_of};
+use crate::column_kinds::{Has, NUMBERS, POINTS};
 use crate::meta_oddities::whole_number;
+use crate::oddities::Subject;
 use crate::prelude::*;
 
-/// What columns of VOTES are called that have points, and then those that say how many ballots a row is.
-pub(crate) const NUMBERS: &str =
-    "points|score|weight|weights|count|ballots|ballot_count|num_ballots|number_of_ballots|\
-    number_of_votes|voters|quantity|times";
-
-/// How many of them give points.
-const POINTS: usize = 2;
-
-/// What columns are called that say which rows are valid, and how names of further ones begin, such as one
-/// with the day on which a project was withdrawn.
-const VALID: &str =
-    "valid|is_valid|invalid|accepted|status|withdrawn|cancelled|deleted|duplicate|counted|finished|\
-    completed|round|wazny|ważny|gueltig|gültig|platny|platný|geldig|valide";
-
-const BEGINNINGS: &str = "withdrawn|cancelled|invalid|removed|rejected_";
-
-/// Those of them that may have something else, and others that may.
-const VALID_OR_MORE: &str = "status|accepted|finished|completed|voted|has_voted";
-
-/// What they say of rows that count, or do not.
+/// What a column says of rows that count, or do not.
 const STATES: &str =
     "valid|invalid|yes|no|1|0|true|false|accepted|rejected|refused|approved|withdrawn|cancelled|\
     canceled|deleted|removed|counted|not counted|void|ok|eligible|ineligible|disqualified|duplicate|\
     blank|spoiled|spoilt|tak|nie|ja|nein|oui|non|si|ano|ne|nee|y|n|t|f|x";
 
-/// What columns are called that have remarks, what a remark says of a vote that should not count, and how
-/// many of a column are looked at: more are no exceptions.
-const NOTES: &str = "remark|remarks|comment|comments|note|notes";
-
+/// What a remark says of a vote that should not count, and how many of a column are looked at: more are no
+/// exceptions.
 const REMARKS: &str =
     "invalid|not valid|not count|not a resident|duplicate|voted twice|annulled|cancelled|ineligible";
 
 const MOST_REMARKS: u64 = 1_000;
-
-/// What columns are called that have currencies.
-const CURRENCIES: &str =
-    "currency|currencies|waluta|waehrung|währung|devise|moneda|valuta|mena|měna";
-
-/// Words in the name of a column that may have the ids of the projects, and of one that has none.
-const IDS: &str = "id|ids|no|nr|number|code";
-
-const NO_IDS: &str = "of|related|parent|order|rank|score|vote|votes|page|district";
 
 /// The fewest projects whose ids may stand in another column too, and the longest id that may, in bytes.
 const FEWEST_IDS: usize = 3;
 
 const LONGEST_ID: usize = 20;
 
-/// Words in the name of a column of costs that may be later ones.
-const LATER: &str =
-    "after|corrected|correction|verified|verification|revised|updated|new|amended|changed";
-
-/// What the name of a column has in it whose numbers are of cards or the like, of which each voter has one;
-/// and that of none, within a word or as a whole one.
-const CARDS: &str = "card|ballot|receipt|serial|token|slip|ticket|coupon|envelope|pesel|passport";
-
-const NO_CARDS: &str =
-    "time|date|day|hour|minute|stamp|type|station|box|place|street|language|submitted|created";
-
-const NO_CARD_WORDS: &str = "at|on|ip|raw";
-
 /// After so many numbers of cards it is asked whether nearly all differ: of so many one may stand in an
 /// earlier row.
 const ENOUGH: u64 = 1_000;
 
 const OF: u64 = 4;
-
-/// What stands in a column.
-#[derive(Clone, Copy, PartialEq, Eq)]
-enum Has {
-    Points,
-    /// How many ballots a row is.
-    Ballots,
-    /// Which rows are valid; or something else under a name that may mean that.
-    Valid,
-    ValidOrMore,
-    Remarks,
-    Currencies,
-    /// Costs that may be later ones.
-    Costs,
-    /// Numbers that may be the ids of the projects; those of the ballot paper, which may number the rows.
-    Ids,
-    BallotIds,
-    /// Numbers of which each voter has one.
-    Cards,
-}
 
 /// A column that no count reads.
 #[derive(Drop)]
@@ -119,50 +58,6 @@ pub(crate) struct FurtherColumns {
     all: Vec<FurtherColumn>,
     /// Whether something may be said of one of them.
     pub(crate) are_open: bool,
-}
-
-/// Whether a column of this name says which rows are valid, or has remarks.
-pub(crate) fn is_of_validity(name: &str) -> bool {
-    let is_begun = BEGINNINGS.split('|').any(|word| begins(name, word));
-    is_one_of(VALID, name) || is_one_of(NOTES, name) || is_begun
-}
-
-impl Has {
-    /// The kinds of a section's columns that are known by words in their names, in the order in which they
-    /// are told, with the most columns of each. The first stands for all that say which rows are valid.
-    fn kinds(section: Section) -> &'static [(Has, usize)] {
-        match section {
-            Section::Votes => &[(Has::Valid, usize::MAX), (Has::Cards, 4)],
-            _ => &[
-                (Has::Valid, usize::MAX),
-                (Has::Costs, usize::MAX),
-                (Has::Ids, 16),
-            ],
-        }
-    }
-
-    /// What a column of this name has, if it is of this kind.
-    fn by(self, name: &str, section: Section) -> Option<Has> {
-        let is_ballot = has_word(name, "ballot");
-        let is_key = name.eq_ignore_ascii_case(Column::ProjectId.name());
-        let is_votes = matches!(section, Section::Votes);
-        match self {
-            Has::Valid if is_one_of(NOTES, name) => is_votes.then_some(Has::Remarks),
-            Has::Valid if !is_votes && name.eq_ignore_ascii_case("round") => None,
-            Has::Valid if is_one_of(VALID_OR_MORE, name) => Some(Has::ValidOrMore),
-            Has::Valid if is_of_validity(name) => Some(Has::Valid),
-            Has::Valid => (!is_votes && is_one_of(CURRENCIES, name)).then_some(Has::Currencies),
-            Has::Costs => {
-                let is_of = has_one_of("of", name);
-                (has_word(name, "cost") && has_one_of(LATER, name) && !is_of).then_some(self)
-            },
-            Has::Ids if is_ballot => Some(Has::BallotIds),
-            Has::Ids => {
-                (has_one_of(IDS, name) && !has_one_of(NO_IDS, name) && !is_key).then_some(self)
-            }
-            _ => (is_of_cards(name) && !is_one_of(NUMBERS, name)).then_some(self),
-        }
-    }
 }
 
 impl FurtherColumns {
@@ -249,6 +144,9 @@ impl FurtherColumns {
                 (Has::Cards, Some(first)) if column.nearly_all_differ() => {
                     cards.push(first.by(column.other))?
                 }
+                (Has::Others, Some(first)) if column.are_others(election, first.subject) => {
+                    found.take(first)
+                }
                 _ => {}
             }
         }
@@ -266,11 +164,10 @@ impl FurtherColumn {
         found: &mut Oddities,
     ) -> Result<(), AllocError> {
         let (value, place) = (row.at(self.place), self.place);
-        let odd = |oddity: Oddity, form: usize| {
-            row.odd(oddity).named_in(header).at(place).in_form(form)
-        };
-        let of_column = |oddity: Oddity| Odd::of_column(oddity, header, place);
         let is_vote = matches!(row.part, Part::Vote(_));
+        let odd = row.odd(Oddity::ValidColumn).named_in(header).at(place);
+        let odd = odd.in_form(self.has.form(is_vote));
+        let of_column = |oddity: Oddity| Odd::of_column(oddity, header, place);
         match self.has {
             Has::Points if has_points(value) => {
                 self.tell(of_column(Oddity::VotesWithPoints), found)
@@ -279,25 +176,21 @@ impl FurtherColumn {
                 self.tell(of_column(Oddity::SeveralBallots), found)
             }
             Has::Points | Has::Ballots => {}
-            Has::Valid | Has::ValidOrMore => {
-                let state = odd(Oddity::ValidColumn, usize::from(is_vote));
-                return self.take_state(value, state, found);
+            Has::Remarks | Has::Currencies if value.is_empty() => {}
+            Has::Valid | Has::ValidOrMore | Has::Rounds | Has::Currencies => {
+                return self.take_state(value, odd, found);
             }
-            Has::Currencies if value.is_empty() => {}
-            Has::Currencies => return self.take_state(value, odd(Oddity::ValidColumn, 3), found),
-            Has::Remarks if value.is_empty() => {}
-            Has::Remarks if has_part(REMARKS, value) => {
-                self.tell(odd(Oddity::ValidColumn, 2), found)
-            }
+            Has::Remarks if has_part(REMARKS, value) => self.tell(odd, found),
             Has::Remarks => {
                 self.count = self.count.saturating_add(1);
                 self.is_open = self.count < MOST_REMARKS;
             }
             Has::Costs => self.take_cost(value, Money::read(row.value()).ok()),
             Has::Ids | Has::BallotIds => return self.take_id(alloc, value, row.id()),
+            Has::Others => return self.take_others(alloc, value, (row.id(), odd)),
             Has::Cards => {
                 if self.take_card(alloc, value)? && self.first.is_none() {
-                    self.first = Some(odd(Oddity::SeveralBallots, 1));
+                    self.first = Some(odd.as_a(Oddity::SeveralBallots).in_form(1));
                 }
             }
         }
@@ -364,6 +257,43 @@ impl FurtherColumn {
         Ok(())
     }
 
+    /// Takes a value that may be ids of other rows than that with this id, which is odd for it.
+    fn take_others(
+        &mut self,
+        alloc: Global,
+        value: &str,
+        (id, odd): (&str, Odd),
+    ) -> Result<(), AllocError> {
+        for piece in value.split(',') {
+            let piece = piece.trim();
+            if piece.is_empty() {
+                continue;
+            }
+            self.is_open &= piece != id;
+            let is_new = self.values.insert(alloc, piece, 0)?.is_none();
+            self.count = self.count.saturating_add(u64::from(is_new));
+            self.first = self.first.or(Some(odd));
+        }
+        Ok(())
+    }
+
+    /// Whether all that it has are ids of projects, or of voters.
+    fn are_others(&self, election: &Election, subject: Subject) -> bool {
+        let mut named = 0u64;
+        if subject == Subject::Voter {
+            for voter in election.voters() {
+                let is_named = self.values.get(voter.id.text()).is_some();
+                named = named.saturating_add(u64::from(is_named));
+            }
+        } else {
+            for project in election.projects() {
+                let is_named = self.values.get(project.id()).is_some();
+                named = named.saturating_add(u64::from(is_named));
+            }
+        }
+        named == self.count
+    }
+
     /// Whether it has the id of each project, in another order. If it numbers the rows, these have to be
     /// numbers of the ballot paper.
     fn has_ids(&self, election: &Election) -> bool {
@@ -424,11 +354,6 @@ fn has_points(value: &str) -> bool {
 fn is_number(value: &str, projects: u64) -> bool {
     let hundredths = Money::read(value).map_or(100, |amount| amount.0);
     hundredths != 100 && hundredths != projects.saturating_mul(100)
-}
-
-/// Whether a column's name says that it has numbers of cards.
-fn is_of_cards(name: &str) -> bool {
-    has_part(CARDS, name) && !has_part(NO_CARDS, name) && !has_one_of(NO_CARD_WORDS, name)
 }
 
 /// Whether a value may be the number of a card: it has a digit, and at most one sign, as no time or address

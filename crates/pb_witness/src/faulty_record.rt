@@ -1,7 +1,7 @@
 //! A record of a .pb file that was refused, and what can be known of it.
 
 use crate::changed::{
-    has_digit, has_word, is_digits, is_nothing, is_power, letters_of, without_hidden,
+    form_of, has_digit, has_word, is_digits, is_nothing, is_power, letters_of, without_hidden,
 };
 use crate::fields::{JoinedBy, has_more, joined};
 use crate::heads::{OddHead, head_of, is_column, odd_head_of, section_of};
@@ -12,6 +12,10 @@ use crate::records::TextRecords;
 use crate::seen::Seen;
 use crate::witness::Witness;
 use pb_read::Refusal;
+use std::str;
+
+/// The longest id at the end of a text that is looked for, in bytes.
+const LONGEST_END: usize = 20;
 
 /// A record that the reader refused.
 #[derive(Drop)]
@@ -165,6 +169,32 @@ impl FaultyRecord {
         !self.value().is_empty() && ids.are_all(self.value())
     }
 
+    /// Whether it is a vote without a voter in the last row of VOTES, and the first row has a voter without a
+    /// vote, as where the column `vote` has slid down by one cell.
+    pub fn is_slid<R: Files>(&self, text: &Text<'_, R>) -> bool {
+        let (id, vote) = self.places();
+        let is_kind = self.kind() == ReadKind::EmptyId && self.is_of_votes();
+        if !is_kind || !text.is_last(self.mark) {
+            return false;
+        }
+        let first = text.row_behind(self.seen.names);
+        first.is_some_and(|row| !text_at(&row, id).is_empty() && text_at(&row, vote).is_empty())
+    }
+
+    /// Whether it is META's head with commas behind it, and the row below ends in commas too, but has `;`.
+    pub fn is_padded<R: Files>(&self, text: &Text<'_, R>) -> bool {
+        let field = self.at(0);
+        let head = field.trim_end_matches(',');
+        if !self.is_first() || head.len() == field.len() || !head.eq_ignore_ascii_case("META") {
+            return false;
+        }
+        let below = text.row_behind(self.mark);
+        below.is_some_and(|row| {
+            let last = row.len().saturating_sub(1);
+            last > 0 && text_at(&row, last).ends_with(',')
+        })
+    }
+
     /// Whether it is a project's row whose cost seems to stand further right, because of a `;` in a text
     /// before it.
     pub fn is_split(&self) -> bool {
@@ -213,6 +243,31 @@ impl FaultyRecord {
         let above = text.row_at(self.seen.last).filter(|_| is_one);
         let is_cut = above.is_some_and(|row| text_at(&row, self.places().1).ends_with(','));
         is_cut && witness.ids.are_all(self.at(0))
+    }
+
+    /// What stands between a voter and a vote, if it is a row of VOTES with one of two fields that has both:
+    /// before the first comma an id like the first voter's and that of a project, behind it ids of projects.
+    pub fn joined_vote<R: Files>(&self, text: &Text<'_, R>, ids: &Ids) -> Option<&str> {
+        let field = self.at(0);
+        let (first, rest) = field.split_once(',').unwrap_or((field, ""));
+        let is_kind = self.kind() == ReadKind::MissingField && self.is_of_votes();
+        if !is_kind || self.record.len() != 1 || self.seen.columns != 2 || !ids.are_all(rest) {
+            return None;
+        }
+        let row = text.row_behind(self.seen.names)?;
+        let form = form_of(text.alloc, text_at(&row, self.places().0), false).ok()?;
+        let begin = first.len().saturating_sub(LONGEST_END).max(1);
+        for place in begin..first.len() {
+            let tail = first.as_bytes().get(place..).unwrap_or(b"");
+            let tail = str::from_utf8(tail).unwrap_or("");
+            let front = first.strip_suffix(tail).unwrap_or("");
+            let voter = front.trim_end_matches(|c: char| !c.is_alphanumeric());
+            let own = form_of(text.alloc, voter, false).ok()?;
+            if ids.projects.has(tail) && own.as_str() == form.as_str() {
+                return front.strip_prefix(voter);
+            }
+        }
+        None
     }
 
     /// What separates the fields of a row in place of `;`, if it is one field with tabs, or with as many

@@ -67,12 +67,14 @@ pub enum Repeat {
     Log,
     /// The rows of a voter have different times.
     Times,
+    /// The id is a time, which several voters may have.
+    TimeId,
     Unknown,
 }
 
 impl Repeat {
     /// How many reasons there are.
-    pub const COUNT: usize = 11;
+    pub const COUNT: usize = 12;
 
     /// Whether the reason is one for all rows of VOTES, and not for each of them.
     pub fn is_shared(&self) -> bool {
@@ -144,6 +146,8 @@ impl Known<'_> {
             Repeat::OtherPeople
         } else if is_voter && rows.voters_repeated == 1 && rows.rows_repeated > 2 {
             Repeat::OneId
+        } else if is_voter && has_time(faulty.id()) {
+            Repeat::TimeId
         } else {
             self.beside_earlier(text, faulty)
         }

@@ -9,7 +9,8 @@ use crate::twins::Twins;
 
 /// What a row of totals is called.
 const TOTALS: &str =
-    "total|totals|sum|suma|summe|razem|gesamt|insgesamt|celkem|totale|totaal|somme|subtotal";
+    "total|totals|sum|suma|summe|razem|ogolem|ogółem|gesamt|insgesamt|celkem|spolu|totale|totaal|somme|\
+    subtotal|summa|ukupno|összesen|yhteensä|итого|всего";
 
 /// The fewest projects above a last one that is their sum by its cost alone.
 const MANY: usize = 4;
@@ -134,6 +135,9 @@ impl ProjectOddities {
         election: &Election,
         found: &mut Oddities,
     ) -> Result<(), AllocError> {
+        if let Some(odd) = self.withdrawn {
+            found.take(odd);
+        }
         self.further.end(election, found)
     }
 
@@ -146,15 +150,17 @@ impl ProjectOddities {
         found: &mut Oddities,
     ) -> Result<(), AllocError> {
         self.take_total(election, found);
-        if let Some(odd) = self.withdrawn {
-            found.take(odd);
-        }
         let compares = self.votes.is_some() && !has_fault;
         let is_check = found.tells(Oddity::NoSupporter);
         if !compares && self.fewest.is_none() && !is_check {
             return Ok(());
         }
         let supporters = supporters_of(self.alloc, election)?;
+        let form = if self.has_other_ids(&supporters) {
+            2
+        } else {
+            0
+        };
         let rows = self.accepted.iter().zip(election.projects());
         for ((row, project), number) in rows.zip(&supporters) {
             if project.id().contains(',') {
@@ -170,7 +176,7 @@ impl ProjectOddities {
             }
             let odd = row.odd.as_a(Oddity::VotesOf).by(*number);
             if compares && row.votes.is_some_and(|votes| votes != Some(*number)) {
-                found.take(odd.at(self.votes.unwrap_or(0)));
+                found.take(odd.at(self.votes.unwrap_or(0)).in_form(form));
             }
             if *number < self.fewest.unwrap_or(0) && !has_fault {
                 found.take(Odd {
@@ -181,6 +187,18 @@ impl ProjectOddities {
         }
         drop(supporters);
         Ok(())
+    }
+
+    /// Whether the numbers of votes that projects claim have the sum of these, but stand at other projects.
+    fn has_other_ids(&self, supporters: &[u64]) -> bool {
+        let (mut said, mut sum, mut differ) = (0u64, 0u64, 0u64);
+        for (row, number) in self.accepted.iter().zip(supporters) {
+            let votes = row.votes.unwrap_or(None).unwrap_or(0);
+            said = said.saturating_add(votes);
+            sum = sum.saturating_add(*number);
+            differ = differ.saturating_add(u64::from(votes != *number));
+        }
+        said == sum && differ > 2
     }
 
     /// Takes the first or the last row if it is probably a total.

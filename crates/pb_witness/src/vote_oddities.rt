@@ -1,12 +1,23 @@
 //! What is odd in VOTES.
 
 use crate::behind_vote::BehindVote;
-use crate::changed::{form_of, without_hidden};
+use crate::changed::{form_of, has_one_of, is_one_of, without_hidden};
 use crate::columns::FurtherColumns;
 use crate::last_vote::LastVote;
+use crate::meta_oddities::whole_number;
 use crate::prelude::*;
 use crate::project_oddities::has_total;
 use crate::rankings::Rankings;
+use crate::voter_lists::are_lists;
+
+/// What stands in place of an id below a list that was signed.
+const SIGNED: &str = "signed|signature|podpis|unterschrift";
+
+/// Ids that programs read as nothing.
+const NOTHING: &str = "na|n/a|nan|nil|none|null";
+
+/// The fewest rows whose number a last row has.
+const FEWEST_ROWS: u64 = 3;
 
 /// What is odd in VOTES, as its rows are read.
 #[derive(Drop)]
@@ -17,7 +28,8 @@ pub(crate) struct VoteOddities {
     pub(crate) names: usize,
     further: FurtherColumns,
     behind: BehindVote,
-    /// The voters whose ids have a character at an end that can't be seen: the place among all, and the row.
+    /// The voters whose ids have a character at an end that can't be seen, or end in `.0`: the place among all,
+    /// and the row.
     marked: Vec<(u32, Mark)>,
     /// Where the last row begins, and what it is.
     last_row: Option<(Mark, Part)>,
@@ -77,7 +89,7 @@ impl VoteOddities {
         self.last_row = Some((row.mark, row.part));
         let id = bytes_at(row.record, id_place);
         let is_plain = is_plain_end(id.first()) && is_plain_end(id.last());
-        if !is_plain && is_marked(row.id()) {
+        if (!is_plain && is_marked(row.id())) || ends_in_zero(id) {
             let voters = row.election.voters().len().saturating_sub(1);
             let place = u32::try_from(voters).unwrap_or(u32::MAX);
             self.marked.push((place, row.mark))?;
@@ -133,7 +145,7 @@ impl VoteOddities {
     /// Takes a row without a vote, which may be a note if it has an id alone, or one like a note.
     fn take_empty(&mut self, row: &Row<'_>, odd: Odd) {
         self.empty = self.empty.saturating_add(1);
-        let is_note = has_space(row.id()) || has_total(row.id());
+        let is_note = is_note_id(row.id());
         let is_beside = |place: usize| place != odd.id_place && !row.at(place).is_empty();
         let has_more = (0..row.record.len()).any(is_beside);
         if odd.form > 0 || (!is_note && has_more) {
@@ -157,6 +169,8 @@ impl VoteOddities {
         found: &mut Oddities,
     ) -> Result<(), AllocError> {
         let voters = election.voters().len() as u64;
+        found.has_nothing = self.empty > 0 && has_nothing(election);
+        found.are_grouped = self.empty.saturating_mul(2) > voters && are_grouped(election);
         if let Some(odd) = self.left_out {
             if odd.number.saturating_mul(2) <= voters {
                 found.take(odd);
@@ -186,6 +200,10 @@ impl VoteOddities {
             let odd = Odd::of_column(Oddity::VotesWithPoints, self.header, odd.value_place);
             found.take(odd.in_form(1).by(projects));
         }
+        if let (Some(odd), true) = (last, are_lists(self.alloc, election)?) {
+            let odd = Odd::of_column(Oddity::SeveralBallots, self.header, odd.id_place);
+            found.take(odd.in_form(2));
+        }
         self.further.end(election, found)?;
         self.behind.end(self.alloc, found)?;
         self.take_marked(election, found)
@@ -201,12 +219,12 @@ impl VoteOddities {
         for (place, voter) in voters.iter().enumerate() {
             let id = voter.id.text();
             let is_last = place >= above;
-            let is_note = is_last && (has_space(id) || has_total(id));
+            let is_note = is_last && is_note_id(id);
             let form = form_of(self.alloc, id, false)?;
             if !is_last {
                 let _ = forms.insert(self.alloc, form.as_str(), 0)?;
             } else if !is_note && forms.get(form.as_str()).is_some() {
-                return Ok(count > above);
+                return Ok(count > above || is_number_of_rows(election, above, id));
             }
         }
         Ok(true)
@@ -219,15 +237,24 @@ impl VoteOddities {
         }
         let mut ids = IdTable::new(self.alloc);
         for voter in election.voters() {
-            if !is_marked(voter.id.text()) {
+            let id = voter.id.text();
+            if !is_marked(id) && !ends_in_zero(id.as_bytes()) {
                 let _ = ids.insert(self.alloc, voter.id.text(), 0)?;
             }
         }
         for (place, mark) in &self.marked {
             let voter = election.voters().get(*place as usize);
-            let id = voter.map_or("", |voter| without_hidden(voter.id.text()));
-            if let (Some(_), Some((_, part))) = (ids.insert(self.alloc, id, 0)?, self.last_row) {
-                found.take(Odd::of_row(Oddity::HiddenCharacter, *mark, part));
+            let id = voter.map_or("", |voter| voter.id.text());
+            let is_hidden = is_marked(id);
+            let bare = without_hidden(id);
+            let bare = if is_hidden {
+                bare
+            } else {
+                bare.strip_suffix(".0").unwrap_or(bare)
+            };
+            if let (Some(_), Some((_, part))) = (ids.insert(self.alloc, bare, 0)?, self.last_row) {
+                let odd = Odd::of_row(Oddity::HiddenCharacter, *mark, part);
+                found.take(odd.in_form(usize::from(!is_hidden)));
             }
         }
         drop(ids);
@@ -290,9 +317,72 @@ fn is_marked(id: &str) -> bool {
     has_some && without_hidden(id).len() < id.len()
 }
 
+/// Whether an id ends in `.0`, as programs write numbers.
+fn ends_in_zero(id: &[u8]) -> bool {
+    let point = id.len().saturating_sub(2);
+    point > 0 && id.last() == Some(&b'0') && id.get(point) == Some(&b'.')
+}
+
 /// Whether a text has white space in it.
 pub(crate) fn has_space(text: &str) -> bool {
     text.contains(|c: char| c.is_whitespace())
+}
+
+/// Whether an id has white space in it, or a word for a total or a signature.
+fn is_note_id(id: &str) -> bool {
+    has_space(id) || has_total(id) || has_one_of(SIGNED, id)
+}
+
+/// Whether the id of the last row is how many there are above, and they are not numbered up to it: no id of
+/// theirs is as long, or the number before it.
+fn is_number_of_rows(election: &Election, above: usize, id: &str) -> bool {
+    let number = above as u64;
+    if number < FEWEST_ROWS || whole_number(id) != Some(number) {
+        return false;
+    }
+    for voter in election.voters().iter().take(above) {
+        let other = voter.id.text();
+        if other.len() == id.len() || whole_number(other) == Some(number.saturating_sub(1)) {
+            return false;
+        }
+    }
+    above.saturating_add(1) == election.voters().len()
+}
+
+/// Whether a project's id is one that programs read as nothing, and no ballot names it alone.
+fn has_nothing(election: &Election) -> bool {
+    let mut alone = None;
+    for (place, project) in election.projects().iter().enumerate() {
+        if is_one_of(NOTHING, project.id()) {
+            alone = u32::try_from(place).ok();
+        }
+    }
+    let Some(place) = alone else {
+        return false;
+    };
+    let is_it = |vote: &[u32]| matches!(vote, [one] if *one == place);
+    !election
+        .voters()
+        .iter()
+        .any(|voter| is_it(voter.ballot.places()))
+}
+
+/// Whether the first ballot is not empty, and each further one is empty or another than the last that is not.
+fn are_grouped(election: &Election) -> bool {
+    let mut before: &[u32] = &[];
+    let (mut groups, mut is_first) = (0u64, true);
+    for voter in election.voters() {
+        let vote = voter.ballot.places();
+        if (is_first && vote.is_empty()) || (!vote.is_empty() && vote == before) {
+            return false;
+        }
+        is_first = false;
+        if !vote.is_empty() {
+            groups = groups.saturating_add(1);
+            before = vote;
+        }
+    }
+    groups > 1
 }
 
 /// Whether the id of a voter with a vote has white space in it.

@@ -38,6 +38,9 @@ impl<R: Files> Case<'_, R> {
                 "Delete one of the two lines.\n",
             (ReadKind::NoHeader, _) => self.names().add_header,
             (ReadKind::MissingColumn, _) => self.column_remedy(),
+            (ReadKind::EmptyId, Stage::InVotes(_))
+                if self.faulty.is_ballot(ids) && self.faulty.is_slid(self.text) =>
+                "The first voter has no vote, and the last vote no voter: the column `vote` may have slid down by one cell. Compare a few rows with the ballots before you write an id.\n",
             (ReadKind::EmptyId, Stage::InVotes(_)) if self.faulty.is_ballot(ids) =>
                 "The row is a ballot. If it belongs to the voter above, write that voter's id. If it is another voter's, write any id that no other row has.\n",
             (ReadKind::MissingField, _) if self.faulty.is_invisible() =>
@@ -60,6 +63,8 @@ impl<R: Files> Case<'_, R> {
             "Save the file again with the encoding UTF-8, without a byte order mark.\n"
         } else if is_hidden {
             "Delete the invisible character before META, or type META anew.\n"
+        } else if first.contains(|c: char| c == '\u{85}' || c == '\u{2028}') {
+            "The line ends are characters that the program does not read as such. Save the file again with those of Unix or Windows.\n"
         } else if first.starts_with('>') {
             "E-mail programs write `> ` before each line of a reply. Get the file again, as an attachment.\n"
         } else {
@@ -77,9 +82,46 @@ impl<R: Files> Case<'_, R> {
             BY_COLUMN
         } else if is_of_votes && self.faulty.is_by_project() {
             "There is `project_id` in place of `vote`. Look at a ballot before you change anything.\n"
+        } else if self.is_turned() {
+            "The table seems to lie on its side. Exchange its rows and columns, so that each row is one voter or one project.\n"
+        } else if self.has_column_below() {
+            "The other column stands below this one, as in a copy of a page. Get the table again, with the fields of a row beside each other.\n"
         } else {
             self.names().add_column
         }
+    }
+
+    /// Whether the row below these column names begins with the needed one that they lack.
+    fn is_turned(&self) -> bool {
+        let section = section_of(&self.faulty.stage);
+        let is_first = self
+            .faulty
+            .at(0)
+            .eq_ignore_ascii_case(missing(section, false));
+        let below = self.text.row_behind(self.faulty.mark);
+        is_first
+            && self.faulty.record.len() > 1
+            && below.is_some_and(|row| text_at(&row, 0).eq_ignore_ascii_case(missing(
+                section, true,
+            )))
+    }
+
+    /// Whether these column names are one, and the other needed one stands alone in a row below.
+    fn has_column_below(&self) -> bool {
+        let section = section_of(&self.faulty.stage);
+        let first = missing(section, false);
+        let is_first = self.faulty.at(0).eq_ignore_ascii_case(first);
+        let is_one = self.faulty.record.len() == 1;
+        let other = missing(section, is_first);
+        let is_other = |row: &ByteRecord| {
+            row.len() == 1 && text_at(row, 0).eq_ignore_ascii_case(other)
+        };
+        let Some(mut records) = self.text.record_at(self.faulty.mark).filter(|_| is_one) else {
+            return false;
+        };
+        let is_found = records.find(u64::MAX, is_other);
+        drop(records);
+        is_found
     }
 
     /// Puts what is wrong with a record by itself.

@@ -57,7 +57,8 @@ impl<R: Files> Case<'_, R> {
                 &[Own(key.text())],
             );
         }
-        if put_like_key(out, self.text, key.text()) {
+        let is_put = put_like_key(out, self.text, key.text());
+        if is_put || put_apostrophes(out, self.text, seen.last) {
             return;
         }
         let joined = self.text.joined_at(seen.last);
@@ -71,7 +72,9 @@ impl<R: Files> Case<'_, R> {
         }
         let _ = put_mark(out, self.text, self.faulty.mark);
         out.fill(": META has no row for the key `{}`.\n", &[Own(key.text())]);
-        if put_swallowing(out, self.text, seen.swallowing) {
+        if put_swallowing(out, self.text, seen.swallowing)
+            || put_key_elsewhere(out, self.text, key.text())
+        {
             return;
         }
         match joined {
@@ -82,6 +85,23 @@ impl<R: Files> Case<'_, R> {
             None => out.put(remedy),
         }
     }
+}
+
+/// Puts that apostrophes are around the fields of the row with this mark, and what to do; answers whether they
+/// are.
+fn put_apostrophes<R: Files>(out: &mut WordsWriter, text: &Text<R>, mark: Mark) -> bool {
+    let is_so = |field: &str| {
+        field.len() > 1 && field.starts_with('\'') && field.ends_with('\'')
+    };
+    let row = text.row_at(mark);
+    let are_so = row.is_some_and(|row| is_so(text_at(&row, 0)));
+    if are_so {
+        let _ = put_mark(out, text, mark);
+        out.put(
+            ": apostrophes are around the fields, which are read as part of them.\nWrite a quotation mark (`\"`) in place of each.\n",
+        )
+    }
+    are_so
 }
 
 /// Which key META lacks, that of the budget or another, and what to do.
@@ -155,6 +175,23 @@ fn put_like_key<R: Files>(out: &mut WordsWriter, text: &Text<R>, key: &'static s
     }
     drop(records);
     has_one
+}
+
+/// Puts which row has this key in another section, and what to do; answers whether one has it.
+fn put_key_elsewhere<R: Files>(out: &mut WordsWriter, text: &Text<R>, key: &'static str) -> bool {
+    let Some(mut records) = text.records_from(Mark::start()) else {
+        return false;
+    };
+    let is_it = |row: &ByteRecord| row.len() > 1 && text_at(row, 0).eq_ignore_ascii_case(key);
+    let is_found = records.find(u64::MAX, is_it);
+    if is_found {
+        out.fill(
+            "The row on line {} has this key, in another section. If it is not a project or a voter, move it into META.\n",
+            &[Number(line_of(text, records.mark()))],
+        );
+    }
+    drop(records);
+    is_found
 }
 
 /// Whether a row of META has this key and more.

@@ -10,7 +10,13 @@ use pb_witness::changed::{
 };
 
 /// What to do about an amount with a word for thousands or millions, and about one with a mark of a footnote.
-const SHORT_WORDS: &str = "k|t|m|tys|tys.|tsd|tsd.|mln|mio|mio.|thousand|million";
+const SHORT_WORDS: &str =
+    "k|t|m|tys|tys.|tsd|tsd.|mln|mio|mio.|thousand|million|lakh|crore|千|万|萬|億|亿|천|만|억";
+
+/// What may stand behind an amount and is a currency.
+const CURRENCIES: &str =
+    "zł|zl|pln|eur|euro|euros|usd|dollars|gbp|pounds|chf|czk|kč|kc|huf|ft|sek|nok|dkk|kr|ron|lei|bgn|лв|uah|грн|rub|руб|\
+    jpy|円|cny|元|krw|원|inr|rs|brl|reais|mxn|pesos|idr|cve";
 
 /// Words beside an amount that may not be the whole cost, and beside one that is.
 const PARTS: &str =
@@ -32,9 +38,15 @@ fn has_cents(value: &str) -> bool {
 }
 
 /// Whether a value is an amount with a minus sign before or behind it, or in brackets, as some programs write
-/// it.
+/// it, perhaps with a currency.
 fn is_below_0(value: &str) -> bool {
     let is_minus = |c: char| "-\u{2212}\u{2013}".contains(c);
+    let front = value.trim_start_matches(|c: char| "€$£ ".contains(c));
+    let value = if front.starts_with(|c: char| c == '(' || is_minus(c)) {
+        front.trim_end_matches(|c: char| c.is_alphabetic() || "€$£. ".contains(c))
+    } else {
+        value
+    };
     let is_signed = value.starts_with(is_minus) || value.ends_with(is_minus);
     let is_in_brackets = value.starts_with('(') && value.ends_with(')');
     let bare = value.trim_matches(|c: char| is_minus(c) || "() ".contains(c));
@@ -44,6 +56,12 @@ fn is_below_0(value: &str) -> bool {
         && bare.ends_with(is_digit)
         && !bare.contains(is_other);
     is_amount && (is_signed || is_in_brackets)
+}
+
+/// Whether a text is letters alone, if a point at its end is left out.
+fn is_word(text: &str) -> bool {
+    let word = text.trim_end_matches('.');
+    !word.is_empty() && !word.contains(|c: char| !c.is_alphabetic())
 }
 
 /// What to do about an amount.
@@ -68,6 +86,11 @@ pub(crate) fn amount_remedy(value: &str) -> &'static str {
         "If this stands for thousands or millions, write the amount in full, with digits only, like `1200` or `1200.50`.\n"
     } else if has_one_of(PARTS, value) && !has_one_of(WHOLES, value) {
         "A word beside the amount may say that it is not the whole cost, but one without tax, for a year or a piece, or a limit. Ask for the whole cost, with tax, and write it with digits only, like `1200` or `1200.50`.\n"
+    } else if !is_one_of(CURRENCIES, unit.trim_end_matches('.'))
+        && is_word(unit)
+        && unit.len() < value.len()
+    {
+        "If the word beside the number multiplies it, as thousands do, write the amount in full. If not, leave the word out: write digits only, like `1200` or `1200.50`.\n"
     } else if is_noted {
         "If a mark of a footnote is behind the amount, leave it out. Write the amount with digits only, like `1200` or `1200.50`.\n"
     } else {

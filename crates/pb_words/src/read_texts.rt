@@ -19,8 +19,8 @@ Add the row of column names below the section's heading.\n",
     "a needed column is missing in the row of column names.
 PROJECTS needs the columns `project_id` and `cost`; VOTES needs `voter_id` and `vote`.\n",
     "the row has no field for a needed column.
-Complete the row, or delete it if it does not belong here. If a voter approves no project, leave the field \
-    empty, but keep its `;`.\n",
+Find out what belongs there, and complete the row, or delete it if it does not belong here. If a voter chose \
+    nothing, leave the field empty, but keep its `;`.\n",
     "META has no row for `budget`, or none for `vote_type`.
 Add the row that is missing: `budget;AMOUNT`, or `vote_type;approval` (only if the votes are approval \
     votes).\n",
@@ -28,8 +28,8 @@ Add the row that is missing: `budget;AMOUNT`, or `vote_type;approval` (only if t
 If voters only tick projects, without ranks or points, write `vote_type;approval`. If not, this program \
     can't count the file.\n",
     "an amount is missing, or is not one that the program can read.
-Write the amount with digits only, like `1200` or `1200.50`: no currency, no minus sign, nothing between \
-    thousands.\n",
+Find out the whole amount, and write it with digits only, like `1200` or `1200.50`: no currency, no minus sign, \
+    nothing between thousands.\n",
     "an amount has more than two decimals.
 If the point or comma separates thousands, delete it. If not, round the amount to two decimals.\n",
     "an amount is more than 10,000,000,000,000.00, the largest that the \
@@ -40,7 +40,8 @@ Write the project's cost. If the project was withdrawn, delete its row, and take
     "an id is empty.
 Fill in the id, or delete the row if it is a total or a note.\n",
     "an earlier row has the same project id.
-Find out whether the rows are one project or two. Two projects need two ids, also in the votes.\n",
+Find out whether the rows are one project or two. Two projects need two ids, also in the votes. One project needs \
+    one row, with its whole cost.\n",
     "an earlier row has the same voter id.
 Find out whether the rows are one ballot, those of different people, or which of them is valid.\n",
     "the vote names an id that no project has.

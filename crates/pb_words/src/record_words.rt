@@ -174,6 +174,11 @@ impl<R: Files> Case<'_, R> {
         if self.faulty.is_split() {
             return self.put_split(out);
         }
+        if self.faulty.is_padded(self.text) {
+            return out.put(
+                "The lines end in commas, which a spreadsheet may have put there. Delete the commas at the line ends.\n",
+            );
+        }
         if self.faulty.separators().is_some() {
             out.put(match self.text.joined_behind(self.faulty.mark) {
                 Some(_) => VOTE,
@@ -216,6 +221,12 @@ impl<R: Files> Case<'_, R> {
             out.put(
                 "This may be the rest of the vote in the row above, which ends in a comma. If so, put it there. If it is a voter's id, write `;` behind it.\n",
             )
+        } else if let Some(sign) = self.joined_vote() {
+            put_joined_vote(out, sign)
+        } else if self.faulty.record.len() == 1 && self.faulty.at(0).starts_with('{') {
+            out.put(
+                "This row seems to be JSON. Get the rows again, with their fields in the order of the column names, and `;` between them.\n",
+            )
         } else if let Some(half) = self.faulty.half(self.text) {
             out.fill(
                 "This row and the one on line {} may be one row, cut by a line break in a text. If so, join them.\n",
@@ -226,7 +237,7 @@ impl<R: Files> Case<'_, R> {
             out.put(if is_tabs {
                 "Tabs separate the fields of this row. Write `;` in place of each.\n"
             } else {
-                "Commas separate the fields of this row. Write `;` between them, but keep the commas between the ids of a vote.\n"
+                "Look whether the first comma stands for `;`. If so, commas separate the fields of this row: write `;` between them, but keep the commas between the ids of a vote.\n"
             })
         } else if self.faulty.is_line_of_words() {
             out.put(
@@ -240,6 +251,13 @@ impl<R: Files> Case<'_, R> {
             return false;
         }
         true
+    }
+
+    /// What stands between a voter and a vote that are one field, if it is neither `;` nor a tab.
+    fn joined_vote(&self) -> Option<&str> {
+        let is_other = |c: char| c == ';' || c == '\t';
+        let sign = self.faulty.joined_vote(self.text, &self.known.witness.ids)?;
+        (!sign.contains(is_other)).then_some(sign)
     }
 
     /// Puts that a row has more fields than there are column names, and what to do.
@@ -287,5 +305,30 @@ impl<R: Files> Case<'_, R> {
             None => out.put(end_remedy(&self.faulty.stage)),
         }
         true
+    }
+}
+
+/// Signs that look like `;`, with their numbers.
+const LIKE_SEMICOLON: [(&str, &str); 3] = [
+    ("\u{37e}", "U+037E"),
+    ("\u{ff1b}", "U+FF1B"),
+    ("\u{61b}", "U+061B"),
+];
+
+/// Puts what stands between a voter and a vote in place of `;`, and what to do.
+fn put_joined_vote(out: &mut WordsWriter, sign: &str) {
+    let alike = LIKE_SEMICOLON.iter().find(|(it, _)| *it == sign);
+    match (alike, sign) {
+        (Some((_, number)), _) => out.fill(
+            "Between the voter's id and the vote stands {}, which looks like `;`. Write `;` in its place, and leave the commas.\n",
+            &[Own(number)],
+        ),
+        (None, "") => out.put(
+            "If a `;` is missing between the voter's id and the vote, write it there, and leave the commas. If the row is a voter's id alone, write `;` behind it.\n",
+        ),
+        (None, _) => out.fill(
+            "Between the voter's id and the vote stands {} in place of `;`. Write `;` there, and leave the commas.\n",
+            &[Quoted(sign)],
+        ),
     }
 }

@@ -70,40 +70,19 @@ impl<R: Files> Case<'_, R> {
     /// Puts what to do about a row with the id of an earlier one, for this reason.
     fn put_repeated_remedy(&self, out: &mut WordsWriter, repeat: Repeat, kind: ReadKind) {
         let is_voter = kind == ReadKind::RepeatedVoter;
-        let remedy = match repeat {
-            Repeat::Conflict =>
-                "The file has marks of a merge conflict, so these may be two versions of one row. Ask which is right, and keep that one alone.\n",
-            Repeat::Shortened if is_voter =>
-                "A spreadsheet shortened the ids, so no voter can be told from another. Get the ids of the voters again, as text.\n",
-            Repeat::Shortened =>
-                "A spreadsheet shortened the ids, so no project can be told from another. Get the ids again, as text, in the votes too.\n",
-            Repeat::Nothing =>
-                "Programs write this where a value is missing: these rows have no ids. Get the ids again, as text.\n",
-            Repeat::ByProject => BY_PROJECT,
-            Repeat::Apart => return self.put_apart(out),
-            Repeat::OtherPeople =>
-                "META counts all rows (`num_votes`), so these may be different people whose ids were used twice. If they are, give each of them an id of its own.\n",
-            Repeat::OneId =>
-                "These rows have the same id. If they are different people, give each of them an id of its own.\n",
-            Repeat::Log =>
-                "The rows seem to be a log, which says what was done to each vote. Get the votes as they are at its end: a row may take a vote away.\n",
-            Repeat::Times =>
-                "The rows have different times. If a later vote replaces an earlier one, keep the later row. If not, find out whether they are one ballot, or those of different people.\n`pb_clean {} -o NEW.pb --repeated-voters last` keeps the row of each voter that stands last in the file, `merge` makes one ballot of the rows, `distinct` makes different voters.\n",
-            Repeat::Copy if self.repeats_otherwise() =>
-                "The rows are the same, but other ids repeat with other votes. What is true of those rows is probably true of these.\n",
-            Repeat::Copy if is_voter && self.known.repeated_for(self.text, repeat).count > 1 =>
-                "Each of these rows is a copy of an earlier one. Delete the copies.\n",
-            Repeat::Copy if is_voter =>
-                "The two rows are the same. If they are one person's, delete one of them.\n",
-            Repeat::Copy => "The two rows are the same. Delete one of them.\n",
-            Repeat::Unknown => {
-                out.put(words_of(kind).1);
-                ""
-            }
-        };
-        out.fill(remedy, &[Name(self.text.path)]);
         match repeat {
-            Repeat::OtherPeople | Repeat::OneId => {
+            Repeat::Apart => return self.put_apart(out),
+            Repeat::Copy if self.repeats_otherwise() => out.put(
+                "The rows are the same, but other ids repeat with other votes. What is true of those rows is probably true of these.\n",
+            ),
+            Repeat::Copy if is_voter && self.known.repeated_for(self.text, repeat).count > 1 => {
+                out.put("Each of these rows is a copy of an earlier one. Delete the copies.\n")
+            }
+            Repeat::Unknown => out.put(words_of(kind).1),
+            _ => out.fill(remedy_of(repeat, is_voter), &[Name(self.text.path)]),
+        }
+        match repeat {
+            Repeat::OtherPeople | Repeat::OneId | Repeat::TimeId => {
                 put_clean(out, self.text, " --repeated-voters distinct")
             }
             Repeat::Unknown if is_voter => out.fill(
@@ -112,5 +91,34 @@ impl<R: Files> Case<'_, R> {
             ),
             _ => {}
         }
+    }
+}
+
+/// What to do about a row with the id of an earlier one, for this reason, with the file's name in place of `{}`.
+fn remedy_of(repeat: Repeat, is_voter: bool) -> &'static str {
+    match repeat {
+        Repeat::Conflict =>
+            "The file has marks of a merge conflict, so these may be two versions of one row. Ask which is right, and keep that one alone.\n",
+        Repeat::Shortened if is_voter =>
+            "A spreadsheet shortened the ids, so no voter can be told from another. Get the ids of the voters again, as text.\n",
+        Repeat::Shortened =>
+            "A spreadsheet shortened the ids, so no project can be told from another. Get the ids again, as text, in the votes too.\n",
+        Repeat::Nothing =>
+            "Programs write this where a value is missing: these rows have no ids. Get the ids again, as text.\n",
+        Repeat::ByProject => BY_PROJECT,
+        Repeat::OtherPeople =>
+            "META counts all rows (`num_votes`), so these may be different people whose ids were used twice. If they are, give each of them an id of its own.\n",
+        Repeat::OneId =>
+            "These rows have the same id. If they are different people, give each of them an id of its own.\n",
+        Repeat::TimeId =>
+            "The id looks like a time, at which several people may vote. If the rows are one person's, find out which is valid. If they are different people, give each of them an id of its own.\n",
+        Repeat::Log =>
+            "The rows seem to be a log, which says what was done to each vote. Get the votes as they are at its end: a row may take a vote away.\n",
+        Repeat::Times =>
+            "The rows have different times. If a later vote replaces an earlier one, keep the later row. If not, find out whether they are one ballot, or those of different people.\n`pb_clean {} -o NEW.pb --repeated-voters last` keeps the row of each voter that stands last in the file, `merge` makes one ballot of the rows, `distinct` makes different voters.\n",
+        Repeat::Copy if is_voter =>
+            "The two rows are the same. If they are one person's, delete one of them. If they are two people's, give one of them another id.\n",
+        Repeat::Copy => "The two rows are the same. Delete one of them.\n",
+        Repeat::Apart | Repeat::Unknown => "",
     }
 }

@@ -64,7 +64,7 @@ fn remedy_of(cause: Cause) -> &'static str {
             "Programs write this where a value is missing. If the voter approves no project, leave the field empty.\n",
         Cause::Beside => "Programs write this where a value is missing. Take it out of the vote.\n",
         Cause::Places =>
-            "This is beside other ids, so the votes may name places in the list of projects, counted from 0. Get the votes again, with the ids of the projects.\n",
+            "This is beside other ids. If the votes name places in the list of projects, counted from 0, get them again, with the ids of the projects. If 0 fills up a vote for fewer projects, take it out.\n",
         Cause::Columns => BY_COLUMN,
         Cause::Tick =>
             "This says yes or no, but not of which project. Get the ids that the voter approves.\n",
@@ -76,7 +76,7 @@ fn remedy_of(cause: Cause) -> &'static str {
         Cause::OtherForm =>
             "No id in PROJECTS has this form. Ask whoever made the file what it means.\n",
         Cause::More =>
-            "This is an id with something beside it. If that says that the project is not approved, or that the vote does not count, ask whoever made the file. If not, write only ids in a vote, with `,` between them. Points and ranks are no approvals: this program can't count them.\n",
+            "This is an id with something beside it. Find out what the voter chose (look at the ballot, or ask whoever made the file), and write these ids, with `,` between them. Points and ranks are no approvals: this program can't count them.\n",
         Cause::ChangedProject => "Get the projects again, with their ids as text.\n",
         Cause::Several =>
             "Several projects have almost this id, or this name. Ask whoever made the file which of them is meant.\n",
@@ -95,13 +95,23 @@ fn list_remedy(cause: Cause) -> &'static str {
         Cause::Coded =>
             "No vote of the file names a project, and some end with `=`: the votes may be coded, as in base64. Get them again, with the ids of the projects.\n",
         Cause::Range =>
-            "This may be a range of ids, or two ids. Look at the voter's ballot, and write all ids that are meant, with `,` between them.\n",
+            "This may be a range of ids, several ids, one in place of another, or an id with points, which this program can't count. Look at the voter's ballot, and write all ids that are meant, with `,` between them.\n",
         Cause::Joined =>
-            "A word stands between the ids. It may say `and`, `or` or `not`. Look at the voter's ballot, or ask whoever made the file.\n",
+            "A word stands between the ids. It may say `and`, `or`, `to` or `not`. Look at the voter's ballot, or ask whoever made the file.\n",
         Cause::Keycaps =>
             "These are signs of a phone's keys. Write only the ids, with `,` between them.\n",
         Cause::Php =>
             "This looks like a list as PHP writes it. Get the votes again, with the ids of the projects.\n",
+        Cause::CutOff =>
+            "This seems to be cut off, as programs show long texts, and what is left may be a part of an id. Get the votes again, whole.\n",
+        Cause::Kept =>
+            "The project {} on line {} differs only by zeros before a number, but other votes have these zeros, so a program may have made this id of another one. Look at a ballot, or get the votes again, as text. If it is meant, write its id in the vote.\n",
+        Cause::Signs =>
+            "This may have a sign for each project, in the order of PROJECTS, which is the id where the voter approves it. If so, write only these ids, with `,` between them.\n",
+        Cause::Run =>
+            "If these are several ids whose commas are lost, get the votes again, as text. If it is the id of a project that was withdrawn, take it out of the votes.\n",
+        Cause::Percent =>
+            "Codes such as `%2C` stand for other characters here (this one for a comma), as in the address of a web page. Decode all of them, or get the votes again.\n",
         Cause::Mail =>
             "This ends with `=`, as e-mail programs break long lines. Get the file again, as an attachment.\n",
         Cause::NamesAgain => "If this line has the column names again, delete it.\n",
@@ -159,6 +169,20 @@ fn clean_of(place: &UnknownPiece) -> Option<&'static str> {
         Cause::Alike(Hidden, true) if without_hidden(project) == vote => Some(""),
         _ => None,
     }
+}
+
+/// Whether `pb_clean` mends a vote that is refused for this cause, without an option, or tells another fault.
+fn is_mended(cause: Cause) -> bool {
+    matches!(
+        cause,
+        Cause::Bars
+            | Cause::Brackets
+            | Cause::Quotes
+            | Cause::PointZero
+            | Cause::NamesAgain
+            | Cause::LeftOut
+            | Cause::Alike(Hidden, _)
+    )
 }
 
 /// Where words say that an id is unknown, and what they say there.
@@ -232,17 +256,15 @@ impl<R: Files> Case<'_, R> {
                 return out.put(remedy);
             }
             Cause::Cut => out.fill(remedy, &[Number(place.line)]),
-            Cause::Swallowed => {
-                let _ = put_swallowing(out, self.text, place.mark);
-            }
-            Cause::Alike(how, false) if how != Hidden => out.fill(
-                "The project {} on line {} {}. If it is meant, write its id in the vote.\n",
-                &[
-                    Quoted(place.project),
-                    Number(place.line),
-                    Own(difference(how)),
-                ],
+            Cause::Swallowed if put_swallowing(out, self.text, place.mark) => {}
+            Cause::Swallowed => out.fill(
+                "The row on line {} may be this project. Correct that line first.\n",
+                &[Number(place.line)],
             ),
+            Cause::Alike(how, false) if how != Hidden => put_alike(out, &place, how),
+            Cause::Kept if place.id.contains(|c: char| !c.is_ascii_digit()) => {
+                put_alike(out, &place, Zeros)
+            }
             _ => out.fill(remedy, &[Quoted(place.project), Number(place.line)]),
         }
         match clean_of(&place) {
@@ -250,9 +272,19 @@ impl<R: Files> Case<'_, R> {
                 "The numbers of unknown ids follow each other from row to row. A spreadsheet may have continued a series: then get the votes again.\n",
             ),
             Some(DROP_UNKNOWN) if self.known.witness.rows.would_empty() => {}
+            Some("") if !self.mends_all() => {}
             Some(options) => put_clean(out, self.text, options),
             None => {}
         }
+    }
+
+    /// Whether `pb_clean` mends all votes that are refused for an unknown id, without an option.
+    fn mends_all(&self) -> bool {
+        let mut refused = self.known.witness.refused.iter();
+        refused.all(|it| match self.known.cause_of(it.piece()) {
+            Some(found) => is_mended(found.cause),
+            None => true,
+        })
     }
 
     /// Puts what the row of a vote shows of why its ids are unknown, and what to do; answers whether it shows
@@ -273,6 +305,11 @@ impl<R: Files> Case<'_, R> {
                 "The row on line {}, below the heading VOTES, looks like this project. Correct that line first.\n",
                 &[Number(line_of(self.text, mark))],
             )
+        } else if let Some(mark) = self.in_project(self.faulty.piece()) {
+            out.fill(
+                "The row of PROJECTS on line {}, which has a fault, has this id in another column: its fields may be in another order. Correct that line first.\n",
+                &[Number(line_of(self.text, mark))],
+            )
         } else if let Some((moved, place)) = self.moved_of() {
             self.put_moved(out, moved, place)
         } else {
@@ -285,6 +322,14 @@ impl<R: Files> Case<'_, R> {
     fn late_row(&self, id: &str) -> Option<Mark> {
         let mut refused = self.known.witness.refused.iter();
         let found = refused.find(|it| it.id() == id && it.is_like_project(self.text))?;
+        Some(found.mark)
+    }
+
+    /// Where a row of PROJECTS was refused that has this id in one of its fields.
+    fn in_project(&self, id: &str) -> Option<Mark> {
+        let mut refused = self.known.witness.refused.iter();
+        let has_it = |it: &FaultyRecord| (0..it.record.len()).any(|place| it.at(place) == id);
+        let found = refused.find(|it| it.is_of_projects() && has_it(it))?;
         Some(found.mark)
     }
 
@@ -397,6 +442,18 @@ impl<R: Files> Case<'_, R> {
         }
         out.put("\n");
     }
+}
+
+/// Puts which project has an id that is alike, how it differs, and what to do.
+fn put_alike(out: &mut WordsWriter, place: &UnknownPiece, how: Difference) {
+    out.fill(
+        "The project {} on line {} {}. If it is meant, write its id in the vote.\n",
+        &[
+            Quoted(place.project),
+            Number(place.line),
+            Own(difference(how)),
+        ],
+    )
 }
 
 /// Puts the lines of several rows, or of the first.

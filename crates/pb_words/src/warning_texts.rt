@@ -7,6 +7,16 @@ pub(crate) const BESIDE_DECIMALS: &str =
     "Other amounts have decimals. If the point or comma separates thousands here, \
     delete it where three digits follow it, and nowhere else. Otherwise write two decimals.\n";
 
+/// What to do about an empty ballot where an id is read as nothing, and no ballot names it alone.
+pub(crate) const READ_AS_NOTHING: &str =
+    "A project has an id that programs read as nothing, such as `NA`, and no ballot names it alone. Get the votes \
+    again, with their ids as text. Don't delete the row before that.\n";
+
+/// What to do about an empty ballot where most are empty, and no vote is that of the row above.
+pub(crate) const AS_ABOVE: &str =
+    "Most ballots are empty. If equal votes were written once, an empty field means the vote above: get the table again. \
+    Don't delete the row before that.\n";
+
 /// What is said of a row without a vote in which another field seems to be it.
 const STRAY_VOTE: &str = "the vote is empty, but {value} stands in column {column}
 the vote is empty, but another field of the row names projects
@@ -128,10 +138,14 @@ It is counted as a project. If it is a total, delete the row. If not, give it an
     &[
         "the column `votes` says {value}, but the number of vote rows that name the project is {number}
 the column `votes` is wrong: the number of vote rows that name the project is {number}
-If rows are missing, get the whole file again. Correct the number only if you know that every row is here.",
+If rows are missing, get the whole file again. Correct the number only if you know that every row is here, \
+    and that the ids of the votes are those of the projects.",
         "the number of ballots for it is {number}, and `min_project_score_threshold` asks for {limit}. The key is ignored
 a project has fewer ballots than `min_project_score_threshold` asks for. The key is ignored
 If your rules do not allow the project to win, take its row out, and its id out of the votes.",
+        "the column `votes` says {value}, but the number of vote rows that name the project is {number}. The sum of all is right
+the column `votes` is wrong: the number of vote rows that name the project is {number}. The sum of all is right
+The ids in the votes may have been changed. Get the votes again, and don't correct the numbers before that.",
     ],
     &[
         "the column `selected` says {value}, but by this count it is {number}
@@ -169,7 +183,7 @@ Write `key;value` on a line of its own above it.",
         "{value}, in column {column}, names a project too, but is not counted. This concerns {rows}
 a later column names a project too, but is not counted. This concerns {rows}
 If the voters chose these projects too, write all ids of a voter into the column `vote`, with `,` between them. If \
-    not, give the column the name `comment`.",
+    these are corrected votes, write them in place of the old ones. If neither, give the column the name `comment`.",
         "the vote is empty, but {value} stands in column {column}. This concerns {rows}
 the vote is empty, but another field of the row names projects. This concerns {rows}
 If the voter chose these projects, write their ids into the column `vote`.",
@@ -219,6 +233,16 @@ If the costs are in different currencies, write all of them in that of the budge
         "the name {value} may say that it is withdrawn. It is counted. This concerns {projects}
 the name of a project may say that it is withdrawn. It is counted. This concerns {projects}
 If the project was withdrawn, take its row out, and its id out of the votes. If not, take the word out of its name.",
+        "{value} differs from line {line} in column {column}. The column is ignored: every row is counted
+a column says of which round a vote is. The column is ignored: every row is counted
+If these are votes of several rounds, make a file for each round.",
+        "{value}, in column {column}, names another project. The column is ignored: both can win
+a column of PROJECTS names other projects. The column is ignored: all of them can win
+If only one of the two may win, or one needs the other, this program can't count the file by your rules. If not, \
+    give the column the name `comment`.",
+        "{value}, in column {column}, names another row. The column is ignored: both rows are counted
+a column of VOTES names other rows. The column is ignored: all rows are counted
+If one row replaces the other, delete the row that is replaced. If not, give the column the name `comment`.",
     ],
     &[
         "{value} is not counted: all projects share the amount of the key `budget`
@@ -239,6 +263,9 @@ If it is a vote, move it below VOTES.",
         "this id begins or ends with an invisible character. Without it, the id is another row's, so the voter is counted twice
 a voter's id begins or ends with an invisible character. Without it, the id is another row's, so the voter is counted twice
 Delete it, or type the id anew.",
+        "this id ends in `.0`, as programs write numbers. Without it, the id is another row's, so the voter may be counted twice
+a voter's id ends in `.0`, as programs write numbers. Without it, the id is another row's, so the voter may be counted twice
+If it is the same voter, keep the row that your rules count. If not, give the voter another id.",
     ],
     &[
         "all projects together cost {sum}, which is less than a hundredth of it
@@ -252,5 +279,8 @@ If a row stands for several ballots, write a row for each of them, with an id of
         "{value} stands in column {column} of an earlier row too. This concerns {rows}
 a column of numbers such as that of a card has one more than once. This concerns {rows}
 Check whether one person is counted twice. If so, keep the ballot that your rules count. If not, correct the number.",
+        "each row names another project, and its ids are lists: rows may be the voters of a project, and no ballots
+each row names another project, and the ids of voters are lists: rows may be the voters of a project, and no ballots
+If so, write a row for each voter, with all projects of this voter. If not, write the ids without commas.",
     ],
 ];

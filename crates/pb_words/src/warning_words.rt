@@ -2,7 +2,7 @@
 
 use crate::mark_words::CLOSE_IT;
 use crate::prelude::*;
-use crate::warning_texts::{BESIDE_DECIMALS, TEXTS};
+use crate::warning_texts::{AS_ABOVE, BESIDE_DECIMALS, READ_AS_NOTHING, TEXTS};
 use pb_core::money::Money;
 use pb_read::Oddity;
 use pb_rounds::rule::Rule;
@@ -156,6 +156,10 @@ fn put_odd<R: Files>(out: &mut WordsWriter, text: &Text<R>, odd: &Odd, oddities:
         ),
         _ if is_length && put_all_break(out, odd, oddities) => {}
         (None, Oddity::ThousandsMark) if oddities.has_decimals => out.put(BESIDE_DECIMALS),
+        (None, Oddity::EmptyBallot) if odd.form == 0 && oddities.has_nothing => {
+            out.put(READ_AS_NOTHING)
+        }
+        (None, Oddity::EmptyBallot) if odd.form == 0 && oddities.are_grouped => out.put(AS_ABOVE),
         _ => {
             put_text(out, text, odd, (remedy, None));
             out.put("\n");
