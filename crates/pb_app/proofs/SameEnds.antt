@@ -3,7 +3,8 @@ use Rattle.std.proofs.Common.{◌≡◌, ◌≢◌, ◌∙◌, ◌++◌, ℕ, Li
 use Rattle.std.specs.Prelude.{◌⊎◌, IfSome}
 use Rattle.pb_core.specs.Election.{ElectionView}
 use Rattle.pb_read.specs.declared.warning.Warning.{Warning}
-use Rattle.pb_commands.specs.Ends.{Ends, HasWritten, IfBothKnown}
+use Rattle.pb_commands.specs.Ends.{Ends, IfBothKnown}
+use Rattle.pb_commands.specs.Inner.Written.{HasWritten}
 use Rattle.pb_commands.proofs.Endings.{given, known_map, memory_end, passed_on}
 use Rattle.pb_app.specs.Inner.Page.{FirstDiffers}
 use Rattle.pb_faults.specs.declared.fault.AppFault.{AppFault}

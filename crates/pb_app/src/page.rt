@@ -2,7 +2,7 @@
 
 ghost use Rattle.std.specs.Prelude.{◌≡◌, ◌≢◌, IfErr, OnOk};
 ghost use Rattle.pb_core.specs.Election.{ElectionView};
-ghost use Rattle.pb_commands.specs.Ends.{HasWritten};
+ghost use Rattle.pb_commands.specs.Inner.Written.{HasWritten};
 ghost use Rattle.pb_app.specs.Inner.Page.{IfDiffers, IsPageBy};
 
 use crate::command_run::CommandRun;

@@ -3,7 +3,8 @@
 ghost use Rattle.std.specs.Prelude.{OnOk};
 ghost use Rattle.pb_core.specs.Election.{ElectionView};
 ghost use Rattle.pb_commands.specs.Closed.{CountRefuses, Gives};
-ghost use Rattle.pb_commands.specs.Ends.{HasWritten, Runs, known};
+ghost use Rattle.pb_commands.specs.Ends.{Runs, known};
+ghost use Rattle.pb_commands.specs.Inner.Written.{HasWritten};
 ghost use Rattle.pb_app.specs.Inner.Page.{IsPageBy};
 
 use crate::keeping_watch::KeepingWatch;

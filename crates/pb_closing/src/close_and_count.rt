@@ -1,7 +1,6 @@
 //! From a shared desk to its winners: its clerks come back, and where it is shut its ballots are counted.
 
-ghost use Rattle.std.specs.Prelude.{◌≡◌, ◌≢◌, ℕ, All, IfErr};
-ghost use Rattle.pb_shared.specs.Clerk.{AreAll};
+ghost use Rattle.std.specs.Prelude.{◌≡◌, ◌≢◌, ◌<◌, ℕ, map, All, Contains, IfErr};
 ghost use Rattle.pb_closing.specs.Closed.{ComesTo, IsClosedAs};
 
 use crate::close_fault::CloseFault;
@@ -34,7 +33,8 @@ pub fn close_and_count<T: Threads + Sync>(
     ensures closed { IsClosedAs shared clerks.items options.now result }
 
     // With all clerks handed back the lock is never the reason.
-    ensures all { AreAll shared clerks.items
+    ensures all { ((number : ℕ) → number < shared.clerks
+        → Contains (map (λ c. c.sheet.number) clerks.items) number)
         → IfErr result (λ fault. (word : ℕ) → fault ≢ CloseFault.Unfinished word) }
 {
     match shared.finish(clerks) {

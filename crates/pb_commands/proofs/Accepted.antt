@@ -24,7 +24,7 @@ use Rattle.pb_rounds.specs.declared.rule.Rule.{Rule}
 use Rattle.pb_rows.specs.Reading.{records_of}
 use Rattle.pb_commands.specs.Inner.Counted.{IsTold}
 use Rattle.pb_commands.specs.Closed.{Gives}
-use Rattle.pb_commands.specs.Ends.{IsOutsideFault}
+use Rattle.pb_commands.specs.Inner.Outside.{IsOutsideFault}
 use Rattle.pb_faults.specs.Fault.{merged}
 use Rattle.pb_commands.specs.Report.{report_of}
 use Rattle.pb_commands.specs.Tables.{IsTableOf, table_of}

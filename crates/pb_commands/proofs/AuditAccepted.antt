@@ -25,7 +25,7 @@ use Rattle.pb_commands.specs.Inner.Audited.{IsRefusedDesk}
 use Rattle.pb_commands.specs.Inner.Counted.{IsTold}
 use Rattle.pb_commands.specs.Report.{report_of}
 use Rattle.pb_commands.specs.declared.demand.Demand.{Demand}
-use Rattle.pb_commands.specs.Ends.{IsOutsideFault}
+use Rattle.pb_commands.specs.Inner.Outside.{IsOutsideFault}
 use Rattle.pb_faults.specs.Fault.{merged}
 use Rattle.pb_faults.specs.declared.fault.AppFault.TheVariants.{Audit, Count}
 use Rattle.pb_commands.proofs.Accepted.{count_from_outside, one_report}

@@ -1,7 +1,7 @@
 -- A file and a journal have one text of each table of their desk.
 use Rattle.std.proofs.Common.{◌≡◌, ℕ, List, sym, ◌∙◌, ap}
 use Rattle.pb_desk.specs.Desk.{DeskView}
-use Rattle.pb_commands.specs.Ballots.{BallotsWrites}
+use Rattle.pb_commands.specs.Inner.Ballots.{BallotsWrites}
 use Rattle.pb_commands.proofs.AuditAccepted.{one_desk}
 
 -- a file and a journal have one table

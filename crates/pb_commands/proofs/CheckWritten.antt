@@ -5,7 +5,7 @@ use Rattle.pb_read.specs.declared.warning.WarningRow.{WarningRow}
 use Rattle.pb_rows.specs.Writing.{text_of_rows}
 use Rattle.pb_commands.proofs.RowsGrown.{rows_grown}
 use Rattle.pb_commands.specs.Checked.{IsTextOfCheck, warning_row}
-use Rattle.pb_commands.specs.Ends.{HasWritten}
+use Rattle.pb_commands.specs.Inner.Written.{HasWritten}
 use Rattle.pb_commands.specs.Inner.Checked.{fault_row}
 
 -- the rows of faults, and then those of warnings

@@ -12,7 +12,8 @@ use Rattle.pb_commands.proofs.Accepted.{count_again, count_from_outside}
 use Rattle.pb_commands.proofs.Endings.{Bars, FailsAs, IsElectionFile, IsLate, given_end, known_map, late_end, passed_on}
 use Rattle.pb_commands.proofs.InputEnds.{file_of, one_left}
 use Rattle.pb_commands.specs.Closed.{CountRefuses, Gives, Leaves, LeavesNone}
-use Rattle.pb_commands.specs.Ends.{Ends, IfBothKnown, IsOutsideFault}
+use Rattle.pb_commands.specs.Ends.{Ends, IfBothKnown}
+use Rattle.pb_commands.specs.Inner.Outside.{IsOutsideFault}
 use Rattle.pb_faults.specs.Fault.{merged}
 use Rattle.pb_faults.specs.declared.fault.AppFault.{AppFault}
 use Rattle.pb_faults.specs.declared.fault.AppFault.TheVariants.{Count, OpenDesk, Write}

@@ -11,7 +11,8 @@ use Rattle.pb_script.proofs.ScriptForms.{not_both}
 use Rattle.pb_script.specs.Inner.Admission.{Admits, IsAdmitted, Refuses}
 use Rattle.pb_desk.specs.Rows.{ScriptRowView}
 use Rattle.pb_script.specs.Scripts.{IsScript}
-use Rattle.pb_script.specs.ScriptReading.{IsFaultOfScript, IsNextScriptFault}
+use Rattle.pb_script.specs.ScriptReading.{IsNextScriptFault}
+use Rattle.pb_script.specs.Inner.ScriptReading.{IsFaultOfScript}
 use Rattle.pb_script.specs.declared.admission.Admission.{Admission}
 use Rattle.pb_script.specs.declared.admission.RowRefusal.{RowRefusal}
 use Rattle.pb_script.specs.Served.{IsServeFault, IsServed}
@@ -23,7 +24,8 @@ use Rattle.pb_commands.specs.Closed.{Leaves, LeavesNone}
 use Rattle.pb_commands.specs.DeskRun.{DeskRefuses, DeskWrites, admission_on}
 use Rattle.pb_commands.specs.declared.run_desk.Rules.{Rules}
 use Rattle.pb_commands.specs.Inner.DeskRun.{unserved}
-use Rattle.pb_commands.specs.Ends.{Ends, IfBothKnown, IsOutsideFault, Judges}
+use Rattle.pb_commands.specs.Ends.{Ends, IfBothKnown, Judges}
+use Rattle.pb_commands.specs.Inner.Outside.{IsOutsideFault}
 use Rattle.pb_faults.specs.Fault.{merged}
 use Rattle.pb_faults.specs.declared.fault.AppFault.{AppFault}
 use Rattle.pb_faults.specs.declared.fault.AppFault.TheVariants.{Script, Warned, Write}

@@ -7,7 +7,9 @@ use Rattle.pb_core.specs.Election.{ElectionView}
 use Rattle.pb_read.specs.StandsFor.{StandsFor}
 use Rattle.pb_read.specs.declared.warning.Warning.{Warning}
 use Rattle.pb_rows.specs.Reading.{records_of}
-use Rattle.pb_commands.specs.Ends.{Ends, FailsBy, HasWritten, IfBothKnown, IsOutsideFault, Judges, Runs}
+use Rattle.pb_commands.specs.Ends.{Ends, FailsBy, IfBothKnown, Judges, Runs}
+use Rattle.pb_commands.specs.Inner.Written.{HasWritten}
+use Rattle.pb_commands.specs.Inner.Outside.{IsOutsideFault}
 use Rattle.pb_faults.specs.Fault.{merged}
 use Rattle.pb_faults.specs.declared.fault.AppFault.{AppFault}
 use Rattle.pb_faults.specs.declared.fault.AppFault.TheVariants.{Read, Open, Write, Memory, Warned, Serving}

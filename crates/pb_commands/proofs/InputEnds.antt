@@ -23,7 +23,8 @@ use Rattle.pb_commands.proofs.AuditAccepted.{desk_of, journal_from_outside, one_
 use Rattle.pb_commands.proofs.Endings.{Bars, FailsAs, IsElectionFile, IsLate, given, given_end, known_map, late_end, memory_end, passed_on}
 use Rattle.pb_commands.specs.Audited.{IsDeskOf}
 use Rattle.pb_commands.specs.Closed.{Leaves, LeavesNone}
-use Rattle.pb_commands.specs.Ends.{Ends, IfBothKnown, IsOutsideFault, Judges}
+use Rattle.pb_commands.specs.Ends.{Ends, IfBothKnown, Judges}
+use Rattle.pb_commands.specs.Inner.Outside.{IsOutsideFault}
 use Rattle.pb_faults.specs.Fault.{merged}
 use Rattle.pb_faults.specs.declared.fault.AppFault.{AppFault}
 use Rattle.pb_faults.specs.declared.fault.AppFault.TheVariants.{Read, Audit, OpenDesk, Write, Memory, Warned}

@@ -24,11 +24,12 @@ use Rattle.pb_commands.proofs.CountEnds.{Outcomes, count_late, count_of_any, non
 use Rattle.pb_commands.proofs.Endings.{Bars, FailsAs, IsElectionFile, known_all, known_map, late_end, memory_end, passed_on}
 use Rattle.pb_commands.proofs.InputEnds.{file_of, one_left}
 use Rattle.pb_commands.specs.Audited.{AuditWrites, IsDeskOf, IsTextOf}
-use Rattle.pb_commands.specs.Ballots.{BallotsWrites}
+use Rattle.pb_commands.specs.Inner.Ballots.{BallotsWrites}
 use Rattle.pb_commands.specs.Closed.{CountRefuses, Gives, Leaves, LeavesNone}
 use Rattle.pb_commands.specs.declared.demand.Demand.{Demand}
 use Rattle.pb_commands.specs.declared.demand.Demand.TheVariants.{Shut}
-use Rattle.pb_commands.specs.Ends.{Ends, FailsBy, IfBothKnown, IsOutsideFault}
+use Rattle.pb_commands.specs.Ends.{Ends, FailsBy, IfBothKnown}
+use Rattle.pb_commands.specs.Inner.Outside.{IsOutsideFault}
 use Rattle.pb_commands.specs.Exported.{ExportRefuses, IsExportOf}
 use Rattle.pb_commands.specs.Inner.Audited.{IsRefusedDesk}
 use Rattle.pb_commands.specs.Inner.Exporting.{IsStopped}

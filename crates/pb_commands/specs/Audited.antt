@@ -19,6 +19,10 @@ pub record IsDeskOf (bytes journal : List ℕ) (d : DeskView) : Type 0 where
   pub stands : StandsFor (records_of bytes) d.opening.election
   pub audited : IsAudited d.opening.election program_room (Some journal) d
 
+-- what is given is such a one of the desk of these bytes: a text, a fault
+abbrev pub OfDesk : {X : Type 0} → (DeskView → X → Type 0) → List ℕ → List ℕ → X → Type 0
+OfDesk IsSuch bytes journal x = (d : DeskView) × IsDeskOf bytes journal d × IsSuch d x
+
 -- what is written of a desk: its row, and then, where it is shut, the report of the ballots that its journal
 -- leaves
 abbrev pub IsTextOf : Rule → DeskView → List ℕ → Type 0

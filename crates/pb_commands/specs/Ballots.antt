@@ -1,5 +1,5 @@
--- The ballots that a desk has, as a table, and what a run of `ballots` writes.
-use Rattle.std.specs.Prelude.{◌≡◌, ℕ, suc, true, false, List, [], ◌∷◌, Option, Some, None, codes}
+-- The ballots that a desk has, as a table.
+use Rattle.std.specs.Prelude.{ℕ, suc, true, false, List, [], ◌∷◌, Option, Some, None, codes}
 use Rattle.std.specs.Prelude.{decimal, filter, map, if◌then◌else◌, slice_index_or}
 use Rattle.std.specs.List.{join_with_byte}
 use Rattle.std.specs.Option.{option_map, option_map_or}
@@ -11,7 +11,6 @@ use Rattle.pb_core.specs.declared.answer.Answer.TheVariants.{Done}
 use Rattle.pb_desk.specs.Desk.{DeskView, standing_of}
 use Rattle.pb_desk.specs.Step.{brought}
 use Rattle.pb_rows.specs.Tables.{Column, table_text}
-use Rattle.pb_commands.specs.Audited.{IsDeskOf}
 
 -- the voter to whom a request that is answered so gives a ballot: a cast or a replacement that is done does
 abbrev pub given_to : Answer → RequestView → Option (List ℕ)
@@ -36,7 +35,3 @@ ballot_columns d = let ids = project_ids d.opening.election in
 unfoldable pub ballots_table : Option (List ℕ) → DeskView → List ℕ
 ballots_table voter d = table_text (ballot_columns d)
     (filter (λ b. option_map_or (bytes_eq b.0) voter true) (standing_of d).ballots)
-
--- what these bytes make a run of `ballots` write: this table of their desk
-abbrev pub BallotsWrites : (DeskView → List ℕ) → List ℕ → List ℕ → List ℕ → Type 0
-BallotsWrites table bytes journal text = (d : DeskView) × IsDeskOf bytes journal d × (text ≡ table d)

@@ -8,7 +8,7 @@ use Rattle.pb_rounds.specs.Counted.{IsCountFault}
 use Rattle.pb_rounds.specs.declared.options.CountOptions.{CountOptions}
 use Rattle.pb_rows.specs.Reading.{records_of}
 use Rattle.pb_script.specs.Serving.{program_room}
-use Rattle.pb_commands.specs.Audited.{IsDeskOf}
+use Rattle.pb_commands.specs.Audited.{IsDeskOf, OfDesk}
 use Rattle.pb_faults.specs.declared.fault.AppFault.{AppFault}
 use Rattle.pb_faults.specs.declared.fault.AppFault.TheVariants.{Audit, Count, OpenDesk, Warned}
 
@@ -27,8 +27,7 @@ Gives IsSuch bytes journal x = (e : ElectionView) × Leaves bytes journal e × I
 -- desk is open; or a warning, of which `Judges` says when
 abbrev pub LeavesNone : List ℕ → Option (List ℕ) → ElectionView → AppFault → Type 0
 LeavesNone bytes (Some journal) e (Audit fault) = IsFaultOfJournal e program_room (records_of journal) fault
-LeavesNone bytes (Some journal) e OpenDesk =
-    (d : DeskView) × IsDeskOf bytes journal d × ((standing_of d).is_shut ≡ false)
+LeavesNone bytes (Some journal) e OpenDesk = OfDesk (λ d e. (standing_of d).is_shut ≡ false) bytes journal e
 LeavesNone bytes journal e (Warned warning) = ⊤
 LeavesNone bytes journal e fault = ⊥
 

@@ -19,14 +19,6 @@ IfBothKnown file beside P = IfSome file (λ bytes. IfSome beside (P bytes))
 abbrev pub known : {J : Type 0} → (J → Option (List ℕ)) → Option J → Option (Option (List ℕ))
 known remaining journal = option_map_or (λ journal. option_map Some (remaining journal)) journal (Some None)
 
--- a text of this kind was written, after what stood there before
-abbrev pub HasWritten : (List ℕ → Type 0) → Option (List ℕ) → Option (List ℕ) → Type 0
-HasWritten IsText before after = (text : List ℕ) × IsText text × Appends before after text
-
--- the fault of a device, or out of memory: it comes from outside, whatever the bytes are
-abbrev pub IsOutsideFault : AppFault → Type 0
-IsOutsideFault fault = (told fault).0 ≡ 3
-
 -- why a run on this file ends: the file's first fault; or, of the election that it stands for, such a
 -- refusal; or the writer failed, which is tried last, once there is something to write; or memory was refused
 abbrev pub FailsBy : {Y : Type 0} → (ElectionView → AppFault → Type 0) → (Y → Type 0) → List ℕ → AppFault → Type 0
@@ -51,14 +43,14 @@ Judges file warning result =
 -- How what reads a file ends, and what is read beside it, of whose bytes this is known. The bytes say what
 -- they give (a run: the text that it writes), and which faults refuse the file's election.
 -- `fault`: they decide which fault comes.
--- `accepts`: where they give something, only a fault from outside stands against it, or a warning.
+-- `accepts`: where they give something, only a warning stands against it, or a fault from outside, of status 3.
 -- `judges`: the file is judged first, whatever is known of the rest.
 -- `one_memory`: out of memory is one fault.
 pub record Ends {X Y T : Type 0} (Gives : List ℕ → X → Y → Type 0) (Refuses : List ℕ → X → ElectionView → AppFault → Type 0)
     (file : Option (List ℕ)) (beside : Option X) (warning : Option Warning) (result : Result T AppFault) : Type 0 where
   pub fault : IfBothKnown file beside (λ bytes x. IfErr result (FailsBy (Refuses bytes x) (Gives bytes x) bytes))
-  pub accepts : warning ≡ None
-      → IfBothKnown file beside (λ bytes x. (y : Y) → Gives bytes x y → IfErr result IsOutsideFault)
+  pub accepts : warning ≡ None → IfBothKnown file beside (λ bytes x. (y : Y) → Gives bytes x y
+      → IfErr result (λ fault. (told fault).0 ≡ 3))
   pub judges : Judges file warning result
   pub one_memory : IfErr result (λ fault. merged fault ≡ fault)
 
@@ -68,6 +60,7 @@ pub record Ends {X Y T : Type 0} (Gives : List ℕ → X → Y → Type 0) (Refu
 pub record Runs {X W : Type 0} (IsText : List ℕ → X → List ℕ → Type 0) (Refuses : List ℕ → X → ElectionView → AppFault → Type 0)
     (file : Option (List ℕ)) (beside : Option X) (warning : Option Warning) (contents : W → Option (List ℕ)) (old new : W)
     (result : Result (Unit {0}) AppFault) : Type 0 where
-  pub writes : OnOk result (IfBothKnown file beside (λ bytes x. HasWritten (IsText bytes x) (contents old) (contents new)))
+  pub writes : OnOk result (IfBothKnown file beside (λ bytes x. (text : List ℕ) × IsText bytes x text
+      × Appends (contents old) (contents new) text))
   pub unchanged : IfErr result (λ fault. fault ≢ Write → new ≡ old)
   pub ends : Ends IsText Refuses file beside warning result

@@ -10,3 +10,5 @@ pub mod History
 pub mod Report
 pub mod Tables
 pub mod WhatIf
+pub mod Outside
+pub mod Written

@@ -19,8 +19,8 @@ ghost use Rattle.pb_rounds.specs.declared.rule.Rule.{Rule};
 ghost use Rattle.pb_script.specs.Scripts.{IsScript};
 ghost use Rattle.pb_script.specs.Serving.{program_room};
 ghost use Rattle.pb_faults.specs.DeskRow.{entries_row};
-ghost use Rattle.pb_commands.specs.Audited.{AuditWrites, IsDeskOf, IsTextOf};
-ghost use Rattle.pb_commands.specs.Ballots.{BallotsWrites, last_given};
+ghost use Rattle.pb_commands.specs.Audited.{AuditWrites, IsDeskOf, IsTextOf, OfDesk};
+ghost use Rattle.pb_commands.specs.Ballots.{last_given};
 ghost use Rattle.pb_commands.specs.Closed.{Gives};
 ghost use Rattle.pb_commands.specs.declared.demand.Demand.{Demand};
 ghost use Rattle.pb_commands.specs.declared.demand.Demand.TheVariants.{Any};
@@ -42,8 +42,8 @@ pub fn one_report()
         → AuditWrites demand rule bytes journal first → AuditWrites demand rule bytes journal second
         → first ≡ second }
     ensures ballots { (table : DeskView → List ℕ) (bytes journal first second : List ℕ)
-        → BallotsWrites table bytes journal first → BallotsWrites table bytes journal second
-        → first ≡ second }
+        → OfDesk (λ d text. text ≡ table d) bytes journal first
+        → OfDesk (λ d text. text ≡ table d) bytes journal second → first ≡ second }
 {}
 
 /// The recount. For every file that stands for an election, and every legal journal of its desk that fits the

@@ -1,8 +1,9 @@
 //! The command `ballots`: the ballots that a journal leaves on the desk of a file.
 
-ghost use Rattle.std.specs.Prelude.{◌≢◌, IfErr, None, Some};
+ghost use Rattle.std.specs.Prelude.{◌≡◌, ◌≢◌, IfErr, None, Some};
 ghost use Rattle.std.specs.Option.{option_copied};
-ghost use Rattle.pb_commands.specs.Ballots.{BallotsWrites, ballots_table};
+ghost use Rattle.pb_commands.specs.Ballots.{ballots_table};
+ghost use Rattle.pb_commands.specs.Audited.{OfDesk};
 ghost use Rattle.pb_commands.specs.Closed.{LeavesNone};
 ghost use Rattle.pb_commands.specs.Ends.{Runs};
 
@@ -26,7 +27,7 @@ pub fn run_ballots<P: Read + Drop, J: Read + Drop, W: Write>(
     voter: Option<&str>,
     writer: &mut W,
 ) -> Result<(), AppFault>
-    ensures runs { Runs (BallotsWrites (ballots_table (option_copied voter.entry)))
+    ensures runs { Runs (OfDesk (λ d text. text ≡ ballots_table (option_copied voter.entry) d))
         (λ bytes rows. LeavesNone bytes (Some rows)) (P.remaining file) (J.remaining journal) None
         W.contents writer.old writer.new result }
 

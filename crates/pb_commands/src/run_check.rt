@@ -1,6 +1,7 @@
 //! The command `check`: all that is wrong with a file, and what is probably not meant.
 
 ghost use Rattle.std.specs.Prelude.{◌≡◌, ◌≢◌, ◌⊎◌, ◌++◌, ℕ, List, [], None, Some, IfErr, IfOk, IfSome, OnOk, map};
+ghost use Rattle.std.specs.Io.KnownBytes.{Appends};
 ghost use Rattle.pb_core.specs.Election.{ElectionView};
 ghost use Rattle.pb_reasons.specs.Counted.{CountedView, IsCountBy, winners_of};
 ghost use Rattle.pb_rounds.specs.Counted.{IsCountFault};
@@ -11,7 +12,7 @@ ghost use Rattle.pb_read.specs.StandsFor.{StandsFor};
 ghost use Rattle.pb_commands.specs.Checked.{IsTextOfCheck, warning_row};
 ghost use Rattle.pb_commands.specs.Closed.{Gives};
 ghost use Rattle.pb_commands.specs.Inner.Checked.{CheckFails, fault_row};
-ghost use Rattle.pb_commands.specs.Ends.{HasWritten};
+ghost use Rattle.pb_commands.specs.Inner.Written.{HasWritten};
 
 use crate::counting::{Counting, counted};
 use crate::report::{put_row, whole};
@@ -43,7 +44,8 @@ pub fn run_check<R: Read + Drop, W: Write, N: Warn>(
     ensures faults { IfSome (R.remaining reader) (λ bytes.
         IfOk result (λ faults. AreListed 0 (records_of bytes) faults.items)) }
     ensures written { IfOk result (λ faults.
-        HasWritten (IsTextOfCheck faults.items (N.warns notes.new)) (W.contents writer.old) (W.contents writer.new)) }
+        (text : List ℕ) × IsTextOfCheck faults.items (N.warns notes.new) text
+        × Appends (W.contents writer.old) (W.contents writer.new) text) }
 
     // It fails only where the writer fails or memory is refused. It writes nothing, unless the fault is the
     // writer's.
@@ -76,7 +78,8 @@ pub fn run_check_against<T: Threads + Sync, R: Read + Drop, G: Gate, W: Write, N
     ensures faults { IfSome (R.remaining reader) (λ bytes.
         IfOk result (λ faults. AreListed 0 (records_of bytes) faults.items)) }
     ensures written { IfOk result (λ faults.
-        HasWritten (IsTextOfCheck faults.items (N.warns notes.new)) (W.contents writer.old) (W.contents writer.new)) }
+        (text : List ℕ) × IsTextOfCheck faults.items (N.warns notes.new) text
+        × Appends (W.contents writer.old) (W.contents writer.new) text) }
 
     // Where there is no fault, what the file claims was compared with the winners of its count by the rule.
     ensures compared { IfSome (R.remaining reader) (λ bytes. IfOk result (λ faults. faults.items ≡ [] →

@@ -3,7 +3,8 @@
 ghost use Rattle.std.specs.Prelude.{◌≡◌, List, IfErr, None, ℕ};
 ghost use Rattle.pb_export.specs.declared.further.Further.{Further};
 ghost use Rattle.pb_commands.specs.Closed.{Gives};
-ghost use Rattle.pb_commands.specs.Ends.{IfBothKnown, IsOutsideFault, Runs, known};
+ghost use Rattle.pb_commands.specs.Ends.{IfBothKnown, Runs, known};
+ghost use Rattle.pb_faults.specs.Fault.{told};
 ghost use Rattle.pb_commands.specs.Exported.{ExportRefuses, IsExportOf};
 
 use crate::counting::{Counting, count_inputs};
@@ -48,7 +49,7 @@ pub fn run_export<
         IfBothKnown (P.remaining inputs.file) (known J.remaining inputs.journal) (λ bytes journal.
         (kept : Further) (text : List ℕ)
         → Gives (IsExportOf counting.now.rule.now kept) bytes journal text
-        → IsOutsideFault fault)) }
+        → (told fault).0 ≡ 3)) }
 {
     let count = match count_inputs(counting, inputs, watch) {
         Ok(count) => count,

@@ -4,7 +4,6 @@ use Rattle.std.specs.List.{AllPairs}
 use Rattle.std.specs.List.Sorted.{IsStrictlyIncreasing}
 use Rattle.pb_core.specs.Ballot.{IsVoterId}
 use Rattle.pb_core.specs.Money.{largest_money}
-use Rattle.pb_core.specs.declared.terms.Terms.{Terms}
 
 -- what contracts see of a project; the cost is in hundredths
 pub record ProjectView : Type 0 where
@@ -24,13 +23,6 @@ pub record ElectionView : Type 0 where
   pub max_length : Option ℕ
   pub projects : List ProjectView
   pub voters : List VoterView
-
--- the terms of an election, and an election of such terms with neither projects nor voters yet
-abbrev pub terms_of : ElectionView → Terms
-terms_of e = record { budget = e.budget; max_length = e.max_length }
-
-abbrev pub opening : Terms → ElectionView
-opening terms = record { budget = terms.budget; max_length = terms.max_length; projects = []; voters = [] }
 
 -- a project has an id, and costs something
 pub record IsProject (p : ProjectView) : Type 0 where

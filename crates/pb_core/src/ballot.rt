@@ -1,8 +1,9 @@
 //! The places of the projects that a voter approves.
 
-ghost use Rattle.std.specs.Prelude.{◌≡◌, ◌↔◌, ℕ, List, IsTrue, IfOk, MatchOption};
+ghost use Rattle.std.specs.Prelude.{◌≡◌, ◌↔◌, ◌==◌, ℕ, List, IsTrue, IfOk, MatchOption};
+ghost use Rattle.std.specs.List.{list_any};
 ghost use Rattle.std.specs.List.Sorted.{IsStrictlyIncreasing};
-ghost use Rattle.pb_core.specs.Ballot.{approves, HasSameMembers};
+ghost use Rattle.pb_core.specs.Ballot.{HasSameMembers};
 
 use crate::no_memory::NoMemory;
 use std::alloc::{Allocator, Global};
@@ -66,7 +67,7 @@ impl<A: Allocator> Ballot<A> {
 
     /// Whether the project at this place is approved.
     pub fn has(&self, place: u32) -> bool
-        ensures { result ≡ approves self.now place }
+        ensures { result ≡ list_any (λ p. p == place) self.now }
     {
         self.places.contains(&place)
     }

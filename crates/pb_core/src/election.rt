@@ -54,7 +54,7 @@ impl<A: Allocator> Model for Election<A> {
 
 impl<A: Allocator> Election<A> {
     ghost use Rattle.std.specs.List.{AllPairs};
-    ghost use Rattle.pb_core.specs.Election.{IsElection, IsVoter, opening, project_ids, terms_of, voter_ids};
+    ghost use Rattle.pb_core.specs.Election.{IsElection, IsVoter, project_ids, voter_ids};
     ghost use Rattle.pb_core.specs.Election.{most_projects, most_voters};
 
     /// An election with this budget, without a limit, and with neither projects nor voters yet.
@@ -72,7 +72,8 @@ impl<A: Allocator> Election<A> {
     where
         A: Copy,
         requires { terms.budget ≤ largest_money }
-        ensures { result ≡ opening terms }
+        ensures { result
+            ≡ record { budget = terms.budget; max_length = terms.max_length; projects = []; voters = [] } }
     {
         Election {
             terms,
@@ -83,7 +84,7 @@ impl<A: Allocator> Election<A> {
 
     /// The terms: what META sets for the desk and the count.
     pub fn terms(&self) -> Terms
-        ensures terms { result ≡ terms_of self.now }
+        ensures terms { result ≡ record { budget = self.now.budget; max_length = self.now.max_length } }
         ensures is_election { IsElection self.now }
     {
         self.terms

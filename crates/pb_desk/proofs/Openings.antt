@@ -12,7 +12,7 @@ use Rattle.pb_core.specs.Inner.Ids.{AreDistinct}
 use Rattle.pb_core.specs.Election.{ElectionView, VoterView, IsElection, IsVoter}
 use Rattle.pb_core.specs.Request.{EntryView}
 use Rattle.pb_desk.specs.Inner.Desk.{AreKnown, IsStanding}
-use Rattle.pb_desk.specs.Replay.{opened}
+use Rattle.pb_desk.specs.Inner.Opening.{opened}
 use Rattle.pb_desk.specs.Inner.Legal.{ballots_of}
 use Rattle.pb_desk.specs.Inner.Sources.{ballots_at, found_at, opened_from, AreFound, AreSources, IsInOrder}
 use Rattle.pb_desk.specs.declared.source.Source.{Source}

@@ -8,3 +8,5 @@ pub mod RowReading
 pub mod Slots
 pub mod Sources
 pub mod Step
+pub mod Ballots
+pub mod Opening

@@ -13,7 +13,8 @@ use Rattle.pb_core.specs.Money.{largest_money, money_of}
 use Rattle.pb_core.specs.MoneyText.{money_text}
 use Rattle.pb_rows.proofs.RoundTrip.{ComeBack-ascii}
 use Rattle.pb_rows.specs.Reading.{Fields, records_of}
-use Rattle.pb_rows.specs.Writing.{ComeBack, text_of_rows}
+use Rattle.pb_rows.specs.Writing.{text_of_rows}
+use Rattle.pb_rows.specs.Inner.Writing.{ComeBack}
 use Rattle.pb_read.proofs.ListFacts.{AllByRecursion-append, AllByRecursion-left, AllByRecursion-right}
 use Rattle.pb_read.specs.Inner.Fields.{trimmed}
 use Rattle.pb_read.specs.Rows.{is_blank, rows_of}

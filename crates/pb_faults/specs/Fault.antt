@@ -1,6 +1,7 @@
 -- What the program says of a fault: one line, and the status that it then ends with.
+use denote.Enum.Declared.{tag_of}
 use Rattle.std.specs.Prelude.{ℕ, List, [], ◌∷◌, ◌++◌, ◌==◌, codes, decimal, flat_map, if◌then◌else◌}
-use Rattle.std.specs.Prelude.{unwrap_or}
+use Rattle.std.specs.Prelude.{slice_index, unwrap_or}
 use Rattle.pb_core.specs.Numbered.{numbered}
 use Rattle.pb_desk.specs.AuditFault.{at_row as audited_row}
 use Rattle.pb_desk.specs.contracts.audit_fault.AuditFault.{the_type as audit_faults}
@@ -28,7 +29,7 @@ use Rattle.pb_faults.specs.declared.fault.AppFault.TheVariants.{Read, Script, Cl
 use Rattle.pb_faults.specs.declared.fault.AppFault.TheVariants.{OpenDesk, Count, Export, Open, Write, Memory}
 use Rattle.pb_faults.specs.declared.fault.AppFault.TheVariants.{Warned, Roll, Serving}
 use Rattle.pb_faults.specs.declared.run_text.RunText.{RunText}
-use Rattle.pb_faults.specs.declared.run_text.RunText.TheVariants as text
+use Rattle.pb_faults.specs.contracts.run_text.RunText.{the_type as run_texts}
 use Rattle.pb_faults.specs.declared.serving_fault.ServingFault.TheVariants.{Spelling, Moved, Locked, Output}
 use Rattle.pb_faults.specs.declared.words_refusal.WordsPlace.{WordsPlace}
 use Rattle.pb_faults.specs.declared.words_refusal.WordsPlace.TheVariants.{Line, Key, Nowhere}
@@ -48,13 +49,10 @@ merged fault = fault
 abbrev pub told_at : List ℕ → ℕ × List ℕ → ℕ → ℕ × List (List ℕ)
 told_at what fault at = (if fault.0 == 1 then 3 else 1, what ∷ decimal fault.0 ∷ fault.1 ∷ decimal at ∷ [])
 
--- the number of a text in fault lines, which is that of its place on the command line
+-- the number of a text in fault lines, which is that of its place on the command line: one for each, in the
+-- order of `RunText`
 abbrev pub number_of : RunText → ℕ
-number_of text.File = 1
-number_of text.Script = 2
-number_of text.Journal = 2
-number_of text.Page = 4
-number_of other = 3
+number_of text = slice_index (1 ∷ 2 ∷ 2 ∷ 3 ∷ 3 ∷ 4 ∷ 3 ∷ []) (tag_of run_texts text)
 
 -- What is told of a merged fault: the status that the program ends with, and the fields of its line. The
 -- status is 3 where a device failed, memory was refused, or the journal is not this run's; 2 where the

@@ -4,7 +4,8 @@ use Rattle.std.specs.Prelude.{◌||◌, ◌==◌, All}
 use Rattle.std.proofs.lemmas.Bool.{both_ways, cases_Bool, cases_lt, le-ltb, ne_eqb, or_parts}
 use Rattle.std.proofs.lemmas.Fmt.{decimal_by_steps}
 use Rattle.std.proofs.lemmas.List.Elements.{All-append, All-cons, All-nil}
-use Rattle.pb_page.specs.Markup.{character, is_control, is_delimiter, read_from}
+use Rattle.pb_page.specs.Markup.{character, is_delimiter, read_from}
+use Rattle.pb_page.specs.Inner.Controls.{is_control}
 
 abbrev pub is_special : ℕ → Bool
 is_special c = (c == 38) || (is_delimiter c || is_control c)

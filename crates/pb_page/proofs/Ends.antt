@@ -4,7 +4,8 @@ use Rattle.std.specs.Prelude.{◌==◌, All}
 use Rattle.std.specs.List.{before_first, prefix_len}
 use Rattle.std.proofs.lemmas.Bool.{cases_lt, eq-eqb, lt-ltb, ne_eqb, or_parts, true≢false}
 use Rattle.std.proofs.lemmas.List.Elements.{All-cons, All-head, All-nil, All-tail}
-use Rattle.pb_page.specs.Markup.{is_control, is_delimiter, written}
+use Rattle.pb_page.specs.Markup.{is_delimiter, written}
+use Rattle.pb_page.specs.Inner.Controls.{is_control}
 use Rattle.pb_page.proofs.Characters.{is_mark}
 use Rattle.pb_page.proofs.Texts.{texts_plain}
 

@@ -3,7 +3,8 @@ use Rattle.std.proofs.Common.{◌≡◌, ℕ, false, List, [], ◌∷◌, refl, 
 use Rattle.std.specs.Prelude.{All, None, filter}
 use Rattle.std.proofs.lemmas.Bool.{or_parts}
 use Rattle.std.proofs.lemmas.List.Elements.{All-append, All-head, All-nil, All-tail}
-use Rattle.pb_page.specs.Markup.{is_control, is_delimiter, read_from, written}
+use Rattle.pb_page.specs.Markup.{is_delimiter, read_from, written}
+use Rattle.pb_page.specs.Inner.Controls.{is_control}
 use Rattle.pb_page.proofs.Characters.{character_plain, character_read, is_mark}
 
 pub texts_plain : (text : List ℕ) → All (λ c. is_mark c ≡ false) (written text)

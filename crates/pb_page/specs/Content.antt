@@ -1,10 +1,10 @@
 -- What a page is made of: elements of markup, with texts in them.
-use Rattle.std.specs.Prelude.{ℕ, List, [], ◌∷◌, ◌++◌, codes, decimal, flat_map, if◌then◌else◌, nat_lt}
+use Rattle.std.specs.Prelude.{ℕ, ◌+◌, List, [], ◌∷◌, ◌++◌, codes, decimal, flat_map, if◌then◌else◌, nat_lt}
 use Rattle.std.specs.Prelude.{slice_index_or}
 use Rattle.pb_core.specs.MoneyText.{money_text}
 use Rattle.pb_page.specs.Amount.{shown}
 use Rattle.pb_page.specs.Markup.{written}
-use Rattle.pb_page.specs.Words.{noun, sentence}
+use Rattle.pb_page.specs.Words.{form_of, sentence}
 use Rattle.pb_page.specs.declared.language.Language.{Language}
 use Rattle.pb_page.specs.declared.markup.form.Form.{Form}
 
@@ -25,7 +25,8 @@ abbrev pub text : List ℕ → List Part
 text t = Text t ∷ []
 
 -- what the words of the language say at a key: as a text, and with these at its places, which are its
--- characters below 32; and a noun for a number
+-- characters below 32; and a noun in the form for a number, of which
+-- forms the first is at its key
 abbrev pub said : Language → ℕ → List Part
 said l k = text (sentence l.words k)
 
@@ -34,7 +35,7 @@ say l k places = flat_map (λ c. if nat_lt c 32 then slice_index_or places c [] 
     (sentence l.words k)
 
 abbrev pub noun_at : Language → ℕ → ℕ → List Part
-noun_at l k n = text (noun l.words k n)
+noun_at l k n = text (sentence l.words (k + form_of l.words.plural n))
 
 -- an attribute; an element with this in it; the same on a line; and on lines of its own
 abbrev pub attribute : (name : List ℕ) → (value : List Part) → List Part

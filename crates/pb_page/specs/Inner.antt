@@ -4,3 +4,5 @@ pub mod Grown
 pub mod Value
 pub mod Counted
 pub mod Digits
+pub mod Nouns
+pub mod Controls

@@ -1,7 +1,8 @@
 //! The language of a page.
 
 ghost use Rattle.std.specs.Prelude.{◌≡◌};
-ghost use Rattle.pb_page.specs.Words.{noun, sentence};
+ghost use Rattle.pb_page.specs.Words.{sentence};
+ghost use Rattle.pb_page.specs.Inner.Nouns.{noun};
 
 use crate::markup::{Form, Words};
 

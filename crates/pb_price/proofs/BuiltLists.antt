@@ -9,7 +9,7 @@ use Rattle.std.proofs.lemmas.List.FromFn.{map-range_with_len_more, length-map-ra
 use Rattle.std.proofs.lemmas.List.Elements.{filter-append}
 use Rattle.std.proofs.lemmas.List.Folds.{list_any_more, list_any_none}
 use Rattle.std.proofs.lemmas.List.Kept.{AllPairs-from_increasing}
-use Rattle.pb_core.specs.Ballot.{approves}
+use Rattle.pb_core.specs.Inner.Approved.{approves}
 use Rattle.pb_core.specs.Election.{ElectionView, VoterView, IsElection}
 use Rattle.pb_price.specs.Inner.Lists.{AddsVoter}
 use Rattle.pb_price.specs.Supporters.{ballot_at, supporters_of, support_of}

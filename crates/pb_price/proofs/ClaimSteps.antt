@@ -10,7 +10,8 @@ use mathlib.Core.Option.{none, some, some-injective, some-ne-none}
 use lib.ListN.{get_elem?}
 use Rattle.atomic_table.proofs.Lists.{at_set, at_snoc}
 use Rattle.atomic_table.specs.Table.{State, Me, step, stepped, keeps, Allows, Final, Joins, Seen, Splits}
-use Rattle.pb_price.specs.Claims.{AreClaims, IsView}
+use Rattle.pb_price.specs.Claims.{AreClaims}
+use Rattle.pb_price.specs.Inner.Claims.{IsView}
 use Rattle.pb_price.specs.Inner.Claims.{drawn, draws, joined, one_seat, past_end, rest_of_seats, spent, AreBelowOnce}
 use Rattle.pb_price.specs.declared.claims.drawn.Drawn.{Drawn}
 use Rattle.pb_price.proofs.BuiltLists.{range_with_len_more}
@@ -107,7 +108,7 @@ module _ {S : Type 0} (pieces workers : ℕ) where
   word_fits : (s : State S Drawn) → AreClaims pieces workers s → slice_index s.words 0 ≤ pieces + workers
   word_fits s h =
       let past : Drawn → ℕ = λ v. past_end pieces v.numbers in
-      let few : sum_by past s.views ≤ sum_by (λ v. v.seats) s.views = sums_le past (λ v. v.seats) s.views (λ i v e. (h.each_view i v e).few_past_end) in
+      let few : sum_by past s.views ≤ sum_by (λ v. v.seats) s.views = sums_le past (λ v. v.seats) s.views (λ i v e. (h.each_view i v e).0) in
       let once = h.each_once (λ k. cond (nat_le pieces k) 1 0) in
       omega (arith, few, once, h.all_seats, past_range pieces (slice_index s.words 0))
 
@@ -116,7 +117,7 @@ module _ {S : Type 0} (pieces workers : ℕ) where
   opens fits = record {
     one_word = refl;
     each_once = λ weight. refl;
-    each_view = views_snoc pieces [] (drawn workers []) (λ id v e. absurd (some-ne-none v (sym e))) (record { few_past_end = omega arith; none_spent = λ empty. refl });
+    each_view = views_snoc pieces [] (drawn workers []) (λ id v e. absurd (some-ne-none v (sym e))) (omega arith, λ empty. refl);
     all_seats = omega arith;
     small = fits;
   }
@@ -141,12 +142,11 @@ module _ {S : Type 0} (pieces workers : ℕ) where
               let before : sum_by (weigh weight) s.views ≡ sum_by weight (range_with_len 0 n) = h.each_once weight in
               let after : sum_by (weigh weight) (set s.views id w) ≡ sum_by weight (range_with_len 0 (n + 1)) = omega (arith, views, more, before, weight_more weight n) in
               after ∙ ap (λ k. sum_by weight (range_with_len 0 k)) (sym word);
-          each_view = views_set pieces s.views id w h.each_view (record {
-            few_past_end =
-                let more : past_end pieces w.numbers ≡ past_end pieces v.numbers + cond (nat_le pieces n) 1 0 = sum_by_push (λ k. cond (nat_le pieces k) 1 0) v.numbers n in
-                omega (arith, more, one_or_none (nat_le pieces n));
-            none_spent = λ empty. absurd (omega (arith, empty));
-          });
+          each_view = views_set pieces s.views id w h.each_view (
+            (let more : past_end pieces w.numbers ≡ past_end pieces v.numbers + cond (nat_le pieces n) 1 0 = sum_by_push (λ k. cond (nat_le pieces k) 1 0) v.numbers n in
+                omega (arith, more, one_or_none (nat_le pieces n))),
+            λ empty. absurd (omega (arith, empty)),
+          );
           all_seats = omega (arith, sum_set (λ u. u.seats) s.views id v w at, h.all_seats);
           small = h.small;
         },
@@ -181,11 +181,8 @@ module _ {S : Type 0} (pieces workers : ℕ) where
             let more = sum_by_push (weigh weight) (set s.views id left) (one_seat v) in
             omega (arith, views, more, h.each_once weight);
         each_view = views_snoc pieces (set s.views id left) (one_seat v)
-            (views_set pieces s.views id left h.each_view (record {
-              few_past_end = rw fresh (omega arith);
-              none_spent = λ empty. fresh;
-            }))
-            (record { few_past_end = omega arith; none_spent = λ empty. refl });
+            (views_set pieces s.views id left h.each_view (rw fresh (omega arith), λ empty. fresh))
+            (omega arith, λ empty. refl);
         all_seats =
             let views = sum_set (λ u. u.seats) s.views id v left at in
             let more = sum_by_push (λ (u : Drawn). u.seats) (set s.views id left) (one_seat v) in
@@ -209,13 +206,12 @@ module _ {S : Type 0} (pieces workers : ℕ) where
             let more : weigh weight both ≡ weigh weight v + weigh weight w = sum_by-append weight v.numbers w.numbers in
             omega (arith, first, second, more, h.each_once weight);
         each_view = views_set pieces (set s.views id both) other spent
-            (views_set pieces s.views id both h.each_view (record {
-              few_past_end =
-                  let more : past_end pieces both.numbers ≡ past_end pieces v.numbers + past_end pieces w.numbers = sum_by-append (λ k. cond (nat_le pieces k) 1 0) v.numbers w.numbers in
-                  omega (arith, more, is_v.few_past_end, is_w.few_past_end);
-              none_spent = λ empty. rw (is_v.none_spent (omega (arith, empty)), is_w.none_spent (omega (arith, empty))) refl;
-            }))
-            (record { few_past_end = omega arith; none_spent = λ empty. refl });
+            (views_set pieces s.views id both h.each_view (
+              (let more : past_end pieces both.numbers ≡ past_end pieces v.numbers + past_end pieces w.numbers = sum_by-append (λ k. cond (nat_le pieces k) 1 0) v.numbers w.numbers in
+                  omega (arith, more, is_v.0, is_w.0)),
+              λ empty. rw (is_v.1 (omega (arith, empty)), is_w.1 (omega (arith, empty))) refl,
+            ))
+            (omega arith, λ empty. refl);
         all_seats =
             let first = sum_set (λ u. u.seats) s.views id v both at in
             let second = sum_set (λ u. u.seats) (set s.views id both) other w spent at' in
@@ -232,10 +228,10 @@ module _ {S : Type 0} (pieces workers : ℕ) where
       let at = final.1.1 in
       let others : List Drawn = set s.views id spent in
       let no_seat : sum_by (λ u. u.seats) others ≡ 0 = omega (arith, sum_set (λ u. u.seats) s.views id v spent at, h.all_seats, all) in
-      let each = views_set pieces s.views id spent h.each_view (record { few_past_end = omega arith; none_spent = λ empty. refl }) in (
+      let each = views_set pieces s.views id spent h.each_view (omega arith, λ empty. refl) in (
         slice_index s.words 0,
         λ weight.
-            let nothing = all_spent weight others (λ i u e. (each i u e).none_spent) no_seat in
+            let nothing = all_spent weight others (λ i u e. (each i u e).1) no_seat in
             let views = sum_set (weigh weight) s.views id v spent at in
             omega (arith, nothing, views, h.each_once weight),
       )

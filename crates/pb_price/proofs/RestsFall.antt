@@ -3,7 +3,8 @@ use Rattle.std.proofs.Common.{◌≡◌, ℕ, ◌≤◌, min, List, Some, None, 
 use Rattle.std.specs.Prelude.{slice_index}
 use Rattle.std.proofs.lemmas.Bool.{cases_lt}
 use Rattle.std.proofs.lemmas.List.Sums.{sum_by-le-sum_by}
-use Rattle.pb_price.specs.Price.{paid_at, price_of, total_rest, IsLeastPayment, NoRestRises}
+use Rattle.pb_price.specs.Price.{paid_at, price_of, total_rest, IsLeastPayment}
+use Rattle.pb_price.specs.Inner.Lists.{NoRestRises}
 use Rattle.pb_price.proofs.Payments.{least_from_price, no_price_from_short, short_from_no_price}
 
 -- nobody pays more

@@ -7,7 +7,7 @@ use Rattle.std.proofs.lemmas.List.{length-map}
 use Rattle.std.proofs.lemmas.List.FromFn.{length-range_with_len, get_or-range_with_len, length-map-range_with_len}
 use Rattle.std.proofs.lemmas.List.Elements.{All-filter, All-map, All-from_get_or}
 use Rattle.std.proofs.lemmas.List.Kept.{IsStrictlyIncreasing-filter}
-use Rattle.pb_core.specs.Ballot.{approves}
+use Rattle.pb_core.specs.Inner.Approved.{approves}
 use Rattle.pb_core.specs.Election.{ElectionView, IsElection}
 use Rattle.pb_core.specs.Money.{largest_money}
 use Rattle.pb_price.specs.Inner.Support.{HasSupportForm}

@@ -43,10 +43,6 @@ pub record AreRests (voters : ℕ) (rests : List ℕ) : Type 0 where
   pub one_each : length rests ≡ voters
   pub bounded : All (λ rest. rest ≤ largest_share) rests
 
--- no rest rises: each voter has as much left as before, or less
-abbrev pub NoRestRises : List ℕ → List ℕ → Type 0
-NoRestRises before after = (voter : ℕ) → slice_index after voter ≤ slice_index before voter
-
 -- the largest number that a tally shows; it stays there
 abbrev pub largest_count : ℕ
 largest_count = 2 ^ 64 - 1

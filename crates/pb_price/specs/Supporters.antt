@@ -1,7 +1,6 @@
 -- Who supports a project.
-use Rattle.std.specs.Prelude.{◌≡◌, ℕ, List, [], length, map, filter, slice_index, slice_index_or}
-use Rattle.std.specs.List.{range_with_len}
-use Rattle.pb_core.specs.Ballot.{approves}
+use Rattle.std.specs.Prelude.{◌≡◌, ◌==◌, ℕ, List, [], length, map, filter, slice_index, slice_index_or}
+use Rattle.std.specs.List.{list_any, range_with_len}
 use Rattle.pb_core.specs.Election.{ElectionView, IsElection}
 
 -- the ballot of the voter at this position
@@ -11,7 +10,7 @@ ballot_at e voter = slice_index_or (map (λ v. v.ballot) e.voters) voter []
 -- the supporters of the project at this place: the voters whose ballot approves it, by position
 unfoldable pub supporters_of : ElectionView → ℕ → List ℕ
 supporters_of e place =
-    filter (λ voter. approves (ballot_at e voter) place) (range_with_len 0 (length e.voters))
+    filter (λ voter. list_any (λ p. p == place) (ballot_at e voter)) (range_with_len 0 (length e.voters))
 
 -- what a count needs of an election: the number of voters, and for each project its cost, in hundredths, and
 -- its supporters

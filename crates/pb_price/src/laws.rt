@@ -6,7 +6,7 @@ ghost use mathlib.Core.Option.{some};
 ghost use lib.ListN.{get_elem?};
 ghost use Rattle.atomic_table.specs.Table.{State, keeps, stepped};
 ghost use Rattle.pb_price.specs.Claims.{AreClaims};
-ghost use Rattle.pb_price.specs.Price.{price_at, IsPrice, NoRestRises};
+ghost use Rattle.pb_price.specs.Price.{price_at, IsPrice};
 ghost use Rattle.pb_price.specs.Supporters.{SupportView};
 ghost use Rattle.pb_price.specs.declared.claims.drawn.Drawn.{Drawn};
 
@@ -19,9 +19,11 @@ pub fn price_is_least_payment()
 
 /// Where no rest rises, no price falls, and a project without a price gets none.
 pub fn no_price_falls()
-    ensures rises { (s : SupportView) (before after : List ℕ) (place p q : ℕ) → NoRestRises before after
+    ensures rises { (s : SupportView) (before after : List ℕ) (place p q : ℕ)
+        → ((voter : ℕ) → slice_index after voter ≤ slice_index before voter)
         → IsPrice s before place (Some p) → IsPrice s after place (Some q) → p ≤ q }
-    ensures stays_none { (s : SupportView) (before after : List ℕ) (place : ℕ) → NoRestRises before after
+    ensures stays_none { (s : SupportView) (before after : List ℕ) (place : ℕ)
+        → ((voter : ℕ) → slice_index after voter ≤ slice_index before voter)
         → IsPrice s before place None → IsPrice s after place None }
 {}
 

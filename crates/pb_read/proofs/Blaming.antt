@@ -16,7 +16,8 @@ use Rattle.pb_read.specs.Inner.Progresses.{IsOfNoValue, no_value}
 use Rattle.pb_read.specs.Inner.Showing.{IsRefusedNext, IsRefusedRow, IsShownNext}
 use Rattle.pb_read.specs.Refusals.{piece_of}
 use Rattle.pb_read.specs.Rows.{field, is_empty}
-use Rattle.pb_read.specs.Shown.{Adds, Sight, refused}
+use Rattle.pb_read.specs.Shown.{Sight, refused}
+use Rattle.pb_read.specs.Inner.Showing.{Adds}
 use Rattle.pb_read.specs.Voting.{is_among}
 use Rattle.pb_read.specs.declared.columns.VoteColumns.{VoteColumns}
 use Rattle.pb_read.specs.declared.check.Verdict.{Verdict}

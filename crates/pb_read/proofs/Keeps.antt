@@ -12,7 +12,8 @@ use Rattle.std.proofs.lemmas.List.Elements.{All-filter}
 use Rattle.std.proofs.lemmas.List.FromFn.{length-range_with_len, get_or-range_with_len}
 use Rattle.std.proofs.lemmas.List.Kept.{IsStrictlyIncreasing-filter}
 use Rattle.csv.specs.Records.{AllText}
-use Rattle.pb_core.specs.Election.{ElectionView, ProjectView, IsElection, opening, project_ids}
+use Rattle.pb_core.specs.Election.{ElectionView, ProjectView, IsElection, project_ids}
+use Rattle.pb_core.specs.Inner.Terms.{opening}
 use Rattle.pb_core.specs.Money.{money_of, largest_money}
 use Rattle.pb_core.specs.MoneyText.{hundredths, has_money_form, is_in_hundredths}
 use Rattle.pb_core.specs.declared.money_fault.MoneyFault.{MoneyFault}

@@ -3,7 +3,8 @@ use Rattle.std.proofs.Common.{◌≡◌, ◌≤◌, ℕ, true, Option, Some, Non
 use Rattle.std.specs.Prelude.{OnOk, IfErr}
 use Rattle.std.proofs.lemmas.Option.{same_Some}
 use Rattle.std.proofs.lemmas.Result.{on_ok_weaker, IfErr-weaker}
-use Rattle.pb_core.specs.Election.{ElectionView, opening}
+use Rattle.pb_core.specs.Election.{ElectionView}
+use Rattle.pb_core.specs.Inner.Terms.{opening}
 use Rattle.pb_core.specs.Money.{largest_money}
 use Rattle.pb_core.specs.declared.money_fault.MoneyFault.{MoneyFault}
 use Rattle.pb_rows.specs.Reading.{Fields}

@@ -8,7 +8,8 @@ use Rattle.std.proofs.lemmas.List.{append-nil, map-append, get_or_append_left}
 use Rattle.std.proofs.lemmas.List.Elements.{All-contains, Contains-append_right}
 use Rattle.std.proofs.Math.Seq.{get_or-append_seam}
 use Rattle.pb_core.specs.Inner.Ids.{AreDistinct}
-use Rattle.pb_core.specs.Election.{ElectionView, ProjectView, VoterView, IsElection, IsProject, IsVoter, opening, project_ids, terms_of}
+use Rattle.pb_core.specs.Election.{ElectionView, ProjectView, VoterView, IsElection, IsProject, IsVoter, project_ids}
+use Rattle.pb_core.specs.Inner.Terms.{opening, terms_of}
 use Rattle.pb_rows.specs.Reading.{Fields}
 use Rattle.pb_read.proofs.ListFacts.{IsPlain, Contains-is_among, AllByRecursion-left, AllByRecursion-right}
 use Rattle.pb_read.proofs.MachineLaws.{run-append, meta_of-push, head_passes, project_passes, vote_passes, PassesProject, PassesVote}

@@ -14,7 +14,8 @@ use Rattle.pb_read.specs.Inner.Showing.{AreShownTo, IsRefusedNext, IsShownNext, 
 use Rattle.pb_read.specs.Inner.Tracking.{IsNextRow, Reached}
 use Rattle.pb_read.specs.Refusals.{refusal_of}
 use Rattle.pb_read.specs.Rows.{rows_of}
-use Rattle.pb_read.specs.Shown.{Adds, IsAll, Sight, WereShown, ended, faults_of, kept, refused, seen}
+use Rattle.pb_read.specs.Shown.{IsAll, Sight, WereShown, ended, faults_of, kept, refused, seen}
+use Rattle.pb_read.specs.Inner.Showing.{Adds}
 use Rattle.pb_read.specs.Stages.{next_row}
 use Rattle.pb_read.specs.StandsFor.{StandsFor, most_records}
 use Rattle.pb_read.specs.declared.check.Verdict.TheVariants.{Passes, LeavesOut, Ends, Done}

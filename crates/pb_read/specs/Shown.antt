@@ -20,10 +20,6 @@ pub data Sight : Type 0 where
   refused : Refusal → Sight
   ended : ElectionView → Sight
 
--- where it is known what was shown before, this was shown after it; the last one comes first
-abbrev pub Adds : Sight → Option (List Sight) → Option (List Sight) → Type 0
-Adds sight before after = IfSome before (λ old. after ≡ Some (sight ∷ old))
-
 -- the records that were seen, without those that were refused
 abbrev pub kept : List Fields → List Sight → List Fields
 kept records [] = []

@@ -1,7 +1,8 @@
 //! The election as far as its rows were read.
 
 ghost use Rattle.std.specs.Prelude.{◌≡◌, ◌≢◌, ◌≤◌, [], ◌∷◌, ◌++◌, IfErr, IfOk, OnOk, None};
-ghost use Rattle.pb_core.specs.Election.{opening, project_ids, voter_ids};
+ghost use Rattle.pb_core.specs.Election.{project_ids, voter_ids};
+ghost use Rattle.pb_core.specs.Inner.Terms.{opening};
 ghost use Rattle.pb_core.specs.Money.{largest_money};
 ghost use Rattle.pb_read.specs.Inner.Drafts.{HasVoter, IsAsBefore, IsTied};
 ghost use Rattle.pb_read.specs.Inner.Ids.{Finds};

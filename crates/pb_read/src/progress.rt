@@ -3,7 +3,7 @@
 ghost use Rattle.std.specs.Prelude.{◌≡◌, ◌≢◌, None, false, Some, IfErr, OnOk, MatchResult};
 ghost use Rattle.pb_read.specs.Listed.{is_of_row, leaves_out};
 ghost use Rattle.pb_read.specs.Stages.{head, next_row, plain, the_end};
-ghost use Rattle.pb_core.specs.Election.{opening};
+ghost use Rattle.pb_core.specs.Inner.Terms.{opening};
 ghost use Rattle.pb_read.specs.Inner.Machine.{meta_checks, terms_said};
 ghost use Rattle.pb_read.specs.Inner.Progresses.{Advances, EndsWith, IsOfNoValue, IsRead, IsReady, Refuses};
 ghost use Rattle.pb_read.specs.Inner.Progresses.{Stays, place_of};

@@ -1,9 +1,9 @@
 //! Who looks on while a file is read.
 
-ghost use Rattle.std.specs.Prelude.{◌≡◌, ℕ, List, map, Option, IfOk, OnOk};
+ghost use Rattle.std.specs.Prelude.{◌≡◌, ◌∷◌, ℕ, List, map, Option, Some, IfOk, IfSome, OnOk};
 ghost use Rattle.std.specs.Str.{trim};
 ghost use Rattle.csv.specs.Records.{fields_of};
-ghost use Rattle.pb_read.specs.Shown.{Adds, Sight, ended, refused, seen};
+ghost use Rattle.pb_read.specs.Shown.{Sight, ended, refused, seen};
 ghost use Rattle.pb_read.specs.declared.warning.Warning.{Warning};
 ghost use Rattle.pb_read.specs.declared.warning.WarningRow.{WarningRow};
 
@@ -43,17 +43,18 @@ pub trait Watch {
     /// Sees the record with this number, from 1, as it stands in the file, and what it is. The reader has
     /// accepted it: a row of PROJECTS or of VOTES is the last project or voter of the election so far.
     fn see(&mut self, record: &ByteRecord, at: u32, part: Part, election: &Election)
-        ensures shown { Adds (seen at (map trim (fields_of record.now)) election.now) (shown self.old) (shown self.new) };
+        ensures shown { IfSome (shown self.old) (λ old. shown self.new
+            ≡ Some (seen at (map trim (fields_of record.now)) election.now ∷ old)) };
 
     /// Sees the record that the reader refuses, why, and how far the file was read before it. The record has
     /// no field where there is none: the file ends, or its reader failed.
     fn refuse(&mut self, record: &ByteRecord, refusal: Refusal, stage: &Stage)
-        ensures shown { Adds (refused refusal) (shown self.old) (shown self.new) };
+        ensures shown { IfSome (shown self.old) (λ old. shown self.new ≡ Some (refused refusal ∷ old)) };
 
     /// Learns that the file has ended, and may end there: all of its rows were shown, and those that were
     /// accepted gave this election.
     fn end(&mut self, election: &Election)
-        ensures shown { Adds (ended election.now) (shown self.old) (shown self.new) };
+        ensures shown { IfSome (shown self.old) (λ old. shown self.new ≡ Some (ended election.now ∷ old)) };
 }
 
 /// Who looks on at a check, and then warns.

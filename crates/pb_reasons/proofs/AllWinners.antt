@@ -10,7 +10,8 @@ use Rattle.std.proofs.lemmas.List.Sums.{sum_by-append, sum_by-cons}
 use Rattle.pb_core.specs.Election.{ElectionView, IsElection}
 use Rattle.pb_rounds.proofs.Added.{added_differ, added_were_not_taken, election_is_filled}
 use Rattle.pb_rounds.proofs.Filled.{rule_from_filled}
-use Rattle.pb_rounds.specs.MostVotes.{IsMostVotesFirst, fits, is_taken, left_after}
+use Rattle.pb_rounds.specs.MostVotes.{IsMostVotesFirst, fits, is_taken}
+use Rattle.pb_rounds.specs.Inner.LeftAfter.{left_after}
 use Rattle.pb_price.specs.Supporters.{SupportView, cost_at, support_of}
 use Rattle.pb_rounds.specs.Count.{spent_on}
 use Rattle.pb_rounds.specs.Outcome.{OutcomeView}

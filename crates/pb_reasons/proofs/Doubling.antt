@@ -3,7 +3,8 @@ use Rattle.std.proofs.Common.{◌≡◌, ◌≢◌, ℕ, zero, suc, ◌*◌, ◌
 use Rattle.std.proofs.lemmas.Bool.{cases_lt}
 use Rattle.std.proofs.lemmas.Nat.{pow_pos}
 use Rattle.std.proofs.Math.Nat.{pow-suc}
-use Rattle.pb_reasons.specs.WhatIf.{IsTrue, NoneWins, Seen, wins}
+use Rattle.pb_reasons.specs.WhatIf.{IsTrue, Seen, wins}
+use Rattle.pb_reasons.specs.Inner.Doubling.{NoneWins}
 use Rattle.pb_reasons.specs.declared.changes.change.Change.TheVariants.{Voters}
 use Rattle.pb_reasons.specs.declared.changes.change.Row.{Row}
 use Rattle.pb_reasons.specs.declared.changes.change.Verdict.{Verdict}

@@ -6,7 +6,8 @@ use Rattle.std.proofs.lemmas.Bool.{cases_Bool, eq-eqb, eqb-true, false_from_ne_t
 use Rattle.std.proofs.lemmas.List.{get_or_default}
 use Rattle.std.proofs.lemmas.List.Elements.{All-contains, All-filter, All-map, Contains-get_or, filter_passes}
 use Rattle.std.proofs.lemmas.List.Sums.{position_or_len_is}
-use Rattle.pb_core.specs.Ballot.{HasSameMembers, approves}
+use Rattle.pb_core.specs.Ballot.{HasSameMembers}
+use Rattle.pb_core.specs.Inner.Approved.{approves}
 use Rattle.pb_rounds.specs.Inner.Listed.{is_listed}
 use Rattle.pb_rounds.specs.Run.{ElectedView}
 use Rattle.pb_rounds.proofs.Listed.{contains_from_listed, listed_from_contains}

@@ -6,7 +6,8 @@ use Rattle.pb_core.specs.Election.{ElectionView, ProjectView, VoterView, most_vo
 use Rattle.pb_core.specs.Money.{largest_money}
 use Rattle.pb_price.specs.Supporters.{cost_at, support_of}
 use Rattle.pb_rounds.specs.declared.count_fault.CountFault.{CountFault}
-use Rattle.pb_reasons.specs.WhatIf.{IsFound, IsWhatIf, NoneWins, Says, Seen, seen}
+use Rattle.pb_reasons.specs.WhatIf.{IsFound, IsWhatIf, Says, Seen, seen}
+use Rattle.pb_reasons.specs.Inner.Doubling.{NoneWins}
 use Rattle.pb_reasons.specs.declared.changes.change.Change.TheVariants.{Cost, Voters}
 use Rattle.pb_reasons.specs.declared.changes.change.Verdict.TheVariants.{Lost, Won}
 use Rattle.pb_reasons.specs.declared.changes.found.WhatIf.{WhatIf}

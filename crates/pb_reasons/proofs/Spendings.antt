@@ -9,7 +9,7 @@ use Rattle.std.proofs.lemmas.List.Folds.{list_any_more}
 use Rattle.std.proofs.lemmas.List.FromFn.{get_or-map-range_with_len}
 use Rattle.std.proofs.lemmas.List.Kept.{AllPairs-from_increasing}
 use Rattle.std.proofs.lemmas.List.Sums.{fold_push, sum_by-cons}
-use Rattle.pb_core.specs.Ballot.{approves}
+use Rattle.pb_core.specs.Inner.Approved.{approves}
 use Rattle.pb_core.specs.Election.{ElectionView, IsElection, VoterView}
 use Rattle.pb_price.proofs.BuiltLists.{ballot_known, range_with_len_more}
 use Rattle.pb_price.specs.Supporters.{SupportView, ballot_at, support_of, supporters_at, supporters_of}

@@ -7,7 +7,8 @@ use Rattle.std.proofs.lemmas.List.{append-nil, append_assoc, get_or-set_same, ge
 use Rattle.std.proofs.lemmas.List.Elements.{filter-append}
 use Rattle.std.proofs.lemmas.Option.{none-some, same_Some}
 use Rattle.std.proofs.Math.Nat.{mul-le-mul_right}
-use Rattle.pb_price.specs.Price.{IsPrice, NoRestRises, price_at}
+use Rattle.pb_price.specs.Price.{IsPrice, price_at}
+use Rattle.pb_price.specs.Inner.Lists.{NoRestRises}
 use Rattle.pb_price.specs.Supporters.{SupportView, cost_at, supporters_at}
 use Rattle.pb_price.proofs.Bounds.{is_price_at}
 use Rattle.pb_price.proofs.Payments.{price_from_is_price}

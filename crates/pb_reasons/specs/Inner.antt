@@ -16,3 +16,4 @@ pub mod Turns
 pub mod Numbered
 pub mod Searching
 pub mod Spending
+pub mod Doubling

@@ -48,8 +48,7 @@ IsTrue s q change row =
 -- whether a verdict is that the project wins
 abbrev pub wins : Verdict → Bool
 wins Won = true
-wins Lost = false
-wins Refused = false
+wins verdict = false
 
 -- What a search of a change from one value to another finds: two true rows. If both win, or neither wins, they
 -- are its two ends; if one wins and the other does not, they are one step apart.
@@ -59,18 +58,15 @@ pub record IsFound (s : Seen) (q : Question) (change : Change) (low high : ℕ) 
   pub agree : wins a.verdict ≡ wins b.verdict → (a.value ≡ low) × (b.value ≡ high)
   pub differ : wins a.verdict ≢ wins b.verdict → (low ≤ a.value) × (b.value ≡ a.value + 1) × (b.value ≤ high)
 
--- with 1, 2, 4, 8 and so on further voters, below this number, the project loses, or the count is refused
-abbrev pub NoneWins : Seen → Question → ℕ → Type 0
-NoneWins s q value = (k : ℕ) → 2 ^ k < value
-    → (v : Verdict) × (wins v ≡ false) × IsTrue s q Voters (record { value = 2 ^ k; verdict = v })
-
 -- What is found for a project of this cost: for a winner, costs from its own to ten times that, at most the
 -- largest, and no further voters; for a loser, costs from 0.01 to its own, and further voters from none to as many
--- as there are, fewer if there would be more than 1,000,000, found by doubling.
+-- as there are, fewer if there would be more than 1,000,000, found by doubling: with 1, 2, 4, 8 and so on below
+-- the second number that is found, the project loses, or the count is refused.
 abbrev pub IsWhatIf : ElectionView → Question → (cost : ℕ) → WhatIf → Type 0
 IsWhatIf e q cost w =
     Says e q Won × IsFound (seen e) q Cost cost (min (10 * cost) largest_money) w.cost.first w.cost.second
     × IsFound (seen e) q Voters 0 0 w.voters.first w.voters.second
     ⊎ Says e q Lost × IsFound (seen e) q Cost 1 cost w.cost.first w.cost.second × IsFound (seen e) q Voters 0
     (min (length e.voters) (most_voters - length e.voters)) w.voters.first w.voters.second
-    × NoneWins (seen e) q w.voters.second.value
+    × ((k : ℕ) → 2 ^ k < w.voters.second.value → (v : Verdict) × (wins v ≡ false)
+    × IsTrue (seen e) q Voters (record { value = 2 ^ k; verdict = v }))

@@ -8,7 +8,8 @@ use Rattle.std.proofs.lemmas.Bool.{cases_eq, cases_lt}
 use Rattle.std.proofs.lemmas.List.{get_or-replicate, get_or_past, length-replicate}
 use Rattle.std.proofs.lemmas.List.Sums.{sum_by-cons}
 use Rattle.std.proofs.lemmas.Option.{none-some, same_Some}
-use Rattle.pb_price.specs.Price.{NoRestRises, price_at}
+use Rattle.pb_price.specs.Price.{price_at}
+use Rattle.pb_price.specs.Inner.Lists.{NoRestRises}
 use Rattle.pb_price.specs.Supporters.{SupportView, cost_at, supporters_at}
 use Rattle.pb_price.proofs.RestsFall.{no_price_falls, no_price_stays}
 use Rattle.pb_rounds.specs.declared.measure.Measure.{Measure}

@@ -13,7 +13,8 @@ use Rattle.std.proofs.lemmas.List.Elements.{All-replicate}
 use Rattle.std.proofs.lemmas.List.Sums.{sum_by-cons}
 use Rattle.std.proofs.lemmas.Option.{none-some, same_Some}
 use Rattle.pb_core.specs.Money.{largest_money}
-use Rattle.pb_price.specs.Price.{AreRests, IsPrice, NoRestRises, largest_share, price_at}
+use Rattle.pb_price.specs.Price.{AreRests, IsPrice, largest_share, price_at}
+use Rattle.pb_price.specs.Inner.Lists.{NoRestRises}
 use Rattle.pb_price.specs.Supporters.{SupportView, cost_at, supporters_at}
 use Rattle.pb_price.proofs.Payments.{price_from_is_price}
 use Rattle.pb_price.proofs.RestsFall.{no_price_falls, no_price_stays}

@@ -15,7 +15,8 @@ use Rattle.pb_price.proofs.SupporterLists.{known_voters, support_form}
 use Rattle.pb_rounds.specs.declared.measure.Measure.{Measure}
 use Rattle.pb_rounds.specs.declared.measure.Measure.TheVariants.{Votes, Cost}
 use Rattle.pb_rounds.specs.Cheapest.{IsCheaper, IsLeft, IsRun, rests_after}
-use Rattle.pb_rounds.specs.Fairness.{paid_within, IsFairToGroups, GroupsHaveWinners}
+use Rattle.pb_rounds.specs.Fairness.{paid_within}
+use Rattle.pb_rounds.specs.Inner.Fairness.{IsFairToGroups, GroupsHaveWinners}
 use Rattle.pb_rounds.specs.Inner.Listed.{is_listed}
 use Rattle.pb_rounds.specs.Payments.{paid_in_turn, payments_of}
 use Rattle.pb_rounds.specs.Run.{ElectedView, charged, payment_of, weight_of}

@@ -4,7 +4,8 @@ use Rattle.std.proofs.lemmas.Bool.{true≢false, cases_eq}
 use Rattle.std.proofs.lemmas.List.{append_assoc, append-nil}
 use Rattle.std.proofs.lemmas.List.Sums.{sum_by-cons}
 use Rattle.pb_price.specs.Supporters.{SupportView, cost_at}
-use Rattle.pb_rounds.specs.MostVotes.{FitsFirst, IsMostVotesFirst, fits, left_after}
+use Rattle.pb_rounds.specs.MostVotes.{FitsFirst, IsMostVotesFirst, fits}
+use Rattle.pb_rounds.specs.Inner.LeftAfter.{left_after}
 use Rattle.pb_rounds.proofs.VotesOrder.{comes_first-ranks}
 
 -- each of the added was the first that fitted, and in the end none fits

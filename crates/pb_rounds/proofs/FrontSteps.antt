@@ -10,7 +10,8 @@ use Rattle.std.proofs.lemmas.Map.Keys.{ge_from_not_lt}
 use Rattle.std.proofs.lemmas.List.{ext_get_or, get_or-append_right, get_or-drop, get_or-map, get_or-replicate, get_or_default, get_or_past, length-map, length-replicate, length-take-le, take_all}
 use Rattle.std.proofs.lemmas.List.Elements.{All-contains, All-more}
 use Rattle.std.proofs.lemmas.List.Sums.{sum_by-cons, sum_by-le-sum_by}
-use Rattle.pb_price.specs.Price.{AreRests, NoRestRises, largest_share, paid_at, price_at, price_of}
+use Rattle.pb_price.specs.Price.{AreRests, largest_share, paid_at, price_at, price_of}
+use Rattle.pb_price.specs.Inner.Lists.{NoRestRises}
 use Rattle.pb_price.specs.Supporters.{SupportView, cost_at, supporters_at}
 use Rattle.pb_price.proofs.Payments.{least_from_price, paid_at-le-total_rest, short_from_no_price}
 use Rattle.pb_price.proofs.RestsFall.{no_price_falls}

@@ -6,7 +6,8 @@ use Rattle.std.proofs.lemmas.List.{get_or-map, get_or_default, length-map}
 use Rattle.std.proofs.lemmas.List.Sums.{sum_by-append, sum_by_push}
 use Rattle.std.proofs.lemmas.Option.{none-some, same_Some}
 use Rattle.pb_price.proofs.SupporterLists.{support_form}
-use Rattle.pb_price.specs.Price.{AreRests, NoRestRises, largest_share, price_at}
+use Rattle.pb_price.specs.Price.{AreRests, largest_share, price_at}
+use Rattle.pb_price.specs.Inner.Lists.{NoRestRises}
 use Rattle.pb_price.specs.Supporters.{IsSupport, SupportView, cost_at, supporters_at}
 use Rattle.pb_rounds.specs.Count.{spent_on}
 use Rattle.pb_rounds.specs.Inner.Bounds.{HasBounds, IsOpening}

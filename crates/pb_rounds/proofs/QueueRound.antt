@@ -13,7 +13,8 @@ use Rattle.std.proofs.lemmas.Option.{none-some, same_Some}
 use Rattle.std.proofs.Math.Nat.{mul-lt-mul_of_pos_right}
 use Rattle.pb_price.proofs.Payments.{least_from_price, paid_at-zero}
 use Rattle.pb_price.proofs.RestsFall.{no_price_falls, no_price_stays}
-use Rattle.pb_price.specs.Price.{NoRestRises, price_at}
+use Rattle.pb_price.specs.Price.{price_at}
+use Rattle.pb_price.specs.Inner.Lists.{NoRestRises}
 use Rattle.pb_price.specs.Supporters.{SupportView, cost_at, supporters_at}
 use Rattle.pb_rounds.specs.declared.measure.Measure.{Measure}
 use Rattle.pb_rounds.specs.Inner.KeyOrder.{greater_from, key_cmp-total}

@@ -1,7 +1,6 @@
 -- Fairness to groups of voters who all want a project that is not elected.
-use Rattle.std.specs.Prelude.{ℕ, Bool, List, ◌+◌, ◌*◌, ◌<◌, ◌≤◌, ◌==◌, Any, filter, length, nat_le}
+use Rattle.std.specs.Prelude.{ℕ, Bool, List, ◌*◌, ◌≤◌, Any, filter, length, nat_le}
 use Rattle.std.specs.Prelude.{replicate, slice_index, sum_by, zip, if◌then◌else◌}
-use Rattle.std.specs.List.{list_any}
 use Rattle.pb_price.specs.Supporters.{SupportView, supporters_at, cost_at}
 use Rattle.pb_rounds.specs.Cheapest.{IsLeft}
 use Rattle.pb_rounds.specs.Payments.{paid_in_turn}
@@ -21,17 +20,3 @@ abbrev pub paid_within : Measure → SupportView → (share : ℕ) → List Elec
 paid_within m s share elected place amount voter = sum_by (λ row. let paid = slice_index row.1 voter in
     if nat_le (paid * weight_of m s place) (amount * weight_of m s row.0.place) then paid else 0)
     (zip elected (paid_in_turn s (replicate s.voters share) elected))
-
--- In each group some member paid more than the share less the amount, for elected projects that each took at
--- most the amount (so understood) from it. So too little was left to pay the amount.
-abbrev pub IsFairToGroups : Measure → SupportView → (share : ℕ) → List ElectedView → Type 0
-IsFairToGroups m s share elected = OfSomeMember s elected
-    (λ place amount voter. share < paid_within m s share elected place amount voter + amount)
-
--- So in each group some member supports so many elected projects that, at the amount for each, they and one
--- more would take more than the share; under measure cost, so costly ones that, at the amount for as much
--- cost as the project's, they and the project would.
-abbrev pub GroupsHaveWinners : Measure → SupportView → (share : ℕ) → List ElectedView → Type 0
-GroupsHaveWinners m s share elected = OfSomeMember s elected (λ place amount voter.
-    let supported = filter (λ w. list_any (λ v. v == voter) (supporters_at s w.place)) elected in
-    share * weight_of m s place < amount * (sum_by (λ w. weight_of m s w.place) supported + weight_of m s place))

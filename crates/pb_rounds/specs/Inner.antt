@@ -16,3 +16,5 @@ pub mod RaiseEnds
 pub mod Reach
 pub mod Threads
 pub mod Candidates
+pub mod Fairness
+pub mod LeftAfter

@@ -31,16 +31,12 @@ pub record FitsFirst (s : SupportView) (taken : List ℕ) (left place : ℕ) : T
   pub does_fit : fits s taken left place ≡ true
   pub first : (other : ℕ) → fits s taken left other ≡ true → other ≢ place → comes_first s place other ≡ true
 
--- what is left once these are paid
-abbrev pub left_after : SupportView → (left : ℕ) → (added : List ℕ) → ℕ
-left_after s left added = left - sum_by (cost_at s) added
-
--- Most votes first adds these, in this order: each was, of the projects that then fitted, the first, and in
--- the end no project fits.
+-- Most votes first adds these, in this order: each was, of the projects that fitted what those before it left,
+-- the first, and in the end no project fits.
 pub record IsMostVotesFirst (s : SupportView) (taken : List ℕ) (left : ℕ) (added : List ℕ) : Type 0 where
   pub first : (before : List ℕ) (place : ℕ) (later : List ℕ) → added ≡ before ++ place ∷ later
-      → FitsFirst s (taken ++ before) (left_after s left before) place
-  pub none_fits : (place : ℕ) → fits s (taken ++ added) (left_after s left added) place ≡ false
+      → FitsFirst s (taken ++ before) (left - sum_by (cost_at s) before) place
+  pub none_fits : (place : ℕ) → fits s (taken ++ added) (left - sum_by (cost_at s) added) place ≡ false
 
 -- the first of the projects that fit: the one that none of them comes before
 abbrev pub first_fitting : SupportView → (taken : List ℕ) → (left : ℕ) → Option ℕ

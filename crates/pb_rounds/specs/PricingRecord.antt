@@ -22,8 +22,7 @@ pub record ArePriced (s : SupportView) (elected : List ElectedView) (rests price
 -- no other project left is cheaper than w; and w was not cheaper than any of them by the price known before,
 -- but for at most one less than the workers.
 pub record IsPricedRound (m : Measure) (s : SupportView) (workers : ℕ) (before : List ElectedView)
-    (known next : ℕ → Option ℕ)
-    (w : ElectedView) (priced : List ℕ) : Type 0 where
+    (known next : ℕ → Option ℕ) (w : ElectedView) (priced : List ℕ) : Type 0 where
   pub has_winner : Contains priced w.place
   pub none_cheaper : (place price : ℕ) → IsLeft s before place → next place ≡ Some price
       → ¬ IsCheaper m s place price w.place w.price

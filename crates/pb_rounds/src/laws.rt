@@ -1,17 +1,19 @@
 //! Laws over counts and their rules, each as the contract of a function that does nothing.
 
-ghost use Rattle.std.specs.Prelude.{◌≡◌, ◌↔◌, ◌+◌, ◌*◌, ◌<◌, ◌≤◌, ℕ, List, None, Some, length};
+ghost use Rattle.std.specs.Prelude.{◌≡◌, ◌↔◌, ◌+◌, ◌*◌, ◌<◌, ◌≤◌, ◌==◌, ℕ, List, None, Some, filter};
+ghost use Rattle.std.specs.Prelude.{length, sum_by};
+ghost use Rattle.std.specs.List.{list_any};
 ghost use Rattle.pb_core.specs.Election.{ElectionView, IsElection};
-ghost use Rattle.pb_price.specs.Supporters.{SupportView, support_of};
+ghost use Rattle.pb_price.specs.Supporters.{SupportView, support_of, supporters_at};
 ghost use Rattle.pb_rounds.specs.Cheapest.{IsRun};
 ghost use Rattle.pb_rounds.specs.Completed.{AreSpent, IsCompleted};
 ghost use Rattle.pb_rounds.specs.Count.{add1_of, count_of, opening_share};
 ghost use Rattle.pb_rounds.specs.CountFault.{largest_step, refusal_of};
 ghost use Rattle.pb_rounds.specs.Counted.{IsCountFault, IsCountOf};
-ghost use Rattle.pb_rounds.specs.Fairness.{GroupsHaveWinners, IsFairToGroups};
+ghost use Rattle.pb_rounds.specs.Fairness.{OfSomeMember, paid_within};
 ghost use Rattle.pb_rounds.specs.Outcome.{OutcomeView, settled};
 ghost use Rattle.pb_rounds.specs.RuleNames.{profile_name};
-ghost use Rattle.pb_rounds.specs.Run.{ElectedView, RunView, outcome_of};
+ghost use Rattle.pb_rounds.specs.Run.{ElectedView, RunView, outcome_of, weight_of};
 ghost use Rattle.pb_rounds.specs.declared.count_fault.CountFault.TheVariants.{RaisesSpent};
 ghost use Rattle.pb_rounds.specs.declared.measure.Measure.{Measure};
 ghost use Rattle.pb_rounds.specs.declared.options.Completion.TheVariants.{Add1};
@@ -58,15 +60,24 @@ pub fn run_is_its_rule()
 /// Every run, and so every outcome of a count, is fair to groups: of voters who all want a project that is
 /// not elected, and whose shares together pay for it, at least one had already spent so much, on elected
 /// projects that took no more from it (under measure cost, for their cost) than that project would have, that
-/// too little of the share was left. So at least one has enough of the elected among its choices. (Added
-/// projects are no elected ones.)
+/// too little of the share was left. (Added projects are no elected ones.)
+///
+/// So at least one supports so many of the elected that, at the amount for each, they and one more would take
+/// more than the share; under measure cost, so costly ones that, at the amount for as much cost as the
+/// project's, they and the project would.
 pub fn outcomes_are_fair_to_groups()
     ensures run { (m : Measure) (s : SupportView) (share : ℕ) (elected : List ElectedView) (rests : List ℕ)
-        → IsRun m s share elected rests → IsFairToGroups m s share elected }
+        → IsRun m s share elected rests → OfSomeMember s elected (λ place amount voter.
+        share < paid_within m s share elected place amount voter + amount) }
     ensures count { (e : ElectionView) (options : CountOptions) (o : OutcomeView) → IsCountOf e options o
-        → IsFairToGroups options.measure (support_of e) o.share o.elected }
+        → OfSomeMember (support_of e) o.elected (λ place amount voter. o.share
+        < paid_within options.measure (support_of e) o.share o.elected place amount voter + amount) }
     ensures winners { (e : ElectionView) (options : CountOptions) (o : OutcomeView) → IsCountOf e options o
-        → GroupsHaveWinners options.measure (support_of e) o.share o.elected }
+        → let weight : ℕ → ℕ = weight_of options.measure (support_of e) in
+        OfSomeMember (support_of e) o.elected (λ place amount voter.
+        let supported = filter
+        (λ w. list_any (λ v. v == voter) (supporters_at (support_of e) w.place)) o.elected in
+        o.share * weight place < amount * (sum_by (λ w. weight w.place) supported + weight place)) }
 {}
 
 /// Two rules of one name have the same measure, raise shares or not, fill up or not, and where they raise shares

@@ -10,7 +10,9 @@ use Rattle.csv.specs.Machine.{next_record}
 use Rattle.csv.specs.Writing.{field_text, is_blank, needs_byte, read_back}
 use Rattle.csv.specs.declared.parser.State.TheVariants as st
 use Rattle.pb_rows.specs.Reading.{Fields, pb_config, records_of}
-use Rattle.pb_rows.specs.Writing.{ComeBack, pb_writer, text_of_row, text_of_rows}
+use Rattle.pb_rows.specs.Writing.{text_of_row, text_of_rows}
+use Rattle.pb_rows.specs.Inner.Writing.{ComeBack}
+use Rattle.pb_rows.specs.Inner.Writing.{pb_writer}
 use Rattle.pb_rows.proofs.RecordFacts.{records_enough}
 use Rattle.pb_rows.proofs.RowTrip.{empty-field, head-of, or-right, row-plain, tail-of, text-head}
 use Rattle.pb_rows.proofs.RoundTrip.{no_mark, row_first, rows_read_back}
@@ -152,7 +154,7 @@ loses_mark ((x ∷ fields) ∷ rows) rest is read =
 pub ComeBack-only : (rows : List Fields) → records_of (text_of_rows rows) ≡ rows → ComeBack rows
 unfolding records_of strip_bom
 ComeBack-only rows same =
-    let unmarked : (rest : List ℕ) → text_of_rows rows ≢ 0xEF ∷ 0xBB ∷ 0xBF ∷ rest = λ rest is. loses_mark rows rest is (subst (λ (t : List ℕ). records pb_config (strip_bom t) ≡ rows) is same) in record {
-      some_field = fields_there rows (sym (rows_read_back rows) ∙ (ap (records pb_config) (sym (no_mark (text_of_rows rows) unmarked)) ∙ same));
-      no_mark = unmarked;
-    }
+    let unmarked : (rest : List ℕ) → text_of_rows rows ≢ 0xEF ∷ 0xBB ∷ 0xBF ∷ rest = λ rest is. loses_mark rows rest is (subst (λ (t : List ℕ). records pb_config (strip_bom t) ≡ rows) is same) in (
+      fields_there rows (sym (rows_read_back rows) ∙ (ap (records pb_config) (sym (no_mark (text_of_rows rows) unmarked)) ∙ same)),
+      unmarked,
+    )

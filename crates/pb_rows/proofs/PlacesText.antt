@@ -9,7 +9,8 @@ use Rattle.std.proofs.lemmas.List.Elements.{All-from_get_or}
 use Rattle.std.proofs.lemmas.List.Splits.{join_with_byte-slice_split, slice_split_at, slice_split_none}
 use Rattle.std.proofs.lemmas.Str.Parse.{not_in_digits}
 use Rattle.pb_rows.proofs.NumberFacts.{own}
-use Rattle.pb_rows.specs.Numbers.{AreNumbers, places_text}
+use Rattle.pb_rows.specs.Numbers.{places_text}
+use Rattle.pb_rows.specs.Inner.Numbers.{AreNumbers}
 
 -- all but the first
 rest_are : (p : ℕ) (ps : List ℕ) → AreNumbers (p ∷ ps) → AreNumbers ps

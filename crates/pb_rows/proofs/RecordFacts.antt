@@ -8,7 +8,8 @@ use Rattle.csv.specs.declared.parser.State.{State}
 use Rattle.csv.specs.declared.parser.State.TheVariants as st
 use Rattle.csv.specs.declared.reader.Reader.{Reader}
 use Rattle.pb_rows.specs.Inner.Reading.{IsSetUp, fault_of_kind}
-use Rattle.pb_rows.specs.Reading.{Fields, IsNext, NextIsNoText, left_of, pb_config}
+use Rattle.pb_rows.specs.Reading.{Fields, IsNext, left_of, pb_config}
+use Rattle.pb_rows.specs.Inner.Reading.{NextIsNoText}
 use Rattle.pb_rows.specs.declared.fault.RecordsFault.TheVariants.{NotText}
 use Rattle.csv.specs.declared.error.ErrorKind.{ErrorKind}
 use Rattle.csv.specs.declared.error.ErrorKind.TheVariants as kind

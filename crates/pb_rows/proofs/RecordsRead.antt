@@ -3,7 +3,8 @@ use Rattle.std.proofs.Common.{◌≡◌, ◌∙◌, ◌++◌, ℕ, List, [], ◌
 use Rattle.std.specs.Prelude.{option_map}
 use Rattle.std.proofs.lemmas.List.{append-nil}
 use Rattle.csv.specs.Records.{AllText}
-use Rattle.pb_rows.specs.Reading.{Fields, IsNext, NextIsNoText, records_of}
+use Rattle.pb_rows.specs.Reading.{Fields, IsNext, records_of}
+use Rattle.pb_rows.specs.Inner.Reading.{NextIsNoText}
 use Rattle.pb_rows.specs.Inner.Reading.{HasRead, HasReadAtMost}
 
 -- at first none was read

@@ -7,7 +7,9 @@ use Rattle.csv.specs.Reading.{is_bom, records_from, strip_bom}
 use Rattle.csv.specs.Writing.{field_text, fields_text, is_blank, needs_byte, read_back}
 use Rattle.csv.specs.declared.parser.State.TheVariants as st
 use Rattle.pb_rows.specs.Reading.{Fields, pb_config, records_of}
-use Rattle.pb_rows.specs.Writing.{ComeBack, pb_writer, text_of_row, text_of_rows}
+use Rattle.pb_rows.specs.Writing.{text_of_row, text_of_rows}
+use Rattle.pb_rows.specs.Inner.Writing.{ComeBack}
+use Rattle.pb_rows.specs.Inner.Writing.{pb_writer}
 use Rattle.pb_rows.proofs.RecordFacts.{none_in_empty, records_more}
 use Rattle.pb_rows.proofs.RowTrip.{empty-field, head-of, read-write, row-plain, tail-of, text-head}
 
@@ -99,13 +101,11 @@ rows_first ((x ∷ rest) ∷ rows) ascii some = row_first x rest (text_of_rows r
 
 -- rows that each have a field, the first byte of all in ASCII, come back
 pub ComeBack-ascii : (rows : List Fields) → All (λ fields. 0 < length fields) rows → first_byte rows < 128 → ComeBack rows
-ComeBack-ascii rows some ascii = record {
-  some_field = some;
-  no_mark = λ rest is. absurd (omega (arith, rw is at (rows_first rows ascii some)));
-}
+ComeBack-ascii rows some ascii =
+    (some, λ rest is. absurd (omega (arith, rw is at (rows_first rows ascii some))))
 
 -- rows that come back are the records of their text
 pub records_of-text_of_rows : (rows : List Fields) → ComeBack rows → records_of (text_of_rows rows) ≡ rows
 unfolding records_of
 records_of-text_of_rows rows come =
-    rw (no_mark (text_of_rows rows) come.no_mark) (rows_read_back rows ∙ read_back_same rows come.some_field)
+    rw (no_mark (text_of_rows rows) come.1) (rows_read_back rows ∙ read_back_same rows come.0)

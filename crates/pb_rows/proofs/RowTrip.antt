@@ -7,7 +7,7 @@ use Rattle.std.proofs.lemmas.List.{append-nil}
 use Rattle.std.proofs.lemmas.Bool.{cases_Bool, eqb-true, ne_eqb}
 use Rattle.csv.specs.Machine.{next_record}
 use Rattle.pb_rows.specs.Reading.{pb_config}
-use Rattle.pb_rows.specs.Writing.{pb_writer}
+use Rattle.pb_rows.specs.Inner.Writing.{pb_writer}
 use Rattle.csv.specs.Writing.{escaped, field_text, fields_text, is_blank, needs_byte, read_back, row_text}
 use Rattle.csv.specs.declared.parser.State.TheVariants as st
 

@@ -2,3 +2,4 @@
 -- them.
 pub mod Reading
 pub mod Writing
+pub mod Numbers

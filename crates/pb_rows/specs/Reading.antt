@@ -1,8 +1,7 @@
 -- The records of a text.
 use Rattle.std.specs.Prelude.{◌≡◌, ◌+◌, ℕ, Bool, true, false, List, [], ◌∷◌, length, Option, Some, None}
-use Rattle.std.specs.Prelude.{IfSome, IsSomeAnd, option_map, slice_get, ⊤}
+use Rattle.std.specs.Prelude.{option_map, ⊤}
 use Rattle.csv.specs.Reading.{default_config, reader_state, records, records_from, source_of, strip_bom}
-use Rattle.csv.specs.Records.{AllText}
 use Rattle.csv.specs.declared.parser.Config.{Config}
 use Rattle.csv.specs.declared.reader.Reader.{Reader}
 use Rattle.pb_rows.specs.declared.fault.RecordsFault.{RecordsFault}
@@ -32,10 +31,6 @@ abbrev pub IsNext : Option (List Fields) → Option (List Fields) → Bool → F
 IsNext None after found fields = ⊤
 IsNext (Some []) after found fields = found ≡ false
 IsNext (Some (first ∷ rest)) after found fields = (found ≡ true) × (fields ≡ first) × (after ≡ Some rest)
-
--- where it is known what is left, there is a next record, and it has a field that is no text
-abbrev pub NextIsNoText : Option (List Fields) → Type 0
-NextIsNoText left = IfSome left (λ records. IsSomeAnd (slice_get records 0) (λ next. ¬ AllText next))
 
 -- the records that are left: unknown after a fault, none after the end, and else those that a reader of csv
 -- still gives

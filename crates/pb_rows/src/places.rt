@@ -1,8 +1,8 @@
 //! Lists of places as text.
 
-ghost use Rattle.std.specs.Prelude.{◌≡◌, ◌≢◌, ◌++◌, ℕ, List, true, false, string_bytes};
+ghost use Rattle.std.specs.Prelude.{◌≡◌, ◌≢◌, ◌<◌, ◌^◌, ◌++◌, ℕ, All, List, true, false, string_bytes};
 ghost use Rattle.std.specs.Prelude.{IfOk, OnErr, OnOk};
-ghost use Rattle.pb_rows.specs.Numbers.{AreNumbers, places_text};
+ghost use Rattle.pb_rows.specs.Numbers.{places_text};
 
 use crate::number::read_number;
 use itoa::Buffer;
@@ -20,7 +20,7 @@ pub fn read_place_list<A: Allocator>(
     ensures listed { IfOk result (λ is_list. is_list ≡ true
         → text.now ≡ places_text places.new.items) }
     ensures other { IfOk result (λ is_list. is_list ≡ false
-        → (list : List ℕ) → AreNumbers list → text.now ≢ places_text list) }
+        → (list : List ℕ) → All (λ place. place < 2 ^ 32) list → text.now ≢ places_text list) }
 {
     places.clear();
     if text.is_empty() {

@@ -1,8 +1,10 @@
 //! The records of a text, one at a time.
 
-ghost use Rattle.std.specs.Prelude.{◌≡◌, [], false, Some, None, IfOk, IfErr, IfSome, OnErr, OnOk, option_map};
+ghost use Rattle.std.specs.Prelude.{◌≡◌, [], false, Some, None, IfOk, IfErr, IfSome, IsSomeAnd, OnErr};
+ghost use Rattle.std.specs.Prelude.{OnOk, option_map};
+ghost use Rattle.std.specs.Prelude.{slice_get};
 ghost use Rattle.csv.specs.Records.{AllText, fields_of};
-ghost use Rattle.pb_rows.specs.Reading.{IsNext, NextIsNoText, records_of};
+ghost use Rattle.pb_rows.specs.Reading.{IsNext, records_of};
 
 use crate::fault::RecordsFault;
 use csv::{ByteRecord, Reader, ReaderBuilder, StringRecord};
@@ -73,7 +75,8 @@ impl<R: Read> Records<R> {
         ensures stops { IfErr result (λ fault. self.new.fault ≡ Some fault) }
         ensures unknown { OnErr result (self.new.left ≡ None) }
         ensures again { IfSome self.old.fault (λ fault. result ≡ Err fault) }
-        ensures not_text { result ≡ Err RecordsFault.NotText → NextIsNoText self.old.left }
+        ensures not_text { result ≡ Err RecordsFault.NotText → IfSome self.old.left (λ records.
+            IsSomeAnd (slice_get records 0) (λ next. ¬ AllText next)) }
     {
         if let Some(fault) = self.fault {
             return Err(fault);

@@ -14,13 +14,15 @@ use Rattle.pb_desk.proofs.Replays.{entry_by_entry}
 use Rattle.pb_desk.proofs.RowForms.{can_be_asked, small_place}
 use Rattle.pb_desk.specs.Inner.Legal.{IsLegalFrom}
 use Rattle.pb_desk.specs.Inner.RowReading.{IsAnswer}
-use Rattle.pb_desk.specs.Replay.{IsLegal, opened}
+use Rattle.pb_desk.specs.Replay.{IsLegal}
+use Rattle.pb_desk.specs.Inner.Opening.{opened}
 use Rattle.pb_desk.specs.Rows.{IsEntry, IsRequest, ScriptRowView}
 use Rattle.pb_desk.specs.Standing.{Standing}
-use Rattle.pb_desk.specs.Step.{answer_of, has_ballot, is_too_long, open_answer_of, places_of, step}
-use Rattle.pb_rows.specs.Numbers.{AreNumbers}
+use Rattle.pb_desk.specs.Step.{answer_of, is_too_long, open_answer_of, places_of, step}
+use Rattle.pb_desk.specs.Inner.Ballots.{has_ballot}
+use Rattle.pb_rows.specs.Inner.Numbers.{AreNumbers}
 use Rattle.pb_rows.specs.Reading.{Fields}
-use Rattle.pb_shared.specs.Clerk.{entries_by}
+use Rattle.pb_shared.specs.Inner.Entries.{entries_by}
 use Rattle.pb_script.specs.Inner.Admission.{Admits}
 use Rattle.pb_script.specs.Scripts.{IsScript}
 use Rattle.pb_script.specs.declared.admission.Admission.{Admission}

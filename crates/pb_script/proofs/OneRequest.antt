@@ -7,7 +7,8 @@ use Rattle.pb_desk.specs.Rows.{Asks, word_of}
 use Rattle.pb_desk.specs.Step.{places_of, voter_of}
 use Rattle.pb_desk.specs.declared.request_fields.Strictness.{Strictness}
 use Rattle.pb_rows.proofs.PlacesText.{places_text-injective}
-use Rattle.pb_rows.specs.Numbers.{AreNumbers, places_text}
+use Rattle.pb_rows.specs.Numbers.{places_text}
+use Rattle.pb_rows.specs.Inner.Numbers.{AreNumbers}
 use Rattle.pb_rows.specs.Reading.{Fields}
 use Rattle.pb_script.proofs.Rising.{members_back, members_numbers, same_pairs}
 

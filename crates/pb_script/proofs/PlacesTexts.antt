@@ -7,7 +7,8 @@ use Rattle.std.proofs.lemmas.List.Elements.{All-head, All-tail}
 use Rattle.std.proofs.lemmas.Str.{IsAscii-append, IsUtf8-from_ascii}
 use Rattle.std.proofs.lemmas.Str.Ascii.{IsAscii-cons, IsAscii-nil}
 use Rattle.csv.specs.Records.{AllText}
-use Rattle.pb_rows.specs.Numbers.{AreNumbers, places_text}
+use Rattle.pb_rows.specs.Numbers.{places_text}
+use Rattle.pb_rows.specs.Inner.Numbers.{AreNumbers}
 
 places_ascii : (places : List ℕ) → AreNumbers places → IsAscii (join_with_byte 44 (map decimal places))
 places_ascii [] are = IsAscii-nil

@@ -4,7 +4,7 @@ use Rattle.std.specs.List.{AllPairs}
 use Rattle.std.proofs.lemmas.List.Elements.{All-contains, Contains-get_or}
 use Rattle.pb_core.specs.Ballot.{HasSameMembers}
 use Rattle.pb_read.proofs.ListFacts.{Contains-cons}
-use Rattle.pb_rows.specs.Numbers.{AreNumbers}
+use Rattle.pb_rows.specs.Inner.Numbers.{AreNumbers}
 
 Contains-tail : (x z : ℕ) (xs : List ℕ) → Contains (x ∷ xs) z → x ≢ z → Contains xs z
 Contains-tail x z xs c other = go c.0 c.1 c.2

@@ -15,7 +15,8 @@ use Rattle.pb_read.specs.Voting.{is_among}
 use Rattle.pb_rows.specs.Reading.{Fields, IsNext}
 use Rattle.pb_script.specs.Inner.Roll.{HaveIds, IsFaultAfter, PutsId}
 use Rattle.pb_script.specs.Inner.ScriptReading.{HaveGone}
-use Rattle.pb_script.specs.Roll.{IsNextRollFault, IsRoll, IsRollFault, ids_of}
+use Rattle.pb_script.specs.Roll.{IsNextRollFault, ids_of}
+use Rattle.pb_script.specs.Inner.Roll.{IsRoll, IsRollFault}
 use Rattle.pb_read.specs.StandsFor.{most_records}
 use Rattle.pb_script.specs.declared.roll.RollFault.{RollFault}
 use Rattle.pb_script.specs.declared.roll.RollFault.TheVariants.{NoMemory}

@@ -6,7 +6,7 @@ use Rattle.std.proofs.lemmas.List.{length-map, length-take}
 use Rattle.std.proofs.lemmas.List.Elements.{All-head, All-tail}
 use Rattle.pb_core.specs.Request.{EntryView, RequestView}
 use Rattle.pb_desk.specs.Replay.{most_clerks}
-use Rattle.pb_shared.specs.Clerk.{entries_by}
+use Rattle.pb_shared.specs.Inner.Entries.{entries_by}
 use Rattle.pb_read.specs.StandsFor.{most_records}
 use Rattle.pb_script.specs.Serving.{program_room}
 use Rattle.pb_script.specs.Inner.Serving.{ServesAll, ServesUpTo, list_of}

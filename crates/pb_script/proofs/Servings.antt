@@ -8,7 +8,10 @@ use Rattle.std.proofs.lemmas.List.Elements.{All-append, All-cons, All-head, All-
 use Rattle.pb_core.specs.Request.{EntryView, RequestView}
 use Rattle.pb_core.specs.declared.answer.Answer.{Answer}
 use Rattle.pb_desk.specs.Desk.{DeskView}
-use Rattle.pb_shared.specs.Clerk.{AreAll, AreClerks, AreNewcomers, Begins, ClerkView, IsMergeOf, SharedView, Serves, entries_by}
+use Rattle.pb_shared.specs.Clerk.{AreClerks, Begins, ClerkView, IsMergeOf, SharedView, Serves}
+use Rattle.pb_shared.specs.Inner.AllClerks.{AreAll}
+use Rattle.pb_shared.specs.Inner.Entries.{entries_by}
+use Rattle.pb_shared.specs.Inner.Newcomers.{AreNewcomers}
 use Rattle.pb_shared.specs.declared.seat_view.Sheet.{Sheet}
 use Rattle.pb_shared.specs.Inner.Seats.{newcomer}
 use Rattle.pb_shared.specs.declared.share_fault.ShareFault.{ShareFault}

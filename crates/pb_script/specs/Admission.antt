@@ -1,5 +1,5 @@
 -- Which rows a desk admits, and how they name projects.
-use Rattle.std.specs.Prelude.{◌≡◌, ℕ, Bool, true, false, not, is_some, nat_le, List, [], ◌∷◌, length, Option, Some}
+use Rattle.std.specs.Prelude.{◌≡◌, ℕ, true, false, not, is_some, nat_le, List, [], ◌∷◌, length, Option, Some}
 use Rattle.std.specs.Prelude.{None, Result, Ok, Err, if◌then◌else◌}
 use Rattle.std.specs.FinMap.{get}
 use Rattle.std.specs.Option.{option_map_or}

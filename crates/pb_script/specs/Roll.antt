@@ -1,13 +1,9 @@
 -- A voters' roll.
-use Rattle.std.specs.Prelude.{◌≡◌, ℕ, ◌+◌, ◌≤◌, ◌++◌, List, [], ◌∷◌, All, codes, drop, if◌then◌else◌, is_some}
+use Rattle.std.specs.Prelude.{◌≡◌, ℕ, ◌+◌, ◌≤◌, List, [], ◌∷◌, All, codes, drop, if◌then◌else◌}
 use Rattle.std.specs.Prelude.{length, map, slice_index_or}
-use Rattle.std.specs.Cmp.Lexicographic.{slice_cmp}
-use Rattle.std.specs.FinMap.{FinMap, get}
-use Rattle.std.specs.Ordering.{nat_cmp}
 use Rattle.std.specs.Str.{bytes_eq, trim}
 use Rattle.csv.specs.Records.{AllText}
 use Rattle.pb_read.specs.Rows.{field}
-use Rattle.pb_read.specs.Voting.{is_among}
 use Rattle.pb_rows.specs.Reading.{Fields}
 use Rattle.pb_read.specs.StandsFor.{most_records}
 use Rattle.pb_script.specs.declared.roll.RollFault.{RollFault}
@@ -23,11 +19,6 @@ ids_of records = let ids = map (λ row. trim (field row 0)) records in
 abbrev pub AreRoll : List Fields → Type 0
 AreRoll records = All AllText records × (length (ids_of records) ≤ most_records)
 
--- the table is that of the roll which these records are: it has their ids, and no others
-abbrev pub IsRoll : List Fields → FinMap (slice_cmp nat_cmp) ℕ → Type 0
-IsRoll records roll =
-    AreRoll records × ((voter : List ℕ) → is_some (get roll voter) ≡ is_among (ids_of records) voter)
-
 -- the fault of the first of the records that are left, where these came before it
 abbrev pub IsNextRollFault : List Fields → List Fields → RollFault → Type 0
 IsNextRollFault before left (ReadFailed row) = row ≡ length before + 1
@@ -35,8 +26,3 @@ IsNextRollFault before (fields ∷ rest) (NotText row) = (row ≡ length before 
 IsNextRollFault before (fields ∷ rest) (TooManyIds row) =
     (row ≡ length before + 1) × (length (ids_of before) ≡ most_records) × AllText fields
 IsNextRollFault before left fault = fault ≡ NoMemory
-
--- the first fault of the records: those before it are a roll
-abbrev pub IsRollFault : List Fields → RollFault → Type 0
-IsRollFault records fault = (before : List Fields) × (left : List Fields) × (records ≡ before ++ left)
-    × AreRoll before × IsNextRollFault before left fault

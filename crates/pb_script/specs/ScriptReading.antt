@@ -1,9 +1,8 @@
 -- Why the records of a script are not accepted.
-use Rattle.std.specs.Prelude.{◌≡◌, ℕ, ⊤, ◌+◌, ◌≤◌, ◌++◌, List, [], ◌∷◌, length, All, Ok, Err}
+use Rattle.std.specs.Prelude.{◌≡◌, ℕ, ⊤, ◌+◌, ◌≤◌, List, [], ◌∷◌, Err}
 use Rattle.pb_rows.specs.Reading.{Fields}
 use Rattle.pb_script.specs.Admission.{Judges}
 use Rattle.pb_read.specs.StandsFor.{most_records}
-use Rattle.pb_desk.specs.Rows.{ScriptRowView}
 use Rattle.pb_script.specs.declared.admission.Admission.{Admission}
 use Rattle.pb_script.specs.declared.admission.RowRefusal.{RowRefusal}
 use Rattle.pb_script.specs.declared.admission.RowRefusal.TheVariants as row
@@ -30,9 +29,3 @@ IsNextScriptFault a clerks before [] fault = ⊥
 IsNextScriptFault a clerks before (fields ∷ rest) TooManyRows = before ≡ most_records
 IsNextScriptFault a clerks before (fields ∷ rest) fault = (why : RowRefusal)
     × (fault ≡ fault_of_row why (before + 1)) × (before + 1 ≤ most_records) × Judges a clerks fields (Err why)
-
--- the first fault of the records: those before it are admitted
-abbrev pub IsFaultOfScript : Admission → ℕ → List Fields → ScriptFault → Type 0
-IsFaultOfScript a clerks records fault = (before : List Fields) × (left : List Fields)
-    × (records ≡ before ++ left) × All (λ row. (x : ScriptRowView) × Judges a clerks row (Ok x)) before
-    × IsNextScriptFault a clerks (length before) left fault

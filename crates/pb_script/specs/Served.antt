@@ -1,14 +1,16 @@
 -- What comes of a script: the text of a journal that serves it, or why there is none.
-use Rattle.std.specs.Prelude.{◌≡◌, ℕ, ◌<◌, ◌==◌, ◌++◌, Bool, List, [], ◌∷◌, All, filter, if◌then◌else◌, map}
+use Rattle.std.specs.Prelude.{◌≡◌, ℕ, ◌<◌, ◌==◌, ◌++◌, Bool, List, [], ◌∷◌, All, filter, if◌then◌else◌}
+use Rattle.std.specs.Prelude.{length, map, Ok}
 use Rattle.pb_core.specs.Election.{ElectionView}
 use Rattle.pb_core.specs.Request.{EntryView, Shut}
 use Rattle.pb_desk.specs.Audit.{IsSound}
 use Rattle.pb_desk.specs.Rows.{journal_text, ScriptRowView}
 use Rattle.pb_desk.specs.declared.version.Version.TheVariants.{Two}
 use Rattle.pb_rows.specs.Reading.{Fields}
-use Rattle.pb_shared.specs.Clerk.{AreClerks, entries_by}
+use Rattle.pb_shared.specs.Clerk.{AreClerks}
 use Rattle.pb_script.specs.Scripts.{IsScript}
-use Rattle.pb_script.specs.ScriptReading.{IsFaultOfScript}
+use Rattle.pb_script.specs.Admission.{Judges}
+use Rattle.pb_script.specs.ScriptReading.{IsNextScriptFault}
 use Rattle.pb_script.specs.Serving.{program_room}
 use Rattle.pb_script.specs.declared.admission.Admission.{Admission}
 use Rattle.pb_script.specs.declared.serve_fault.ServeFault.{ServeFault}
@@ -24,14 +26,16 @@ pub record IsServed (a : Admission) (e : ElectionView) (clerks : ℕ) (shuts : B
   pub in_range : AreClerks clerks
   pub served : List EntryView
   pub last : List EntryView
-  pub in_order : (clerk : ℕ) → clerk < clerks → map (λ x. x.request) (entries_by clerk served)
+  pub in_order : (clerk : ℕ) → clerk < clerks → map (λ x. x.request) (filter (λ x. x.clerk == clerk) served)
       ≡ map (λ x. x.request) (filter (λ x. x.clerk == clerk) script)
   pub by_clerks : All (λ x. x.clerk < clerks) served
   pub ends : (map (λ x. x.request) last ≡ (if shuts then Shut ∷ [] else [])) × All (λ x. x.clerk ≡ 0) last
   pub sound : IsSound (record { election = e; version = Two }) program_room (served ++ last)
   pub text_is : text ≡ journal_text Two (served ++ last)
 
--- why there is none: the script's first fault; or the number of clerks
+-- why there is none: the script's first fault, before which all records are admitted; or the number of clerks
 abbrev pub IsServeFault : Admission → ℕ → List Fields → ServeFault → Type 0
-IsServeFault a clerks rows (Script fault) = IsFaultOfScript a clerks rows fault
+IsServeFault a clerks rows (Script fault) = (before left : List Fields) × (rows ≡ before ++ left)
+    × All (λ row. (x : ScriptRowView) × Judges a clerks row (Ok x)) before
+    × IsNextScriptFault a clerks (length before) left fault
 IsServeFault a clerks rows ClerkCount = (s : List ScriptRowView) × IsScript a clerks rows s × ¬ AreClerks clerks

@@ -1,12 +1,15 @@
 //! The reader of a voters' roll: the ids of those who may vote, one a row.
 
-ghost use Rattle.std.specs.Prelude.{◌≡◌, ◌<◌, ◌≤◌, ◌+◌, [], Some, false, true, IfErr, IfOk, IfSome, OnOk};
+ghost use Rattle.std.specs.Prelude.{◌≡◌, ◌<◌, ◌≤◌, ◌+◌, ◌++◌, ℕ, List, [], Some, false, true, is_some};
+ghost use Rattle.std.specs.Prelude.{IfErr, IfOk, IfSome, OnOk};
 ghost use Rattle.std.specs.FinMap as map;
 ghost use Rattle.std.specs.Str.{trim};
 ghost use Rattle.csv.specs.Records.{AllText, fields_of};
 ghost use Rattle.pb_read.specs.Rows.{field};
-ghost use Rattle.pb_rows.specs.Reading.{IsNext, records_of};
-ghost use Rattle.pb_script.specs.Roll.{IsRoll, IsRollFault};
+ghost use Rattle.pb_read.specs.Voting.{is_among};
+ghost use Rattle.pb_rows.specs.Reading.{Fields, IsNext, records_of};
+ghost use Rattle.pb_script.specs.Roll.{AreRoll, IsNextRollFault, ids_of};
+ghost use Rattle.pb_script.specs.Inner.Roll.{IsRoll, IsRollFault};
 ghost use Rattle.pb_script.specs.Inner.Roll.{IsFaultAfter, PutsId};
 ghost use Rattle.pb_read.specs.StandsFor.{most_records};
 
@@ -60,16 +63,18 @@ impl From<AllocError> for RollFault {
     }
 }
 
-/// Reads the ids of a roll, the first field of each row, without white space at its ends. A first row that
-/// begins with `voter_id` is a header.
+/// Reads the ids of a roll, the first field of each row, without white space at its ends: the table has these
+/// and no others. A first row that begins with `voter_id` is a header.
 ///
-/// The first faulty row decides; within a row a reader that fails comes first, then what is no text, then the
-/// limit of 2,000,000 ids.
+/// The first faulty row decides: the rows before it are a roll; within a row a reader that fails comes first,
+/// then what is no text, then the limit of 2,000,000 ids.
 pub fn read_roll<R: Read + Drop>(alloc: Global, reader: R) -> Result<IdTable, RollFault>
     ensures roll { IfOk result (λ roll. IfSome (R.remaining reader)
-        (λ bytes. IsRoll (records_of bytes) roll)) }
+        (λ bytes. AreRoll (records_of bytes) × ((voter : List ℕ)
+        → is_some (map.get roll voter) ≡ is_among (ids_of (records_of bytes)) voter))) }
     ensures fault { IfErr result (λ fault. IfSome (R.remaining reader) (λ bytes.
-        IsRollFault (records_of bytes) fault)) }
+        (before left : List Fields) × (records_of bytes ≡ before ++ left)
+        × AreRoll before × IsNextRollFault before left fault)) }
 {
     let mut records = Records::new(alloc, reader);
     let mut roll = IdTable::new(alloc);

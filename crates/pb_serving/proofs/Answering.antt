@@ -11,7 +11,7 @@ use Rattle.pb_core.specs.declared.answer.Answer.{Answer}
 use Rattle.pb_desk.specs.Replay.{most_clerks}
 use Rattle.pb_desk.specs.Rows.{journal_text, row_of, rows_from}
 use Rattle.pb_desk.specs.declared.version.Version.TheVariants.{One}
-use Rattle.pb_durable.specs.DurableDesk.{entries_of}
+use Rattle.pb_durable.specs.Inner.Entries.{entries_of}
 use Rattle.pb_durable.specs.declared.clerk_request.ClerkRequest.{ClerkRequest}
 use Rattle.pb_rows.proofs.RowsText.{text_of_rows-append}
 use Rattle.pb_rows.specs.Reading.{Fields}

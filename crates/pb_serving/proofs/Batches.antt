@@ -6,7 +6,7 @@ use Rattle.std.proofs.lemmas.List.{append-nil}
 use Rattle.std.proofs.lemmas.List.Elements.{All-append, All-cons, All-nil}
 use Rattle.pb_core.specs.Request.{EntryView, asked}
 use Rattle.pb_core.specs.declared.answer.Answer.{Answer}
-use Rattle.pb_durable.specs.DurableDesk.{entries_of}
+use Rattle.pb_durable.specs.Inner.Entries.{entries_of}
 use Rattle.pb_script.specs.Admission.{broken_rule}
 use Rattle.pb_script.specs.declared.admission.RowRefusal.{RowRefusal}
 use Rattle.pb_script.specs.declared.admission.RowRefusal.TheVariants as refusal

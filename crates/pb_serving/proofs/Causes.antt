@@ -11,7 +11,8 @@ use Rattle.pb_durable.specs.declared.device_fault.DeviceFault.TheVariants as dev
 use Rattle.pb_durable.specs.declared.durable_fault.DurableFault.{DurableFault}
 use Rattle.pb_durable.specs.declared.durable_fault.DurableFault.TheVariants as durable
 use Rattle.pb_serving.proofs.Apart.{same_err}
-use Rattle.pb_serving.specs.Answered.{HasNoRoom, IsBehind}
+use Rattle.pb_serving.specs.Answered.{IsBehind}
+use Rattle.pb_serving.specs.Inner.Room.{HasNoRoom}
 use Rattle.pb_faults.specs.declared.fault.AppFault.{AppFault}
 use Rattle.pb_faults.specs.declared.fault.AppFault.TheVariants.{ClerkCount, Count, Audit, Export, Memory, Open, OpenDesk, OtherFile, Read, Roll, Script, Serving, Warned, Write}
 use Rattle.pb_faults.specs.declared.serving_fault.ServingFault.TheVariants.{Spelling, Moved, Locked, Output}
@@ -19,13 +20,13 @@ use Rattle.pb_script.specs.declared.script_fault.ScriptFault.TheVariants.{ReadFa
 use Rattle.pb_faults.specs.Durable.{of_device, of_durable}
 
 pub behind_device : (why : DeviceFault) (answered served unserved : ℕ) → served + unserved ≤ 4097 → IsBehind (of_device why) answered served unserved
-behind_device device.NoMemory answered served unserved few = few
-behind_device device.Failed answered served unserved few = few
-behind_device device.Full answered served unserved few = few
+behind_device device.NoMemory answered served unserved few = (few, inl refl)
+behind_device device.Failed answered served unserved few = (few, inr refl)
+behind_device device.Full answered served unserved few = (few, inr refl)
 
 pub behind_durable : (why : DurableFault) (answered served unserved : ℕ) → served + unserved ≤ 4097 → IsBehind (of_durable why) answered served unserved
-behind_durable (durable.Desk desk.NoMemory) answered served unserved few = few
-behind_durable (durable.Desk desk.JournalFull) answered served unserved few = few
+behind_durable (durable.Desk desk.NoMemory) answered served unserved few = (few, inl refl)
+behind_durable (durable.Desk desk.JournalFull) answered served unserved few = (few, inr refl)
 behind_durable (durable.Device why) answered served unserved few = behind_device why answered served unserved few
 
 pub not_failed : (before now : ℕ) → before ≤ now → (before < now → ⊥) → now ≡ before

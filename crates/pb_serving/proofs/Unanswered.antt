@@ -6,7 +6,7 @@ use Rattle.std.proofs.lemmas.List.{append-nil}
 use Rattle.std.proofs.lemmas.List.Elements.{filter_map-append}
 use Rattle.pb_core.specs.Request.{EntryView}
 use Rattle.pb_core.specs.declared.answer.Answer.{Answer}
-use Rattle.pb_durable.specs.DurableDesk.{entries_of}
+use Rattle.pb_durable.specs.Inner.Entries.{entries_of}
 use Rattle.pb_durable.specs.declared.clerk_request.ClerkRequest.{ClerkRequest}
 use Rattle.pb_rows.specs.Reading.{Fields}
 use Rattle.pb_script.specs.RowsView.{HasGiven, RowsView}

@@ -1,5 +1,5 @@
 -- What a run of `serve` says.
-use Rattle.std.specs.Prelude.{◌≡◌, ◌⊎◌, ◌<◌, ◌≤◌, ℕ, suc, ◌+◌, ◌-◌, ◌^◌, ◌++◌, ◌==◌, min, List, [], ◌∷◌}
+use Rattle.std.specs.Prelude.{◌≡◌, ◌⊎◌, ◌≤◌, ℕ, suc, ◌+◌, ◌-◌, ◌^◌, ◌++◌, ◌==◌, min, List, [], ◌∷◌}
 use Rattle.std.specs.Prelude.{IfSome, Result, Ok, Err, codes, decimal, filter_map, length, if◌then◌else◌}
 use Rattle.std.specs.List.{AllZip}
 use Rattle.std.specs.Result.{result_map_both, result_ok}
@@ -55,10 +55,8 @@ abbrev pub IsBehind : AppFault → (answered served unserved : ℕ) → Type 0
 IsBehind (Script (ReadFailed i)) answered served unserved =
     (i ≡ min (answered + 1) (2 ^ 32 - 1)) × (served + unserved ≡ 0)
 IsBehind (Script TooManyRows) answered served unserved = (2 ^ 50 ≤ answered) × (served + unserved ≡ 0)
-IsBehind Memory answered served unserved = served + unserved ≤ 4097
-IsBehind Write answered served unserved = served + unserved ≤ 4097
 IsBehind (Serving Output) answered served unserved = (served ≤ 4097) × (unserved ≡ 0)
-IsBehind fault answered served unserved = ⊥
+IsBehind fault answered served unserved = (served + unserved ≤ 4097) × ((fault ≡ Memory) ⊎ (fault ≡ Write))
 
 -- Where a run has ended early: some first rows were answered by this text, with which the journal had come so
 -- far. Those that are served behind them are what the journal has besides; those that are not served left
@@ -72,8 +70,3 @@ Halts a fault before after old kept now text = (answered served unserved rest : 
     × IsBehind fault (length answered) (length served) (length unserved)
     × (¬ HasFailed before → HasFailed after → served ++ unserved ≡ []
     → (i : ℕ) × (fault ≡ Script (ReadFailed i)))
-
--- at some entry the journal, or its file, had no room for a batch more
-abbrev pub HasNoRoom : DeskView → Type 0
-HasNoRoom d = (early more : List EntryView) × (d.journal ≡ early ++ more)
-    × ((d.room < length early + 4096) ⊎ (2 ^ 60 ≤ length (journal_text d.opening.version early)))

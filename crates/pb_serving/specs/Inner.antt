@@ -3,3 +3,5 @@
 pub mod Admitted
 pub mod Batch
 pub mod Rows
+pub mod Room
+pub mod AtHand

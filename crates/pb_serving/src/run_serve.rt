@@ -8,7 +8,8 @@ ghost use Rattle.pb_core.specs.declared.answer.Answer.{Answer};
 ghost use Rattle.pb_desk.specs.Replay.{most_clerks, IsLegal};
 ghost use Rattle.pb_desk.specs.Rows.{journal_text, rows_from};
 ghost use Rattle.pb_durable.specs.Device.{LeavesOnly, Only};
-ghost use Rattle.pb_durable.specs.DurableDesk.{entries_of, IsDurable};
+ghost use Rattle.pb_durable.specs.DurableDesk.{IsDurable};
+ghost use Rattle.pb_durable.specs.Inner.Entries.{entries_of};
 ghost use Rattle.pb_durable.specs.Inner.Either.{StandsForEither};
 ghost use Rattle.pb_rows.specs.Reading.{Fields};
 ghost use Rattle.pb_rows.specs.Writing.{text_of_rows};
@@ -17,7 +18,8 @@ ghost use Rattle.pb_script.specs.declared.script_fault.ScriptFault.TheVariants.{
 ghost use Rattle.pb_script.specs.RowsView.{HasFailed, HasGiven};
 ghost use Rattle.pb_script.specs.ScriptReading.{fault_of_row};
 ghost use Rattle.pb_faults.specs.Fault.{line, told};
-ghost use Rattle.pb_serving.specs.Answered.{heading, Answers, Halts, HasNoRoom, IsBehind, StandsWithin};
+ghost use Rattle.pb_serving.specs.Answered.{heading, Answers, Halts, IsBehind, StandsWithin};
+ghost use Rattle.pb_serving.specs.Inner.Room.{HasNoRoom};
 ghost use Rattle.pb_serving.specs.Inner.Admitted.{AddsAdmitted};
 
 use crate::batch::{BatchEnd, next_batch};
@@ -88,11 +90,15 @@ pub fn run_serve<D: Device, R: Read, P: RowsAtHand, N: Notice, W: Write>(
     ensures blame { (i : ℕ) → IsErrOf result (AppFault.Script (ReadFailed i)) → HasFailed rows.new }
     ensures read { OnOk result (rows.new.fault ≡ None) }
 
-    // A failure of the device is told, and only there, or where there is no room.
+    // A failure of the device is told, and only there, or where at some entry the journal, or its file, had
+    // no room for a batch more.
     ensures told { D.tells → D.failures desk.old.file.device < D.failures desk.new.file.device
         → IsErrOf result (AppFault.Write) }
     ensures write { D.tells → IsErrOf result (AppFault.Write)
-        → (D.failures desk.old.file.device < D.failures desk.new.file.device) ⊎ HasNoRoom desk.new.desk }
+        → (D.failures desk.old.file.device < D.failures desk.new.file.device)
+        ⊎ ((early more : List EntryView) × (desk.new.desk.journal ≡ early ++ more)
+        × ((desk.new.desk.room < length early + 4096)
+        ⊎ (2 ^ 60 ≤ length (journal_text desk.new.desk.opening.version early)))) }
 
     // Where the writer fails, all that was served stands.
     ensures output { D.tells → IsErrOf result (AppFault.Serving ServingFault.Output)

@@ -8,10 +8,12 @@ use Rattle.atomic_table.specs.Table.{State, Final, Seen}
 use Rattle.pb_shared.specs.Inner.Desk.{desk_with}
 use Rattle.pb_core.specs.Request.{EntryView}
 use Rattle.pb_desk.specs.Desk.{DeskView}
-use Rattle.pb_shared.specs.Clerk.{SharedView, ClerkView, AreAll, Begins, IsAnothers, IsMergeOf, entries_by}
+use Rattle.pb_shared.specs.Clerk.{SharedView, ClerkView, Begins, IsAnothers, IsMergeOf}
+use Rattle.pb_shared.specs.Inner.AllClerks.{AreAll}
+use Rattle.pb_shared.specs.Inner.Entries.{entries_by}
 use Rattle.pb_shared.specs.Rule.{RoleFits, Runs, DeskRule}
 use Rattle.pb_shared.specs.Inner.Rule.{history}
-use Rattle.pb_shared.specs.Seats.{shared_view}
+use Rattle.pb_shared.specs.Inner.SharedView.{shared_view}
 use Rattle.pb_shared.specs.Inner.Seats.{newcomer}
 use Rattle.pb_shared.specs.declared.seat_view.About.{About}
 use Rattle.pb_shared.specs.declared.seat_view.Role.TheVariants.{Guest}

@@ -12,7 +12,8 @@ use Rattle.pb_shared.specs.Inner.Desk.{desk_with}
 use Rattle.pb_core.specs.Request.{EntryView}
 use Rattle.pb_desk.specs.Desk.{DeskView}
 use Rattle.pb_desk.specs.Replay.{IsLegal}
-use Rattle.pb_shared.specs.Clerk.{Begins, CanHave, GrowsByOthers, entries_by}
+use Rattle.pb_shared.specs.Clerk.{Begins, CanHave, GrowsByOthers}
+use Rattle.pb_shared.specs.Inner.Entries.{entries_by}
 use Rattle.pb_shared.specs.Rule.{ClerkFits, RoleFits, Runs, DeskRule}
 use Rattle.pb_shared.specs.Inner.Rule.{history, Sitter}
 use Rattle.pb_shared.specs.Inner.Plays.{CanSee, won, lost, published, freed, has_read, tries_lock, publishes, frees, reads}

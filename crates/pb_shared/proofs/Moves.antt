@@ -9,7 +9,8 @@ use Rattle.std.proofs.lemmas.List.Elements.{filter-append}
 use Rattle.atomic_table.proofs.Lists.{at_set, set_here, set_else}
 use Rattle.pb_core.specs.Request.{EntryView}
 use Rattle.pb_desk.specs.Desk.{DeskView}
-use Rattle.pb_shared.specs.Clerk.{Begins, GrowsByOthers, entries_by, new_sheet}
+use Rattle.pb_shared.specs.Clerk.{Begins, GrowsByOthers, new_sheet}
+use Rattle.pb_shared.specs.Inner.Entries.{entries_by}
 use Rattle.pb_shared.specs.Rule.{SheetFits, RoleFits}
 use Rattle.pb_shared.specs.Inner.Rule.{history}
 use Rattle.pb_shared.specs.declared.seat_view.About.{About}

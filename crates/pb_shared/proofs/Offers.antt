@@ -15,7 +15,8 @@ use Rattle.pb_shared.specs.Rule.{DeskRule}
 use Rattle.pb_shared.specs.Inner.Rule.{seated, stock, Sitter}
 use Rattle.pb_shared.specs.Steps.{StepRule, knowing}
 use Rattle.pb_shared.specs.Inner.Plays.{tries_lock, frees, publishes, reads, dealt_left, dealt_right}
-use Rattle.pb_shared.specs.Seats.{shared_view, clerk_view}
+use Rattle.pb_shared.specs.Seats.{clerk_view}
+use Rattle.pb_shared.specs.Inner.SharedView.{shared_view}
 use Rattle.pb_shared.specs.Inner.Seats.{newcomer, IsIdle}
 use Rattle.pb_shared.specs.declared.seat_view.About.{About}
 use Rattle.pb_shared.specs.declared.seat_view.Role.TheVariants.{Clerk, Stock}

@@ -1,6 +1,5 @@
 -- What contracts see of a shared desk and its clerks, and what a call changes of it.
-use Rattle.std.specs.Prelude.{◌≡◌, ◌≢◌, ℕ, ◌+◌, ◌<◌, ◌≤◌, ◌==◌, List, [], ◌∷◌, ◌++◌, length, map, filter, All}
-use Rattle.std.specs.Prelude.{Contains, slice_get, Some}
+use Rattle.std.specs.Prelude.{◌≡◌, ◌≢◌, ℕ, ◌+◌, ◌<◌, ◌≤◌, ◌==◌, List, [], ◌∷◌, ◌++◌, length, filter, All}
 use Rattle.atomic_table.specs.Seated.{TableId}
 use Rattle.pb_core.specs.Request.{EntryView, RequestView}
 use Rattle.pb_core.specs.declared.answer.Answer.{Answer}
@@ -23,14 +22,10 @@ pub record ClerkView : Type 0 where
 abbrev pub Begins : List EntryView → List EntryView → Type 0
 Begins front journal = (rest : List EntryView) × (journal ≡ front ++ rest)
 
--- the entries of this clerk
-abbrev pub entries_by : ℕ → List EntryView → List EntryView
-entries_by number journal = filter (λ x. x.clerk == number) journal
-
 -- what was seen begins the journal, and what came after it is other clerks'
 abbrev pub GrowsByOthers : ℕ → List EntryView → List EntryView → Type 0
 GrowsByOthers number seen journal =
-    (rest : List EntryView) × (journal ≡ seen ++ rest) × (entries_by number rest ≡ [])
+    (rest : List EntryView) × (journal ≡ seen ++ rest) × (filter (λ x. x.clerk == number) rest ≡ [])
 
 -- the desk can have this journal: it is legal, and fits the room
 abbrev pub CanHave : DeskView → List EntryView → Type 0
@@ -39,11 +34,6 @@ CanHave d journal = IsLegal d.opening journal × (length journal ≤ d.room)
 -- who has seen this journal, and made no call
 abbrev pub new_sheet : List EntryView → ℕ → Sheet
 new_sheet journal number = record { number = number; seen = journal; mine = []; found = []; read = [] }
-
--- the clerks of a shared desk, by their numbers: each has seen its journal, and made no call
-abbrev pub AreNewcomers : SharedView → List ClerkView → Type 0
-AreNewcomers d clerks = (length clerks ≡ d.clerks)
-    × ((i : ℕ) → i < d.clerks → slice_get clerks i ≡ Some (record { desk = d; sheet = new_sheet d.start.journal i }))
 
 -- a desk is shared among 1 to 64 clerks
 abbrev pub AreClerks : ℕ → Type 0
@@ -79,15 +69,12 @@ abbrev pub Reads : SharedView → Sheet → ℕ → Sheet → Type 0
 Reads d x front x' = (CanHave d.start x'.seen × GrowsByOthers x.number x.seen x'.seen) × (front ≡ length x'.seen)
     × (x' ≡ record x { seen = x'.seen; read = x.read ++ front ∷ [] })
 
--- all clerks of the desk are among these
-abbrev pub AreAll : SharedView → List ClerkView → Type 0
-AreAll d clerks = (number : ℕ) → number < d.clerks → Contains (map (λ c. c.sheet.number) clerks) number
-
 -- the shared desk can have this journal, which begins with what each of these clerks has seen, and past the
 -- start is a merge: it has the entries of each of them, in order, and no entry by a number that is no clerk's
 pub record IsMergeOf (d : SharedView) (clerks : List ClerkView) (journal : List EntryView) : Type 0 where
   pub later : List EntryView
   pub journal_is : journal ≡ d.start.journal ++ later
   pub can_be : CanHave d.start journal
-  pub agrees : All (λ c. Begins c.sheet.seen journal × (entries_by c.sheet.number later ≡ c.sheet.mine)) clerks
+  pub agrees : All (λ c. Begins c.sheet.seen journal
+      × (filter (λ x. x.clerk == c.sheet.number) later ≡ c.sheet.mine)) clerks
   pub by_clerks : All (λ x. x.clerk < d.clerks) later

@@ -4,3 +4,7 @@ pub mod Desk
 pub mod Plays
 pub mod Rule
 pub mod Seats
+pub mod Newcomers
+pub mod SharedView
+pub mod Entries
+pub mod AllClerks

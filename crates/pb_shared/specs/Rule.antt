@@ -1,12 +1,12 @@
 -- The rule of the running desk: what is true between any two atomic steps, of any clerks in any threads.
 use Rattle.std.specs.Prelude.{◌≡◌, ◌≢◌, ℕ, ◌+◌, ◌<◌, ◌≤◌, ◌==◌, ⊤, Bool, true, false, List, [], ◌∷◌, ◌++◌}
-use Rattle.std.specs.Prelude.{length, All, Option, Some}
+use Rattle.std.specs.Prelude.{filter, length, All, Option, Some}
 use mathlib.Core.Option as slot
 use lib.ListN.{get_elem?}
 use Rattle.atomic_table.specs.Table.{State}
 use Rattle.pb_core.specs.Request.{EntryView}
 use Rattle.pb_desk.specs.Desk.{DeskView}
-use Rattle.pb_shared.specs.Clerk.{Begins, CanHave, GrowsByOthers, entries_by, new_sheet}
+use Rattle.pb_shared.specs.Clerk.{Begins, CanHave, GrowsByOthers, new_sheet}
 use Rattle.pb_shared.specs.declared.seat_view.About.{About}
 use Rattle.pb_shared.specs.declared.seat_view.Role.{Role}
 use Rattle.pb_shared.specs.declared.seat_view.Role.TheVariants.{Stock, Clerk, Guest, Spent}
@@ -24,7 +24,7 @@ module _ (a : About) (lock : ℕ) (home : slot.Option (Option DeskView)) (journa
     pub known : x.number < a.clerks
     pub its_seat : seat_of x.number ≡ seat
     pub begins : GrowsByOthers x.number x.seen journal
-    pub mine : entries_by x.number later ≡ x.mine
+    pub mine : filter (λ y. y.clerk == x.number) later ≡ x.mine
     pub holding : (lock == x.number + 1) ≡ holds
     pub whole : holds ≡ true → x.seen ≡ journal
     pub found : All (λ word. (word ≤ a.clerks) × (word ≢ x.number + 1)) x.found

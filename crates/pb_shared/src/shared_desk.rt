@@ -22,12 +22,15 @@ pub struct SharedDesk {
 
 impl Model for SharedDesk {
     ghost use Rattle.pb_shared.specs.Clerk.{SharedView};
-    ghost use Rattle.pb_shared.specs.Seats.{shared_view};
     ghost use Rattle.pb_shared.specs.Inner.Seats.{IsTable};
 
     ghost Value = { SharedView };
 
-    ghost view = { λ d. shared_view d.table.shared.table_id d.table.shared.key };
+    ghost view = { λ d. record {
+      id = d.table.shared.table_id;
+      start = d.table.shared.key.desk.value;
+      clerks = d.table.shared.key.clerks;
+    } };
 
     ghost invariant = { λ d. IsTable d.table.shared.table_id d.table.shared.key };
 }

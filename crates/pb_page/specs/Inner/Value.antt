@@ -4,7 +4,8 @@ use Rattle.pb_core.specs.MoneyText.{money_text}
 use Rattle.pb_page.specs.Amount.{shown}
 use Rattle.pb_page.specs.Content.{Part, amount, attribute, element, isolated, nameless, noun_at, number, said, text}
 use Rattle.pb_page.specs.Page.{width}
-use Rattle.pb_page.specs.Words.{noun, sentence}
+use Rattle.pb_page.specs.Words.{sentence}
+use Rattle.pb_page.specs.Inner.Nouns.{noun}
 use Rattle.pb_page.specs.declared.language.Language.{Language}
 use Rattle.pb_page.specs.declared.markup.value.Value.{Value}
 use Rattle.pb_page.specs.declared.markup.value.Value.TheVariants as value

@@ -1,7 +1,8 @@
 //! Which form of a noun goes with a number.
 
 ghost use Rattle.std.specs.Prelude.{◌≡◌};
-ghost use Rattle.pb_page.specs.Words.{ends_in_few, form_of};
+ghost use Rattle.pb_page.specs.Words.{form_of};
+ghost use Rattle.pb_page.specs.Inner.Nouns.{ends_in_few};
 
 /// How a language chooses among the forms of a noun.
 #[derive(Clone, Copy)]

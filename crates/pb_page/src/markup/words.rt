@@ -1,7 +1,8 @@
 //! What a page says, in a language.
 
 ghost use Rattle.std.specs.Prelude.{◌≡◌};
-ghost use Rattle.pb_page.specs.Words.{noun, sentence};
+ghost use Rattle.pb_page.specs.Words.{sentence};
+ghost use Rattle.pb_page.specs.Inner.Nouns.{noun};
 
 use crate::markup::plural::Plural;
 
@@ -23,7 +24,7 @@ impl<'a> Words<'a> {
     }
 
     /// The form that goes with this number, of the noun whose forms begin with this key.
-    pub fn noun(&self, key: u16, number: u64) -> &'a str
+    pub(crate) fn noun(&self, key: u16, number: u64) -> &'a str
         ensures { result.now ≡ noun self.now key number }
     {
         let form = self.plural.form(number);

@@ -1,7 +1,8 @@
 //! A text from outside, written so that it stays text.
 
 ghost use Rattle.std.specs.Prelude.{◌≡◌, ◌++◌, ◌||◌, ◌==◌, ◌↔◌, IsTrue, OnOk, false};
-ghost use Rattle.pb_page.specs.Markup.{character, is_control, is_delimiter, written};
+ghost use Rattle.pb_page.specs.Markup.{character, is_delimiter, written};
+ghost use Rattle.pb_page.specs.Inner.Controls.{is_control};
 
 use itoa::Buffer;
 use pb_core::no_memory::NoMemory;

@@ -40,3 +40,9 @@ spent = drawn 0 []
 abbrev pub all_joined : {W : Type 0} → (W → Drawn) → Drawn → List W → Drawn
 all_joined claim stock [] = stock
 all_joined claim stock (w ∷ workers) = joined (all_joined claim stock workers) (claim w)
+
+-- at most as many of a view's numbers are no piece as worker seats went into it, and one without a seat has
+-- no numbers
+abbrev pub IsView : ℕ → Drawn → Type 0
+IsView pieces v =
+    (count_by (λ number. nat_le pieces number) v.numbers ≤ v.seats) × (v.seats ≡ 0 → v.numbers ≡ [])

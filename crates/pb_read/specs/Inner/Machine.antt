@@ -7,7 +7,8 @@ use Rattle.std.specs.Option.{option_map_or}
 use Rattle.std.specs.Prelude.{length, map, nat_le}
 use Rattle.std.specs.List.{list_all, position_or_len}
 use Rattle.std.specs.Str.{bytes_eq, is_utf8}
-use Rattle.pb_core.specs.Election.{ElectionView, ProjectView, VoterView, most_projects, most_voters, opening}
+use Rattle.pb_core.specs.Election.{ElectionView, ProjectView, VoterView, most_projects, most_voters}
+use Rattle.pb_core.specs.Inner.Terms.{opening}
 use Rattle.pb_core.specs.Election.{project_ids, voter_ids}
 use Rattle.pb_core.specs.Money.{money_of}
 use Rattle.pb_core.specs.declared.money_fault.MoneyFault.{MoneyFault}

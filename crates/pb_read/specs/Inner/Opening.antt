@@ -1,6 +1,7 @@
 -- Before META is read; private contracts and proofs speak of it.
 use Rattle.std.specs.Prelude.{None}
-use Rattle.pb_core.specs.Election.{ElectionView, opening}
+use Rattle.pb_core.specs.Election.{ElectionView}
+use Rattle.pb_core.specs.Inner.Terms.{opening}
 use Rattle.pb_core.specs.declared.terms.Terms.{Terms}
 
 -- neither a budget nor a limit is known yet

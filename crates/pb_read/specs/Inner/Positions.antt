@@ -1,6 +1,7 @@
 -- How far the rows of a file have come, with all that they give; private contracts and proofs speak of it.
 use Rattle.std.specs.Prelude.{◌≡◌, List, []}
-use Rattle.pb_core.specs.Election.{ElectionView, opening, terms_of}
+use Rattle.pb_core.specs.Election.{ElectionView}
+use Rattle.pb_core.specs.Inner.Terms.{opening, terms_of}
 use Rattle.pb_rows.specs.Reading.{Fields}
 use Rattle.pb_read.specs.Inner.Opening.{empty}
 use Rattle.pb_read.specs.StandsFor.{EndsIn, GivesAll, GivesAllButVoters, IsMeta, meta_for}

@@ -6,13 +6,17 @@ use Rattle.pb_read.specs.Inner.Fields.{record_after}
 use Rattle.pb_read.specs.Inner.Machine.{Position, advance, row_fault}
 use Rattle.pb_read.specs.Inner.Tracking.{IsNextRow, Reached}
 use Rattle.pb_read.specs.Refusals.{refusal_of}
-use Rattle.pb_read.specs.Shown.{Adds, AreShown, IsAll, Sight, WereShown, faults_of, kept, refused, seen}
+use Rattle.pb_read.specs.Shown.{AreShown, IsAll, Sight, WereShown, faults_of, kept, refused, seen}
 use Rattle.pb_read.specs.Stages.{next_row}
 use Rattle.pb_read.specs.declared.check.Refused.{Refused}
 use Rattle.pb_read.specs.declared.check.Verdict.{Verdict}
 use Rattle.pb_read.specs.declared.check.Verdict.TheVariants.{Passes, LeavesOut, Ends, Done}
 use Rattle.pb_read.specs.declared.fault.ReadFault.{ReadFault}
 use Rattle.pb_read.specs.declared.fault.ReadKind.{ReadKind}
+
+-- where it is known what was shown before, this was shown after it; the last one comes first
+abbrev pub Adds : Sight → Option (List Sight) → Option (List Sight) → Type 0
+Adds sight before after = IfSome before (λ old. after ≡ Some (sight ∷ old))
 
 -- this many of all records were shown, with these faults, and those that were kept come to a position
 pub record AreShownTo (all : List Fields) (count : ℕ) (faults : List ReadFault) (p : Position) (old : List Sight) (after : Option (List Sight)) : Type 0 where

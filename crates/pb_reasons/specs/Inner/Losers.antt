@@ -9,7 +9,8 @@ use Rattle.pb_rounds.specs.MostVotes.{is_taken, votes_at}
 use Rattle.pb_rounds.specs.declared.rule.Rule.{Rule}
 use Rattle.pb_reasons.specs.Counted.{CountedView, IsCountBy, is_selected}
 use Rattle.pb_reasons.specs.Inner.Searching.{AreKnown}
-use Rattle.pb_reasons.specs.WhatIf.{IsFound, NoneWins, Says, Seen, seen}
+use Rattle.pb_reasons.specs.WhatIf.{IsFound, Says, Seen, seen}
+use Rattle.pb_reasons.specs.Inner.Doubling.{NoneWins}
 use Rattle.pb_reasons.specs.declared.changes.change.Change.TheVariants.{Cost, Voters}
 use Rattle.pb_reasons.specs.declared.changes.change.Verdict.TheVariants.{Lost}
 use Rattle.pb_reasons.specs.declared.changes.loser.Loser.{Loser}

@@ -2,7 +2,7 @@
 use Rattle.std.specs.Prelude.{◌≡◌, ℕ, ◌*◌, ◌<◌, false, true, List, filter, fold, if◌then◌else◌, length, max}
 use Rattle.std.specs.Prelude.{nat_le, slice_index, sum_by}
 use Rattle.std.specs.List.{range_with_len}
-use Rattle.pb_core.specs.Ballot.{approves}
+use Rattle.pb_core.specs.Inner.Approved.{approves}
 use Rattle.pb_price.specs.Supporters.{SupportView, ballot_at, support_of}
 use Rattle.pb_rounds.specs.MostVotes.{is_taken}
 use Rattle.pb_rounds.specs.Run.{weight_of}

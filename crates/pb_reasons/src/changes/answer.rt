@@ -9,7 +9,8 @@ ghost use Rattle.pb_rounds.specs.Counted.{IsCountFault};
 ghost use Rattle.pb_rounds.specs.declared.count_fault.CountFault.TheVariants.{NoMemory};
 ghost use Rattle.pb_reasons.specs.declared.changes.change.Change.TheVariants.{Cost, Voters};
 ghost use Rattle.pb_reasons.specs.declared.changes.change.Verdict.TheVariants.{Lost, Won};
-ghost use Rattle.pb_reasons.specs.WhatIf.{CanBe, IsFound, IsTrue, IsWhatIf, NoneWins, seen};
+ghost use Rattle.pb_reasons.specs.WhatIf.{CanBe, IsFound, IsTrue, IsWhatIf, seen};
+ghost use Rattle.pb_reasons.specs.Inner.Doubling.{NoneWins};
 ghost use Rattle.pb_reasons.specs.Inner.Searching.{AreKnown, IsSaid, IsStop};
 
 use crate::changes::change::{Change, Row, Verdict};

@@ -4,7 +4,8 @@ ghost use Rattle.std.specs.Prelude.{◌≡◌, ◌≢◌, ◌+◌, ◌*◌, ◌<
 ghost use Rattle.pb_core.specs.Election.{most_voters};
 ghost use Rattle.pb_reasons.specs.declared.changes.change.Change.TheVariants.{Voters};
 ghost use Rattle.pb_reasons.specs.declared.changes.change.Verdict.TheVariants.{Lost};
-ghost use Rattle.pb_reasons.specs.WhatIf.{CanBe, IsFound, IsTrue, NoneWins, wins};
+ghost use Rattle.pb_reasons.specs.WhatIf.{CanBe, IsFound, IsTrue, wins};
+ghost use Rattle.pb_reasons.specs.Inner.Doubling.{NoneWins};
 ghost use Rattle.pb_reasons.specs.Inner.Searching.{AreEnds, AreNear, IsStop};
 
 use crate::changes::change::{Change, Row, Verdict};

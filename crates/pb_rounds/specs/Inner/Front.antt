@@ -1,7 +1,8 @@
 -- The front of a completion: the first rounds of its runs, as far as they are the same at every larger share.
 -- Only clauses of private functions speak of it.
 use Rattle.std.specs.Prelude.{◌≡◌, ℕ, ◌∷◌, ◌+◌, ◌≤◌, All, Bool, Some, List, map, replicate, slice_index}
-use Rattle.pb_price.specs.Price.{NoRestRises, largest_share, price_at}
+use Rattle.pb_price.specs.Price.{largest_share, price_at}
+use Rattle.pb_price.specs.Inner.Lists.{NoRestRises}
 use Rattle.pb_price.specs.Supporters.{IsSupport, SupportView, supporters_at}
 use Rattle.pb_rounds.specs.Count.{spent_on}
 use Rattle.pb_rounds.specs.Inner.Bounds.{HasBounds}

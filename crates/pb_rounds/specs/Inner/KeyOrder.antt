@@ -9,7 +9,11 @@ use Rattle.std.specs.declared.cmp.Ordering.TheVariants.{Less, Equal, Greater}
 use Rattle.std.proofs.lemmas.Bool.{true≢false, cases_lt, cases_eq, lt-ltb, le-ltb, ne_eqb, eqb-true, eq-eqb}
 use Rattle.std.proofs.lemmas.Bool.{and_parts, and_from}
 use Rattle.std.proofs.Math.Nat.{mul-lt-mul_of_pos_right}
-use Rattle.pb_rounds.specs.Key.{KeyView, key_cmp, ratio_cmp}
+use Rattle.pb_rounds.specs.Key.{KeyView, key_cmp}
+
+-- by the price over the weight, which is at least 1
+abbrev pub ratio_cmp : KeyView → KeyView → Ordering
+ratio_cmp a b = nat_cmp (a.price * max 1 b.weight) (b.price * max 1 a.weight)
 
 pub less_from : (x y : ℕ) → x < y → nat_cmp x y ≡ Less
 less_from x y h = rw (lt-ltb x y h) refl

@@ -1,10 +1,10 @@
 //! Laws over most votes first, each as the contract of a function that does nothing.
 
 ghost use Rattle.std.specs.Prelude.{◌≡◌, ◌≢◌, ◌⊎◌, ◌↔◌, ◌<◌, ◌≤◌, ◌++◌, ℕ, List, All, AllPairs, Contains, false, sum_by};
-ghost use Rattle.std.specs.Prelude.{true};
+ghost use Rattle.std.specs.Prelude.{true, ◌-◌};
 ghost use Rattle.pb_core.specs.Election.{ElectionView, IsElection};
 ghost use Rattle.pb_price.specs.Supporters.{SupportView, cost_at, support_of};
-ghost use Rattle.pb_rounds.specs.MostVotes.{IsMostVotesFirst, comes_first, fits, is_taken, left_after};
+ghost use Rattle.pb_rounds.specs.MostVotes.{IsMostVotesFirst, comes_first, fits, is_taken};
 ghost use Rattle.pb_rounds.specs.MostVotes.{most_votes_first, votes_at};
 
 /// What the tests of the rule say. A project fits if it has a supporter, is not taken, and costs no more than is
@@ -39,5 +39,5 @@ pub fn what_is_added_fits()
         → AllPairs (λ place other. place ≢ other) (most_votes_first (support_of e) taken left) }
     ensures none_fits { (e : ElectionView) (taken : List ℕ) (left place : ℕ) → IsElection e
         → fits (support_of e) (taken ++ most_votes_first (support_of e) taken left)
-        (left_after (support_of e) left (most_votes_first (support_of e) taken left)) place ≡ false }
+        (left - sum_by (cost_at (support_of e)) (most_votes_first (support_of e) taken left)) place ≡ false }
 {}

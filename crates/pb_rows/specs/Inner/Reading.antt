@@ -1,6 +1,8 @@
 -- The reader of a text, and how far it has come.
 use Rattle.std.specs.Prelude.{◌≡◌, ◌≤◌, ◌+◌, ◌++◌, ℕ, true, false, List, length, Option, Some, None, ⊤}
+use Rattle.std.specs.Prelude.{IfSome, IsSomeAnd, slice_get}
 use Rattle.csv.specs.Reading.{Ready, has_failed, is_flexible, names_headers, reader_config, reader_trim}
+use Rattle.csv.specs.Records.{AllText}
 use Rattle.csv.specs.declared.error.ErrorKind.{ErrorKind}
 use Rattle.csv.specs.declared.error.ErrorKind.TheVariants as kind
 use Rattle.csv.specs.declared.reader.Reader.{Reader}
@@ -36,3 +38,7 @@ abbrev pub HasReadAtMost : ℕ → Option (List Fields) → Option (List Fields)
 HasReadAtMost most None after = ⊤
 HasReadAtMost most (Some before) None = ⊤
 HasReadAtMost most (Some before) (Some after) = length before ≤ length after + most
+
+-- where it is known what is left, there is a next record, and it has a field that is no text
+abbrev pub NextIsNoText : Option (List Fields) → Type 0
+NextIsNoText left = IfSome left (λ records. IsSomeAnd (slice_get records 0) (λ next. ¬ AllText next))

@@ -1,5 +1,5 @@
 -- How far a voters' roll was read.
-use Rattle.std.specs.Prelude.{◌≡◌, ℕ, ◌≤◌, Bool, true, false, List, All, Option, codes, is_some, length}
+use Rattle.std.specs.Prelude.{◌≡◌, ℕ, ◌≤◌, ◌++◌, Bool, true, false, List, All, Option, codes, is_some, length}
 use Rattle.std.specs.Cmp.Lexicographic.{slice_cmp}
 use Rattle.std.specs.FinMap.{FinMap, get, insert}
 use Rattle.std.specs.Ordering.{nat_cmp}
@@ -9,7 +9,7 @@ use Rattle.pb_read.specs.Rows.{field}
 use Rattle.pb_read.specs.Voting.{is_among}
 use Rattle.pb_rows.specs.Reading.{Fields}
 use Rattle.pb_script.specs.Inner.ScriptReading.{HaveGone}
-use Rattle.pb_script.specs.Roll.{IsNextRollFault, ids_of}
+use Rattle.pb_script.specs.Roll.{AreRoll, IsNextRollFault, ids_of}
 use Rattle.pb_read.specs.StandsFor.{most_records}
 use Rattle.pb_script.specs.declared.roll.RollFault.{RollFault}
 
@@ -34,3 +34,13 @@ pub record HaveIds (all left : Option (List Fields)) (rows ids : ℕ) (roll : Fi
   pub count : length gone ≡ rows
   pub counted : length (ids_of gone) ≡ ids
   pub has : (voter : List ℕ) → is_some (get roll voter) ≡ is_among (ids_of gone) voter
+
+-- the table is that of the roll which these records are: it has their ids, and no others
+abbrev pub IsRoll : List Fields → FinMap (slice_cmp nat_cmp) ℕ → Type 0
+IsRoll records roll =
+    AreRoll records × ((voter : List ℕ) → is_some (get roll voter) ≡ is_among (ids_of records) voter)
+
+-- the first fault of the records: those before it are a roll
+abbrev pub IsRollFault : List Fields → RollFault → Type 0
+IsRollFault records fault = (before : List Fields) × (left : List Fields) × (records ≡ before ++ left)
+    × AreRoll before × IsNextRollFault before left fault

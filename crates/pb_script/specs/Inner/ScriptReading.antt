@@ -1,5 +1,5 @@
 -- How far a script was read.
-use Rattle.std.specs.Prelude.{◌≡◌, ℕ, ◌++◌, ⊤, true, List, [], length, Option, None, Some, IfSome, Ok}
+use Rattle.std.specs.Prelude.{◌≡◌, ℕ, ◌++◌, ⊤, true, All, List, [], length, Option, None, Some, IfSome, Ok}
 use Rattle.std.specs.List.{AllZip}
 use Rattle.pb_core.specs.Request.{RequestView}
 use Rattle.pb_rows.specs.Reading.{Fields, IsNext}
@@ -7,6 +7,7 @@ use Rattle.pb_rows.specs.declared.fault.RecordsFault.{RecordsFault}
 use Rattle.pb_rows.specs.declared.fault.RecordsFault.TheVariants as stop
 use Rattle.pb_script.specs.Admission.{Judges}
 use Rattle.pb_desk.specs.Rows.{ScriptRowView}
+use Rattle.pb_script.specs.ScriptReading.{IsNextScriptFault}
 use Rattle.pb_script.specs.Scripts.{IsScript}
 use Rattle.pb_script.specs.declared.admission.Admission.{Admission}
 use Rattle.pb_script.specs.Inner.Script.{AreAsked}
@@ -49,3 +50,9 @@ pub record HaveAsked (a : Admission) (clerks : ℕ) (all left : Option (List Fie
 abbrev pub BlamesReader : ScriptFault → Option RecordsFault → Type 0
 BlamesReader (ReadFailed row) stopped = stopped ≡ Some stop.ReadFailed
 BlamesReader fault stopped = ⊤
+
+-- the first fault of the records: those before it are admitted
+abbrev pub IsFaultOfScript : Admission → ℕ → List Fields → ScriptFault → Type 0
+IsFaultOfScript a clerks records fault = (before : List Fields) × (left : List Fields)
+    × (records ≡ before ++ left) × All (λ row. (x : ScriptRowView) × Judges a clerks row (Ok x)) before
+    × IsNextScriptFault a clerks (length before) left fault

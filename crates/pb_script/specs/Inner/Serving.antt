@@ -7,7 +7,8 @@ use Rattle.pb_core.specs.declared.answer.Answer.{Answer}
 use Rattle.pb_desk.specs.Opening.{OpeningView}
 use Rattle.pb_desk.specs.declared.version.Version.TheVariants.{Two}
 use Rattle.pb_desk.specs.Rows.{ScriptRowView}
-use Rattle.pb_shared.specs.Clerk.{AreClerks, ClerkView, SharedView, entries_by}
+use Rattle.pb_shared.specs.Clerk.{AreClerks, ClerkView, SharedView}
+use Rattle.pb_shared.specs.Inner.Entries.{entries_by}
 use Rattle.pb_shared.specs.declared.share_fault.ShareFault.{ShareFault}
 use Rattle.pb_shared.specs.declared.share_fault.ShareFault.TheVariants as share
 use Rattle.pb_script.specs.declared.script_fault.ScriptFault.TheVariants as script

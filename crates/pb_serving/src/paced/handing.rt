@@ -6,7 +6,8 @@ ghost use Rattle.csv.specs.Machine.{is_end, step};
 ghost use Rattle.pb_durable.specs.RowPosition.{state_at};
 ghost use Rattle.pb_rows.specs.Reading.{pb_config};
 ghost use Rattle.pb_serving.specs.Inner.Rows.{first_row, state_after};
-ghost use Rattle.pb_serving.specs.Paced.{at_hand, left_by};
+ghost use Rattle.pb_serving.specs.Paced.{left_by};
+ghost use Rattle.pb_serving.specs.Inner.AtHand.{read_ahead};
 
 use crate::paced::{AtHand, Paced};
 use pb_durable::row_position::RowPosition;
@@ -79,14 +80,14 @@ impl<'a, P: Read + Drop> Paced<'a, P> {
 
     /// What was read and not yet handed out.
     fn rest(&self) -> &[u8]
-        ensures { result.now ≡ at_hand self.now }
+        ensures { result.now ≡ read_ahead self.now }
     {
         &self.chunk[self.start..self.end]
     }
 
     /// Whether a row ends among these bytes, before which all that was handed out is whole rows.
     fn has_row(&self) -> bool
-        ensures { IsTrue result → IsSome (first_row (state_at self.now.place) (at_hand self.now)) }
+        ensures { IsTrue result → IsSome (first_row (state_at self.now.place) (read_ahead self.now)) }
     {
         match self.place {
             RowPosition::RowStart | RowPosition::BehindReturn => {
@@ -102,8 +103,8 @@ impl<'a, P: Read + Drop> Paced<'a, P> {
     /// Hands out the row that goes on, or all of it that is there.
     fn hand_out(&mut self, buf: &mut [u8]) -> usize
         ensures bound { result ≤ length buf.new }
-        ensures bytes { at_hand self.old ≡ take result buf.new ++ at_hand self.new }
-        ensures some { 0 < length buf.new → 0 < length (at_hand self.old) → 0 < result }
+        ensures bytes { read_ahead self.old ≡ take result buf.new ++ read_ahead self.new }
+        ensures some { 0 < length buf.new → 0 < length (read_ahead self.old) → 0 < result }
         ensures reader { self.new.reader ≡ self.old.reader }
         ensures place { state_at self.new.place ≡ state_after (state_at self.old.place)
             (take result buf.new) }

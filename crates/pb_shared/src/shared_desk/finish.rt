@@ -1,7 +1,7 @@
 //! The end of a shared desk: clerks come back, and the desk does.
 
-ghost use Rattle.std.specs.Prelude.{◌≡◌, map, All, IfOk, IfErr, IsOk};
-ghost use Rattle.pb_shared.specs.Clerk.{AreAll, IsAnothers, IsMergeOf};
+ghost use Rattle.std.specs.Prelude.{◌≡◌, ◌<◌, ℕ, map, All, Contains, IfOk, IfErr, IsOk};
+ghost use Rattle.pb_shared.specs.Clerk.{IsAnothers, IsMergeOf};
 
 use super::SharedDesk;
 use crate::clerk::Clerk;
@@ -21,7 +21,8 @@ impl SharedDesk {
             (desk ≡ record self.start { journal = desk.journal })
             × IsMergeOf self clerks.items desk.journal) }
         ensures err { IfErr result (λ fault. IsAnothers self (map (λ c. c.sheet) clerks.items) fault.0) }
-        ensures all { AreAll self clerks.items → IsOk result }
+        ensures all { ((number : ℕ) → number < self.clerks
+            → Contains (map (λ c. c.sheet.number) clerks.items) number) → IsOk result }
     {
         let SharedDesk { table } = self;
         let (_word, mut seat) = table.shared.load_new_seat::<Visit>(LOCK);

@@ -1,7 +1,7 @@
 //! The start of a shared desk.
 
-ghost use Rattle.std.specs.Prelude.{◌≡◌, ◌⊎◌, All, IfOk, IfErr, OnOk};
-ghost use Rattle.pb_shared.specs.Clerk.{AreClerks, AreNewcomers};
+ghost use Rattle.std.specs.Prelude.{◌≡◌, ◌⊎◌, ◌<◌, ℕ, All, IfOk, IfErr, OnOk, Some, length, slice_get};
+ghost use Rattle.pb_shared.specs.Clerk.{AreClerks, new_sheet};
 ghost use Rattle.pb_shared.specs.Inner.Seats.{IsLaid};
 
 use super::SharedDesk;
@@ -23,7 +23,9 @@ impl SharedDesk {
         clerks: u32,
     ) -> Result<(SharedDesk, Vec<Clerk>), ShareFault>
         ensures ok { IfOk result (λ shared. (shared.0.start ≡ desk) × (shared.0.clerks ≡ clerks)
-            × AreNewcomers shared.0 shared.1.items) }
+            × ((length shared.1.items ≡ shared.0.clerks)
+            × ((i : ℕ) → i < shared.0.clerks → slice_get shared.1.items i
+            ≡ Some (record { desk = shared.0; sheet = new_sheet shared.0.start.journal i })))) }
         ensures own { IfOk result (λ shared. All (λ clerk. clerk.desk ≡ shared.0) shared.1.items) }
         ensures range { OnOk result (AreClerks clerks) }
         ensures err { IfErr result (λ fault.

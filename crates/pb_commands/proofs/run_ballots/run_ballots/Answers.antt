@@ -2,7 +2,8 @@ use Rattle.std.proofs.Common.{Some, None, option_copied}
 use Rattle.pb_commands.proofs.Endings.{memory_end, run_ended, run_given, run_written}
 use Rattle.pb_commands.proofs.InputEnds.{not_that}
 use Rattle.pb_commands.proofs.RunEnds.{ballots_known, ballots_pass, written_of_any}
-use Rattle.pb_commands.specs.Ballots.{BallotsWrites, ballots_table}
+use Rattle.pb_commands.specs.Ballots.{ballots_table}
+use Rattle.pb_commands.specs.Inner.Ballots.{BallotsWrites}
 use Rattle.pb_commands.specs.Closed.{LeavesNone}
 use Rattle.pb_faults.specs.declared.fault.AppFault.TheVariants.{Memory, OpenDesk}
 use Rattle.pb_commands.proofs.run_ballots.run_ballots.Goals as goal

@@ -1,6 +1,6 @@
 use Rattle.std.proofs.Common.{◌∷◌, [], List, codes, append_assoc, decimal, length, subst}
 use Rattle.std.proofs.lemmas.Result.{on_ok_weaker}
-use Rattle.pb_core.specs.Election.{terms_of}
+use Rattle.pb_core.specs.Inner.Terms.{terms_of}
 use Rattle.pb_rows.specs.Reading.{Fields}
 use Rattle.pb_export.specs.Inner.Parts.{key_rows, terms_rows}
 use Rattle.pb_export.specs.Inner.Growing.{Grows}

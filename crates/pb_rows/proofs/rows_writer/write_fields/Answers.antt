@@ -5,7 +5,8 @@ use Rattle.csv.specs.Writing.{has_written, is_blank, writer_setup}
 use Rattle.csv.proofs.WriteFacts.{blank-step, row-final, row-step}
 use Rattle.pb_rows.specs.Inner.Writing.{written_by}
 use Rattle.pb_rows.specs.Tables.{field_text}
-use Rattle.pb_rows.specs.Writing.{pb_writer, text_of_row}
+use Rattle.pb_rows.specs.Writing.{text_of_row}
+use Rattle.pb_rows.specs.Inner.Writing.{pb_writer}
 use Rattle.pb_rows.proofs.rows_writer.write_fields.Goals as goal
 
 pub loop-field-init : goal.loop-field-init

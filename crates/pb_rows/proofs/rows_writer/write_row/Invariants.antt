@@ -2,7 +2,7 @@ use Rattle.std.proofs.Common.{◌≡◌, ◌++◌, ◌==◌, map, take, not}
 use Rattle.std.specs.Prelude.{◌&&◌, ◌||◌}
 use Rattle.csv.specs.Writing.{fields_written, has_written, is_blank, row_body, writer_setup}
 use Rattle.pb_rows.specs.Inner.Writing.{written_by}
-use Rattle.pb_rows.specs.Writing.{pb_writer}
+use Rattle.pb_rows.specs.Inner.Writing.{pb_writer}
 use Rattle.pb_rows.proofs.rows_writer.write_row.Given as goal
 
 abbrev pub invariant-loop-field : goal.invariant-loop-field

@@ -2,7 +2,8 @@ use Rattle.std.proofs.Common.{◌≡◌, ◌∙◌, ℕ, List, [], ◌∷◌, �
 use Rattle.pb_core.specs.Request.{RequestView, asked}
 use Rattle.pb_desk.specs.Rows.{Asks}
 use Rattle.pb_desk.specs.declared.request_fields.Strictness.TheVariants.{Lenient}
-use Rattle.pb_rows.specs.Numbers.{AreNumbers, places_text}
+use Rattle.pb_rows.specs.Numbers.{places_text}
+use Rattle.pb_rows.specs.Inner.Numbers.{AreNumbers}
 use Rattle.pb_script.specs.Inner.Admission.{places_named}
 use Rattle.pb_script.proofs.Rising.{members_back, members_numbers}
 use Rattle.pb_script.proofs.ScriptForms.{asks_members}

@@ -13,7 +13,7 @@ use Rattle.pb_faults.specs.Durable.{of_durable}
 use Rattle.pb_serving.proofs.Causes.{behind_durable, cause_of, err_is, not_durable, not_output, told_is}
 use Rattle.std.specs.Io.KnownBytes.{Appends}
 use Rattle.pb_desk.specs.declared.version.Version.TheVariants.{One}
-use Rattle.pb_durable.specs.DurableDesk.{entries_of}
+use Rattle.pb_durable.specs.Inner.Entries.{entries_of}
 use Rattle.pb_serving.proofs.Apart.{ok_not_err, output_not_read}
 use Rattle.pb_serving.proofs.Answering.{nothing_said, said_rows}
 use Rattle.pb_durable.specs.declared.clerk_request.ClerkRequest.{ClerkRequest}

@@ -26,7 +26,7 @@ returns-in_err-opened-clause-stopped g c =
     if_err c.from_residual.result Memory _ c.from_residual.ensures.1 (
       old.desk.journal,
       [],
-      halts_unbegun c.args.session.now.admission.now Memory c.args.rows.now old.desk.journal (omega arith),
+      halts_unbegun c.args.session.now.admission.now Memory c.args.rows.now old.desk.journal (omega arith, inl refl),
       λ other. inr (refl, refl, refl),
       λ tells f left. kept_all g.D.Device.moment g.D.Device.left_since g.D.Device.seen g.D.Device.may_leave old (c.requires tells) f left,
     )

@@ -1,8 +1,8 @@
-use Rattle.std.proofs.Common.{◌≡◌, ◌∙◌, ◌≤◌, ◌<◌, ◌+◌, ℕ, List, [], ◌∷◌, ◌++◌, length, Option, Err, IsErrAnd, refl, sym, ap, subst, arith}
+use Rattle.std.proofs.Common.{◌≡◌, ◌∙◌, ◌≤◌, ◌<◌, ◌+◌, inl, ℕ, List, [], ◌∷◌, ◌++◌, length, Option, Err, IsErrAnd, refl, sym, ap, subst, arith}
 use Rattle.std.proofs.lemmas.List.{append-nil}
 use Rattle.std.specs.Io.KnownBytes.{Appends}
 use Rattle.pb_durable.proofs.Openings.{if_err}
-use Rattle.pb_durable.specs.DurableDesk.{entries_of}
+use Rattle.pb_durable.specs.Inner.Entries.{entries_of}
 use Rattle.pb_script.specs.RowsView.{HasGiven}
 use Rattle.pb_serving.specs.Answered.{IsBehind}
 use Rattle.pb_serving.specs.Inner.Admitted.{AddsAdmitted}
@@ -180,7 +180,7 @@ returns-in-NoMemory-clause-stopped g c =
       text_so_far c.args.session.now.admission.now c.args.rows.now.left ends.0 old.desk.journal new.desk.journal (g.W.Write.contents c.args.writer.now) (g.W.Write.contents c.answer.new.writer) (c.loop.row + length asks) c.loop.refused so_far,
       halts_here c.args.session.now.admission.now Memory c.args.rows.now c.next_batch-end.new.rows ends.0 old.desk.journal new.desk.journal (g.W.Write.contents c.args.writer.now) (g.W.Write.contents c.answer.new.writer) (c.loop.row + length asks) c.loop.refused so_far
           (subst (λ (n : ℕ). HasGiven c.args.rows.now c.next_batch-end.new.rows n) sizes given)
-          (λ answered is. omega arith)
+          (λ answered is. (omega arith, inl refl))
           (λ sound failed. absurd (memory_not_failed c.in-NoMemory.is (c.next_batch-end.ensures.told (inv.sound sound) failed))),
       λ other. so_far.said,
       λ tells f left. kept_all g.D.Device.moment g.D.Device.left_since g.D.Device.seen g.D.Device.may_leave new (c.in_ok-answer.ensures.durable tells) f left,

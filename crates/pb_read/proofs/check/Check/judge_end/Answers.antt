@@ -1,7 +1,8 @@
 use Rattle.std.proofs.Common.{[], ◌∙◌, subst, sym}
 use Rattle.pb_read.proofs.Blames.{explained_blames}
 use Rattle.pb_read.specs.Inner.Progresses.{place_of}
-use Rattle.pb_read.specs.Shown.{Adds, refused}
+use Rattle.pb_read.specs.Shown.{refused}
+use Rattle.pb_read.specs.Inner.Showing.{Adds}
 use Rattle.pb_read.specs.Stages.{the_end}
 use Rattle.pb_read.proofs.check.Check.judge_end.Goals as goal
 

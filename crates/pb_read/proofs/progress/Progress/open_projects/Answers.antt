@@ -1,5 +1,5 @@
 use Rattle.std.proofs.Common.{ap, subst, sym, ◌∙◌, ◌≤◌}
-use Rattle.pb_core.specs.Election.{opening}
+use Rattle.pb_core.specs.Inner.Terms.{opening}
 use Rattle.pb_core.specs.Money.{largest_money}
 use Rattle.pb_core.specs.declared.terms.Terms.{Terms}
 use Rattle.pb_read.proofs.ProgressFacts.{projects_opened, said_in_range}

@@ -3,7 +3,8 @@ use Rattle.pb_shared.specs.Clerk.{new_sheet}
 use Rattle.pb_shared.specs.Inner.Rule.{seated}
 use Rattle.pb_shared.specs.Steps.{knowing}
 use Rattle.pb_shared.specs.Inner.Plays.{dealt_left, dealt_right}
-use Rattle.pb_shared.specs.Seats.{clerk_view, shared_view}
+use Rattle.pb_shared.specs.Seats.{clerk_view}
+use Rattle.pb_shared.specs.Inner.SharedView.{shared_view}
 use Rattle.pb_shared.specs.Inner.Seats.{newcomer}
 use Rattle.pb_shared.specs.declared.seat_view.Role.TheVariants.{Stock}
 use Rattle.pb_shared.proofs.Offers.{deals_at, comes_next, of_newcomers}

@@ -1,7 +1,7 @@
 use Rattle.std.proofs.Common.{◌≡◌, ℕ, ◌<◌, ◌≤◌, Some, length, slice_get, vec_capacity}
 use Rattle.pb_shared.specs.Clerk.{new_sheet}
 use Rattle.pb_shared.specs.Inner.Rule.{seated}
-use Rattle.pb_shared.specs.Seats.{shared_view}
+use Rattle.pb_shared.specs.Inner.SharedView.{shared_view}
 use Rattle.pb_shared.specs.Inner.Seats.{newcomer}
 use Rattle.pb_shared.specs.declared.seat_view.Role.TheVariants.{Stock}
 use Rattle.pb_shared.proofs.shared_desk.SharedDesk.share.Given as goal

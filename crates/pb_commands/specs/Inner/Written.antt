@@ -1,0 +1,7 @@
+-- What a run has written.
+use Rattle.std.specs.Prelude.{ℕ, List, Option}
+use Rattle.std.specs.Io.KnownBytes.{Appends}
+
+-- a text of this kind was written, after what stood there before
+abbrev pub HasWritten : (List ℕ → Type 0) → Option (List ℕ) → Option (List ℕ) → Type 0
+HasWritten IsText before after = (text : List ℕ) × IsText text × Appends before after text
