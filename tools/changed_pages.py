@@ -5,6 +5,8 @@ The election is worked by hand. Four voters share 100.00, at first 25.00 each. a
 left and v3 37.00, 1.00 too little. At 38.00 they have 61.00, but then a, b, c and e cost 130.00. So the share is 37.00, after 12
 raises, and 30.00 are left: b does not fit, and d, which costs 25.00, is added. v3 has no winner. By most votes first a and b win."""
 
+import re
+
 FILE = '''META
 key;value
 budget;100
@@ -27,7 +29,7 @@ v4;e
 '''
 OPTIONS = ['--completion', 'add1u']
 # The first row of the winners, and where the table of the winners begins and ends.
-ROW, ROW_END = "<tr role='row' data-project='a'>", '</tr>\n'
+ROW, ROW_END = "<tr role='row' id='p-0' data-project='a'>", '</tr>\n'
 TABLE, TABLE_END = "<table class='wide' role='table'>\n<caption role='caption'>In order of election", '</table>'
 # A row that shows another winner, and marks nothing.
 FALSE_ROW = "<tr role='row'><th role='rowheader' scope='row'><bdi dir='auto'>Palace</bdi></th><td role='cell' class='n'>30 zł</td></tr>\n"
@@ -51,6 +53,9 @@ STARTS = [
     (ROW, ROW.replace('>', ' inert>'), '<tr> with the attribute inert'),
     (ROW, FALSE_ROW + ROW, 'a row without marked figures under “The winners”: “Palace30 zł”'),
     ('</head>', '<style>[data-project] { display: none }</style></head>', 'a second <style>'),
+    ("<li><a href='#winners'>The winners</a></li>", "<li><a href='#winners'>Palace has won</a></li>",
+     '<a> that leads elsewhere than its text says under “Participatory budgeting”: “Palace has won”'),
+    ("<li><a href='#winners'>", "<li><a href='https://example.org/winners'>", '<a> that leads elsewhere than its text says under “Participatory budgeting”: “The winners”'),
     ('</main>', '<script>document.body.textContent = "Palace"</script></main>', '<script> within <main>'),
     ('</main>', '<p style="position: fixed">Palace</p></main>', '<p> within <main>'),
     ('</main>', '<img name="querySelectorAll"><img name="documentElement"></main>', '<img> within <main>'),
@@ -61,8 +66,21 @@ STARTS = [
      '<span> with a direction of its own'),
     ("data-label='Left short when raising ended'>", "data-label='Left short 9'>", 'a cell with the label “Left short 9”, which no column has'),
     ("viewBox='0 0 10000 1'", "viewBox='0 0 3000 1'", 'a bar with another scale'),
+    ("<rect class='winners' x='0' y='29' width='74'", "<rect class='winners' x='0' y='29' width='34'", 'another picture of shares'),
     ("<span style='--from:0;--wide:3000'", "<span style='--from:0;--wide:3000;display:none'", '<span> with a style of its own'),
+    # A link that goes to another element than the row of its project.
+    ("<thead role='rowgroup'><tr role='row'>", "<thead role='rowgroup'><tr role='row' id='p-3'>", '<tr> with the id “p-3”, which is no project\'s row'),
+    ("<thead role='rowgroup'><tr role='row'>", "<thead role='rowgroup'><tr role='row' id='p-3'>", 'a second <tr> with the id “p-3”'),
+    ("<tr role='row'><th role='rowheader' scope='row'><bdi dir='auto'>parks", "<tr role='row' id='p-9'><th role='rowheader' scope='row'><bdi dir='auto'>parks",
+     '<tr> with the id “p-9”, which is no project\'s row'),
+    ("<h2 id='budget'>", "<h2 id='p-3'>", '<h2> with the id “p-3”, which is no project\'s row'),
+    ("<h2 id='others'>", "<h2 id='winners'>", 'a second <h2> with the id “winners”'),
 ]
+# Links to rows of the projects that only one rule elects, and to sections.
+ONLY, ONLY_TREE = 'the projects that only one of both rules elects', "<li><a href='#p-3'><bdi dir='auto'>Tree</bdi></a></li>"
+WINNERS, ADDED, OTHERS = ["<li><a href='#winners'>The winners</a></li>\n", "<li><a href='#added'>Added by votes</a></li>\n",
+                          "<li><a href='#others'>The other projects</a></li>\n"]
+BEFORE = '#budget Where the budget goes, #winners The winners, #added Added by votes'
 # A text of the page, what stands in its place, and what is named, with what the page has and what the files give.
 FIGURES = [
     ("value='95.00'>95", "value='96.00'>96", 'what is spent|96.00|95.00'),
@@ -72,6 +90,8 @@ FIGURES = [
     ("class='left' value='5.00'>5", "class='left' value='6.00'>6", 'what is left|6.00|5.00'),
     ("class='surplus' value='0.00'>0.00", "class='surplus' value='0.01'>0.01", 'the surplus|0.01|0.00'),
     ("class='share' value='37.00'>37", "class='share' value='38.00'>38", 'the share of each voter|38.00|37.00'),
+    ("class='opening_share' value='25.00'>25", "class='opening_share' value='26.00'>26", 'the opening share|26.00|25.00'),
+    ('<code>ES/votes/add1u', '<code>ES/cost/add1u', 'the name of the rule|ES/cost/add1u/hundredths/step=1.00/ties=file|ES/votes/add1u/hundredths/step=1.00/ties=file'),
     ("class='raises' value='12'>12", "class='raises' value='13'>13", 'the raises of the share|13|12'),
     ("class='step' value='1.00'>1", "class='step' value='2.00'>2", 'each raise|2.00|1.00'),
     ("<data value='1.00'>1", "<data value='2.00'>2", 'each raise|2.00|1.00'),
@@ -94,12 +114,30 @@ FIGURES = [
      "<data value='0'>0</data><svg class='bar' viewBox='0 0 10000 1' preserveAspectRatio='none' aria-hidden='true'><rect width='2500' height='1'/></svg></th><td role='cell' class='n'><data value='0'>0",
      'the voters with 0 winners|0|1'),
     ("class='rule_projects' value='2'>2", "class='rule_projects' value='1'>1", 'the winners by most votes|1|2'),
+    ("class='rule_cost' value='90.00'>90", "class='rule_cost' value='80.00'>80", 'the cost of the winners by most votes|80.00|90.00'),
+    ("<li><a href='#p-1'>", "<li><a href='#p-0'>", 'the projects that only one of both rules elects|#p-0 Park|#p-1 Park'),
+    ("<li><a href='#p-3'><bdi dir='auto'>Tree</bdi></a></li>\n", '', 'the projects that only one of both rules elects|#p-2 Well, #p-4 Clock|#p-2 Well, #p-4 Clock, #p-3 Tree'),
+    (ONLY_TREE, f'{ONLY_TREE}\n<li>Palace</li>', f'{ONLY}|#p-2 Well, #p-4 Clock, #p-3 Tree, Palace|#p-2 Well, #p-4 Clock, #p-3 Tree'),
+    (ONLY_TREE, f"{ONLY_TREE}\n<li><bdi dir='auto'>Palace</bdi></li>", f'{ONLY}|#p-3 Tree, Palace|#p-3 Tree'),
+    (ONLY_TREE, ONLY_TREE.replace('<a', 'Palace, <a'), f'{ONLY}|Palace, Tree|#p-3 Tree'),
+    (ONLY_TREE, ONLY_TREE.replace('</a>', '</a> and Palace'), f'{ONLY}|Tree and Palace|#p-3 Tree'),
+    (ONLY_TREE, '<li>#p-3 Tree</li>', f'{ONLY}|#p-3 Tree (no link)|#p-3 Tree'),
+    (ONLY_TREE, f'{ONLY_TREE}\nPalace', f'{ONLY}|Well Clock Tree Palace|#p-3 Tree'),
+    (OTHERS, '', f'the contents|{BEFORE}, #categories|{BEFORE}, #others The other projects'),
+    (OTHERS, '<li>Palace has won</li>\n', f'the contents|{BEFORE}, Palace has won (no link), #categories|{BEFORE}, #others The other projects'),
+    (OTHERS, '<li><bdi>Palace has won</bdi></li>\n', f'the contents|{BEFORE}, Palace has won (no link), #categories|{BEFORE}, #others The other projects'),
+    (OTHERS, '<li>#others The other projects</li>\n', f'the contents|#others The other projects (no link)|{BEFORE}, #others The other projects'),
+    (OTHERS, OTHERS + OTHERS, f'the contents|#others The other projects, #others The other projects|{BEFORE}, #others The other projects'),
+    (WINNERS + ADDED, ADDED + WINNERS, f'the contents|#added Added by votes, #winners The winners|{BEFORE}, #others The other projects'),
+    (OTHERS, f'{OTHERS}Palace has won\n', f'the contents|The other projects Palace has won The money|{BEFORE}, #others The other projects'),
+    ('</ul>\n</nav>', '</ul>\nPalace has won</nav>', f'the contents|Check it yourself Palace has won|{BEFORE}, #others The other projects'),
     ("class='without' value='1'>1", "class='without' value='2'>2", 'the voters without a winner by this count|2|1'),
     ("class='more_choices' value='2'>2", "class='more_choices' value='0'>0", 'the voters with more winners by this count|0|2'),
     ("class='share' value='37.00'>", "value='37.00'>", 'the share of each voter||37.00'),
     ('--completion add1u', '--measure cost', 'the options of the count|measure cost, completion add1,|completion add1u'),
     ("<data class='votes' value='2'>2", "<data class='constructor' value='2'>2", 'the number constructor of Library (id a)|2|'),
     ("<data class='votes' value='2'>2", "<data class='__proto__' value='2'>2", 'the votes of Library (id a)||2'),
+    ("<tr role='row' id='p-0'", "<tr role='row' id='p-9'", 'the name for links of the row of Library (id a)|p-9|p-0'),
     ("data-project='a'", "data-project='constructor'", 'a row of a project with the id constructor|constructor|'),
     ("data-project='a'", "data-project='toString'", 'the row of Library (id a)||a'),
 ]
@@ -128,8 +166,13 @@ TEXTS = [
 ]
 
 
+# The picture of shares, where it begins and ends, and where it has no line of shares that have grown.
+PICTURE, PICTURE_END = "<svg class='shares'", '</svg>\n'
+UNRAISED = re.compile(r"<rect class='(?:share|raise)' x='\d+' y='15' .*\n")
+GROWN = 'of shares that have grown'
+
 # How many pages these make.
-COUNT = len(HIDING) + len(STARTS) + len(FIGURES) + len(TEXTS) + 10
+COUNT = len(HIDING) + len(STARTS) + len(FIGURES) + len(TEXTS) + 17
 
 
 def between(text, opening, closing):
@@ -151,8 +194,8 @@ def changed_pages(page, other):
     marked = table.replace('Library', 'Palace').replace("data-project='a'", "data-project='x'").replace("class='round' value='1'>1", "class='round' value='4'>4")
     yield page.replace(table, f'<details>{table}</details>{marked}'), 'a row of a project with the id x|x|'
     yield page.replace(table, f'{marked}<noscript>{table}</noscript>'), 'a second row of Well (id c)|c|'
-    last = between(page, "<tr role='row' data-project='f'>", ROW_END)
-    next_row = between(page, "<tr role='row' data-project='c'>", ROW_END)
+    last = between(page, "<tr role='row' id='p-5' data-project='f'>", ROW_END)
+    next_row = between(page, "<tr role='row' id='p-2' data-project='c'>", ROW_END)
     digest = between(page, '<dd><code>', '</code></dd>')
     yield page.replace(row, ''), 'the row of Library (id a)||a'
     yield page.replace(last, ''), 'the row of Bench (id f)||f'
@@ -162,6 +205,25 @@ def changed_pages(page, other):
     yield page.replace(digest, digest + digest), f'the digest of the journal|{digest[10:74]}|'
     yield page.replace(digest, f'<dd><code>{digest[10:18]}</code></dd>'), f'the digest of the file|{digest[10:18]}|{digest[10:74]}'
     yield other, 'the budget|120.00|100.00'
+    yield from changed_parts(page)
+
+
+def unraised(picture):
+    """The picture of shares that nothing raises, made of the one of shares that have grown."""
+    return UNRAISED.sub('', picture).replace("y='29' width='74'", "y='15' width='62'").replace("120 40'", "120 26'").replace("height='40'", "height='26'")
+
+
+def changed_parts(page):
+    """Each change of the picture of shares and of the contents as a whole, with what has to be named."""
+    picture, contents = between(page, PICTURE, PICTURE_END), between(page, '<nav', '</nav>\n')
+    figure, told = between(page, f'<figure>\n{PICTURE}', '</figure>\n'), 'the picture of shares|'
+    yield page.replace(picture, unraised(picture)), f'{told}of opening shares|{GROWN}'
+    yield page.replace(picture, ''), f'{told}|{GROWN}'
+    yield page.replace(picture, picture + picture), f'{told}{GROWN}; {GROWN}|{GROWN}'
+    yield page.replace(picture, '').replace("<div class='budget'", picture + "<div class='budget'"), f'{told}{GROWN}, in another section|{GROWN}'
+    yield page.replace(figure, '').replace("<h2 id='added'>", figure + "<h2 id='added'>"), f'{told}{GROWN}, in another section|{GROWN}'
+    yield page.replace(contents, ''), f'the contents||{BEFORE}, #others The other projects'
+    yield page.replace(contents, contents + contents), f'the contents|#check Check it yourself; #budget|{BEFORE}, #others The other projects'
 
 
 def is_told(told, found):

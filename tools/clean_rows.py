@@ -90,7 +90,7 @@ WORDS = {
         'or nothing, write `;` there, but keep the `,` between the ids of a vote; if it is a heading or a note, delete it',
     'quoted': 'quotation marks around the whole row make one field of it: delete these',
     'slid': 'the first voter has no vote, and the last vote no voter: the column `vote` may have slid down by one '
-        'cell: compare a few rows with the ballots before you write an id',
+        'cell: compare a few rows with the ballots before you write an id; if they agree, and the row is a total, delete it',
     'rest': 'it may be the rest of the vote in the row above, which ends in a comma: if so, put it there; if it is a '
         "voter's id, write `;` behind it",
     'a column each': 'it has a column for each project: make one column vote of them, with `,` between the '

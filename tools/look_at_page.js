@@ -2,7 +2,11 @@
 (() => {
   const text = element => element && element.textContent;
   const rows = section => [...document.querySelectorAll(`${section} tbody tr`)].map(row => [...row.cells].map(
-    cell => cell.textContent));
+    cell => {
+      const copy = cell.cloneNode(true);
+      for (const it of copy.querySelectorAll('details')) it.remove();
+      return copy.textContent;
+    }));
   const widths = selector => [...document.querySelectorAll(selector)].map(rect => Number(rect.getAttribute('width')));
   const channel = value => value <= 0.03928 ? value / 12.92 : ((value + 0.055) / 1.055) ** 2.4;
   const light = ([red, green, blue]) => 0.2126 * channel(red / 255) + 0.7152 * channel(green / 255) + 0.0722 * channel(blue / 255);
@@ -46,6 +50,11 @@
     return [...range.getClientRects()].some(it => it.width > 0 && (it.left < bounds.left - 1 || it.right > bounds.right + 1
       || it.top < bounds.top - 3 || it.bottom > bounds.bottom + 3 || it.right > innerWidth + 1 || it.left < -1));
   };
+  // What is in `details` is measured as a reader opens it.
+  const closed = [...document.querySelectorAll('details:not([open])')];
+  closed.forEach(it => { it.open = true; });
+  const leaving = shown.filter(it => isSeen(it) && leaves(it)).map(it => it.data.slice(0, 60));
+  closed.forEach(it => { it.open = false; });
   return {
     language: document.documentElement.lang,
     direction: document.documentElement.dir,
@@ -64,6 +73,8 @@
     cut: blocks.filter(isCut).map(text),
     caption: text(document.querySelector('figcaption')),
     bars: { won: widths('.won:not(.money) .bar rect'), money: widths('.money .bar rect'), lost: widths('.lost .bar rect'), many: widths('.many .bar rect') },
+    works: text(document.querySelector('#rule ~ p')),
+    drawn: [document.querySelectorAll('.shares .share, .shares .raise, .shares .winners, .shares .budget').length, text(document.querySelector('#rule ~ figure figcaption'))],
     sentences: [...document.querySelectorAll('ol > li')].map(text),
     ties: [...document.querySelectorAll('ul.ties > li')].map(text),
     ended: [...document.querySelectorAll('ol > li:not(:has(.ties))')].slice(4, -1).map(it => text(it).replace(/\s+/g, ' ').trim()),
@@ -74,7 +85,11 @@
     figures: [...document.querySelectorAll('data')].map(it => [it.value, it.textContent]),
     picture: budget.getAttribute('aria-label'),
     options: [...document.querySelectorAll('pre ~ p')].map(text),
-    links: [...document.querySelectorAll('a')].map(it => [it.getAttribute('href'), text(it)]),
+    money: [...document.querySelectorAll('.lost details')].map(it => [...it.querySelectorAll('summary, li, a')].map(
+      part => part.matches('a') ? part.getAttribute('href') : text(part))),
+    places: [...document.querySelectorAll('[data-project]')].map(it => it.id),
+    contents: [...document.querySelectorAll('nav a')].map(it => [it.getAttribute('href'), text(it)]),
+    links: [...document.querySelectorAll('p a')].map(it => [it.getAttribute('href'), text(it)]),
     directions: [...document.querySelectorAll('bdi, h1, .id')].every(it => it.getAttribute('dir') === 'auto')
       && [...document.querySelectorAll('data, code')].map(it => getComputedStyle(it)).every(it => it.direction === 'ltr' && it.unicodeBidi === 'isolate'),
     tables: [...document.querySelectorAll('table')].every(it => it.caption && it.caption.textContent.trim()
@@ -85,7 +100,7 @@
     wide: document.documentElement.scrollWidth > innerWidth,
     narrow: [...document.querySelectorAll('thead th')].filter(it => getComputedStyle(it.closest('thead')).position !== 'absolute'
       && it.getBoundingClientRect().width < 48).map(text),
-    leaving: shown.filter(it => isSeen(it) && leaves(it)).map(it => it.data.slice(0, 60)),
+    leaving,
     faint: shown.filter(it => contrast(it.parentElement) < 4.5).map(it => `${it.data.trim().slice(0, 40)} ${contrast(it.parentElement).toFixed(2)}`),
   };
 })()

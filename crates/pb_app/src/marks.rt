@@ -17,6 +17,8 @@ use std::alloc::Global;
 #[derive(Drop)]
 pub(crate) struct Marks {
     title: Option<String>,
+    /// The address of the files that are published beside the page.
+    files: Option<String>,
     /// The address of a page that recounts.
     recount: Option<String>,
     currency: Option<String>,
@@ -47,7 +49,8 @@ impl Marks {
     fn of_text(alloc: Global, page: &str) -> Result<Marks, NoMemory> {
         Ok(Marks {
             title: shown(alloc, between(page, "<title>", "</title>"))?,
-            recount: shown(alloc, link_of(page))?,
+            files: shown(alloc, link_of(page, "<a class='files' href='"))?,
+            recount: shown(alloc, link_of(page, "<a href='"))?,
             currency: currency_of(alloc, page)?,
             compares: page.contains("<h2 id='compared'>"),
             rule: rule_of(page),
@@ -58,16 +61,19 @@ impl Marks {
     /// program has is passed over.
     pub(crate) fn filled<'m>(&'m self, asked: &PageRun<'m>) -> PageRun<'m>
         ensures title { IfSome asked.now.title (λ title. result.title ≡ Some title) }
+        ensures files { IfSome asked.now.files (λ address. result.files ≡ Some address) }
         ensures recount { IfSome asked.now.recount (λ address. result.recount ≡ Some address) }
         ensures currency { IfSome asked.now.currency (λ currency. result.currency ≡ Some currency) }
         ensures words { result.words ≡ asked.now.words }
         ensures compares { IsTrue asked.now.compares → IsTrue result.compares }
     {
+        let files = text_of(&self.files).filter(|link| is_link(link));
         let recount = text_of(&self.recount).filter(|link| is_link(link));
         let currency = text_of(&self.currency).filter(|text| is_currency(text));
         PageRun {
             ballots: asked.ballots,
             title: asked.title.or(text_of(&self.title)),
+            files: asked.files.or(files),
             recount: asked.recount.or(recount),
             words: asked.words,
             currency: asked.currency.or(currency),
@@ -93,10 +99,10 @@ fn between<'p>(page: &'p str, before: &str, after: &str) -> Option<&'p str> {
     Some(found)
 }
 
-/// The address of the link below the last heading.
-fn link_of(page: &str) -> Option<&str> {
+/// The address of the first link below the last heading that begins so.
+fn link_of<'p>(page: &'p str, beginning: &str) -> Option<&'p str> {
     let (_, check) = page.split_once("<h2 id='check'>")?;
-    between(check, "<a href='", "'>")
+    between(check, beginning, "'>")
 }
 
 /// The currency that stands beside the budget.

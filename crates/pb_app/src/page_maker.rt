@@ -118,6 +118,7 @@ fn facts_of<'a>(seen: &'a SeenOfFile<'a>, title: &'a str, language: Language<'a>
         title: title_of(run, title),
         file: read_text_of(&run.ballots.file, seen.file.as_ref()),
         journal,
+        files: run.files,
         recount: run.recount,
         compares: run.compares,
         categories: categories_of(seen),

@@ -261,6 +261,13 @@ pub(crate) const TITLE: Argument = Argument {
     help: "The title of the page [default: the title in the file WORDS, or Participatory budgeting]",
 };
 
+/// Where a page leads those who want its files.
+pub(crate) const FILES: Argument = Argument {
+    name: "files",
+    takes: Takes::Text("URL"),
+    help: "Puts a link to the files for the public on the page: an address as for --recount",
+};
+
 /// Where a page leads those who recount it.
 pub(crate) const RECOUNT: Argument = Argument {
     name: "recount",

@@ -93,6 +93,7 @@ fn page_of<'a>(given: &ArgMatches<'a>, said: &SaidRule, ballots: Ballots<'a>) ->
     PageRun {
         ballots,
         title: given.get_str("title"),
+        files: given.get_str("files"),
         recount: given.get_str("recount"),
         words: given.get_str("words"),
         currency: given.get_str("currency"),

@@ -4,8 +4,8 @@ use crate::argument_group::ArgumentGroup;
 use crate::argument_group::ArgumentGroup::{OfCount, OfResult, Own};
 use crate::arguments::{
     AGAINST, ALL, BY_ID, BY_PROJECT, CLERKS, COMPARE, COMPLETION, COST, CURRENCY, DIGEST, DIGESTS,
-    DURABLE, ELECTION, FIRST, HISTORY, JOURNAL, KEEP_FILE, KEEP_VOTERS, LEAST, LEFT_BY, MEASURE,
-    NO_SHUT, OTHER_FILE, OUTPUT, PLAIN, PROFILE, PROGRESS, PROJECT, QUIET, QUIET_BALLOTS,
+    DURABLE, ELECTION, FILES, FIRST, HISTORY, JOURNAL, KEEP_FILE, KEEP_VOTERS, LEAST, LEFT_BY,
+    MEASURE, NO_SHUT, OTHER_FILE, OUTPUT, PLAIN, PROFILE, PROGRESS, PROJECT, QUIET, QUIET_BALLOTS,
     QUIET_DESK, QUIET_SERVE, RECOUNT, REQUIRE_SHUT, ROLL, SAME_AS, SCRIPT, SERVED, SHUT, STEP,
     STRICT, TITLE, VOTER, VOTERS, WORDS,
 };
@@ -136,7 +136,7 @@ const PAGE: &CommandForm = &CommandForm {
     about: "Counts a .pb file, and prints the result as a web page for the public",
     groups: &[
         Own(&[
-            ELECTION, LEFT_BY, OTHER_FILE, TITLE, RECOUNT, WORDS, CURRENCY, COMPARE, SAME_AS,
+            ELECTION, LEFT_BY, OTHER_FILE, TITLE, FILES, RECOUNT, WORDS, CURRENCY, COMPARE, SAME_AS,
         ]),
         OfCount,
         OfResult,

@@ -15,10 +15,11 @@ pub(crate) enum Flaw<'a> {
     Twice(&'static str, &'static str),
     /// This argument is standard input, and can only be a file.
     Piped(&'static str),
-    /// No link of a page may lead to this address.
-    Address(&'a str),
-    /// A link would lead to a file with this name, which seems to be meant as the address of a site.
-    NoScheme(&'a str),
+    /// No link of a page may lead to the address of this option.
+    Address(&'static str, &'a str),
+    /// The link of this option would lead to a file with this name, which seems to be meant as the address of a
+    /// site.
+    NoScheme(&'static str, &'a str),
     /// This text would be read as a part of an amount.
     Currency(&'a str),
     /// No project can have the one cost that is tried.
@@ -76,11 +77,11 @@ impl<'a> Flaw<'a> {
             Flaw::Piped(name) => {
                 eprintln!(rt; "error: {name} can't be standard input (-). Name a file.")
             }
-            Flaw::Address(address) => eprintln!(rt;
-                "error: --recount {address:?} can't be the address of a link. Give one that begins with https:// or http://, or the name of a file beside the page, such as recount.html. It must not have spaces."
+            Flaw::Address(option, address) => eprintln!(rt;
+                "error: --{option} {address:?} can't be the address of a link. Give one that begins with https:// or http://, or the name of a file beside the page, such as recount.html. It must not have spaces."
             ),
-            Flaw::NoScheme(address) => eprintln!(rt;
-                "error: --recount {address:?} lacks https:// at its beginning. Give --recount https://{address}, or --recount ./{address} if it is a file in a folder beside the page."
+            Flaw::NoScheme(option, address) => eprintln!(rt;
+                "error: --{option} {address:?} lacks https:// at its beginning. Give --{option} https://{address}, or --{option} ./{address} if it is a file in a folder beside the page."
             ),
             Flaw::Currency(currency) => eprintln!(rt;
                 "error: --currency {currency:?} has a digit, which would be read as a part of the amount. Give letters or a sign, such as EUR or €."
@@ -115,24 +116,26 @@ fn piped(task: &Task<'_>) -> Option<&'static str> {
     }
 }
 
-/// What is wrong with the address to which a page would lead, if something is.
+/// What is wrong with the addresses to which a page would lead, if something is.
 fn bad_address<'a>(task: &Task<'a>) -> Option<Flaw<'a>> {
     match task {
-        Task::Page(
-            PageRun {
-                recount: Some(address),
-                ..
-            },
-        ) => {
-            if !is_address(address) {
-                Some(Flaw::Address(*address))
-            } else if lacks_scheme(address) {
-                Some(Flaw::NoScheme(*address))
-            } else {
-                None
-            }
-        }
+        Task::Page(run) => match judged_address("files", run.files) {
+            Some(flaw) => Some(flaw),
+            None => judged_address("recount", run.recount),
+        },
         _ => None,
+    }
+}
+
+/// What is wrong with the address that this option gives, if it gives one and something is.
+fn judged_address<'a>(option: &'static str, address: Option<&'a str>) -> Option<Flaw<'a>> {
+    let address = address?;
+    if !is_address(address) {
+        Some(Flaw::Address(option, address))
+    } else if lacks_scheme(address) {
+        Some(Flaw::NoScheme(option, address))
+    } else {
+        None
     }
 }
 

@@ -105,6 +105,8 @@ pub struct PageRun<'a> {
     pub ballots: Ballots<'a>,
     /// What was voted on, if it is said.
     pub title: Option<&'a str>,
+    /// The address of the files that are published beside the page, if one is given.
+    pub files: Option<&'a str>,
     /// The address of a page that recounts in a browser, if one is given.
     pub recount: Option<&'a str>,
     /// The path of the file with what the page says, if it is not English.

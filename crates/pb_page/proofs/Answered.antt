@@ -1,34 +1,62 @@
 -- What the parts of a page are where the code has told its cases apart.
-use Rattle.std.proofs.Common.{◌≡◌, ◌∙◌, ℕ, false, true, List, [], ap, refl}
+use Rattle.std.proofs.Common.{◌≡◌, ◌∙◌, ℕ, List, [], ap, length, refl}
 use Rattle.std.specs.Prelude.{◌∷◌, ◌++◌, codes, decimal}
 use Rattle.pb_core.specs.Election.{ElectionView, ProjectView}
 use Rattle.pb_page.specs.Amount.{shown}
 use Rattle.pb_page.specs.Content.{Part, attribute, isolated, item, line, number, own, said, say, text}
 use Rattle.pb_page.specs.Inner.Filling.{cut}
-use Rattle.pb_page.specs.Inner.Counted.{filled_up, share_said}
-use Rattle.pb_page.specs.Page.{blocks, called, project_at, tie, width}
+use Rattle.pb_page.specs.Inner.Counted.{options_put, options_said, share_said, works_said}
+use Rattle.pb_page.specs.Page.{blocks, by_raises, called, project_at, tie, width}
 use Rattle.pb_page.specs.declared.keys.TheConstants as key
 use Rattle.pb_page.specs.declared.language.Language.{Language}
 use Rattle.pb_page.specs.declared.templates.TheConstants.{BUDGET_PART}
 use Rattle.pb_page.proofs.Grown.{before}
 use Rattle.pb_reasons.specs.CountedElection.{CountedElectionView}
 use Rattle.pb_reasons.specs.declared.tie.Tie.{Tie}
-use Rattle.pb_rounds.specs.RuleNames.{by_measure, fills_up}
-use Rattle.pb_rounds.specs.declared.rule.FillUp.{FillUp}
-use Rattle.pb_rounds.specs.declared.rule.FillUp.TheVariants.{Nothing, MostVotes}
+use Rattle.pb_rounds.specs.Count.{opening_share}
+use Rattle.pb_rounds.specs.RuleNames.{by_completion, by_measure, completion_name, measure_name}
+use Rattle.pb_rounds.specs.declared.rule.Rule.{Rule}
 
-pub filled_is : (l : Language) (f : FillUp) → fills_up f ≡ true → (rest : List ℕ)
-    → before (item (said l key.FILLED_UP)) rest ≡ before (filled_up l f) rest
-filled_is l Nothing so rest = absurd (cc)
-filled_is l MostVotes so rest = refl
+pub share_is : (l : Language) (r q : Rule) (share raised t n : ℕ) → r ≡ q → share ≡ t → raised ≡ n
+    → share_said l (by_raises r key.SHARE_UNRAISED key.SHARE) r.options.step share raised
+    ≡ share_said l (by_raises q key.SHARE_UNRAISED key.SHARE) q.options.step t n
+share_is l r q share raised t n same_rule same_share same_raised =
+    ap (λ (p : Rule). share_said l (by_raises p key.SHARE_UNRAISED key.SHARE) p.options.step share raised) same_rule
+    ∙ ap (λ (m : ℕ). share_said l (by_raises q key.SHARE_UNRAISED key.SHARE) q.options.step m raised) same_share
+    ∙ ap (λ (m : ℕ). share_said l (by_raises q key.SHARE_UNRAISED key.SHARE) q.options.step t m) same_raised
 
-pub unfilled_is : (l : Language) (f : FillUp) → fills_up f ≡ false → [] ≡ filled_up l f
-unfilled_is l Nothing so = refl
-unfilled_is l MostVotes so = absurd (cc)
+pub share_put : (l : Language) (r : Rule) (k step share raises raised : ℕ) → k ≡ by_raises r key.SHARE_UNRAISED key.SHARE → step ≡ r.options.step
+    → raises ≡ raised → (rest : List ℕ) → before (share_said l k step share raises) rest
+    ≡ before (share_said l (by_raises r key.SHARE_UNRAISED key.SHARE) r.options.step share raised) rest
+share_put l r k step share raises raised k_is step_is raises_is rest =
+    let said = by_raises r key.SHARE_UNRAISED key.SHARE in
+    ap (λ (n : ℕ). before (share_said l n step share raises) rest) k_is
+    ∙ ap (λ (n : ℕ). before (share_said l said n share raises) rest) step_is
+    ∙ ap (λ (n : ℕ). before (share_said l said r.options.step share n) rest) raises_is
 
-pub share_is : (l : Language) (step share raises s t r : ℕ) → step ≡ s → share ≡ t → raises ≡ r → share_said l step share raises ≡ share_said l s t r
-share_is l step share raises s t r one two three =
-    ap (λ (n : ℕ). share_said l n share raises) one ∙ ap (λ (n : ℕ). share_said l s n raises) two ∙ ap (λ (n : ℕ). share_said l s t n) three
+pub options_are : (l : Language) (r : Rule) (k by : ℕ) (measure : List ℕ) (after : ℕ) (completion : List ℕ) (limit : ℕ)
+    → k ≡ by_raises r key.OPTIONS_UNRAISED key.OPTIONS → by ≡ by_measure r.options.measure key.MEASURE_VOTES key.MEASURE_COST
+    → measure ≡ measure_name r.options.measure
+    → after ≡ by_completion r.options.completion r.fill_up key.COMPLETION_NONE key.COMPLETION_ADD1 key.COMPLETION_UTILITARIAN key.COMPLETION_ADD1U
+    → completion ≡ completion_name r.options.completion r.fill_up → limit ≡ r.options.max_raises → (rest : List ℕ)
+    → before (options_put l k by measure after completion r.options.step limit) rest ≡ before (options_said l r) rest
+options_are l r k by measure after completion limit k_is by_is measure_is after_is completion_is limit_is rest =
+    let o = r.options in let said = by_raises r key.OPTIONS_UNRAISED key.OPTIONS in let its = by_measure o.measure key.MEASURE_VOTES key.MEASURE_COST in
+    let then_its = by_completion o.completion r.fill_up key.COMPLETION_NONE key.COMPLETION_ADD1 key.COMPLETION_UTILITARIAN key.COMPLETION_ADD1U in
+    ap (λ (n : ℕ). before (options_put l n by measure after completion o.step limit) rest) k_is
+    ∙ ap (λ (n : ℕ). before (options_put l said n measure after completion o.step limit) rest) by_is
+    ∙ ap (λ (t : List ℕ). before (options_put l said its t after completion o.step limit) rest) measure_is
+    ∙ ap (λ (n : ℕ). before (options_put l said its (measure_name o.measure) n completion o.step limit) rest) after_is
+    ∙ ap (λ (t : List ℕ). before (options_put l said its (measure_name o.measure) then_its t o.step limit) rest) completion_is
+    ∙ ap (λ (n : ℕ). before (options_put l said its (measure_name o.measure) then_its (completion_name o.completion r.fill_up) o.step n) rest) limit_is
+
+pub works_put : (l : Language) (k budget voters opening : ℕ) (e : ElectionView) → budget ≡ e.budget → voters ≡ length e.voters
+    → opening ≡ opening_share e → (rest : List ℕ)
+    → before (works_said l k budget voters opening) rest ≡ before (works_said l k e.budget (length e.voters) (opening_share e)) rest
+works_put l k budget voters opening e budget_is voters_is opening_is rest =
+    ap (λ (n : ℕ). before (works_said l k n voters opening) rest) budget_is
+    ∙ ap (λ (n : ℕ). before (works_said l k e.budget n opening) rest) voters_is
+    ∙ ap (λ (n : ℕ). before (works_said l k e.budget (length e.voters) n) rest) opening_is
 
 -- what is said of a tie
 abbrev tied : Language → (k round : ℕ) → (winner other : List ℕ) → List Part

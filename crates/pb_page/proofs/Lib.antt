@@ -7,6 +7,7 @@ mod Blocks
 mod Tables
 mod Parts
 mod WinnerPlaces
+mod VoteWinners
 mod Characters
 mod Texts
 mod Delimiters

@@ -1,20 +1,21 @@
 -- The parts of a page that are put in several pieces.
 use Rattle.std.proofs.Common.{◌≡◌, ◌∙◌, ℕ, false, true, List, [], ◌∷◌, ◌++◌, ap, append_assoc, length, refl, subst, sym}
-use Rattle.std.specs.Prelude.{◌==◌, codes, decimal, flat_map, if◌then◌else◌}
+use Rattle.std.specs.Prelude.{◌==◌, Bool, codes, decimal, flat_map, if◌then◌else◌, is_some, nat_lt}
 use Rattle.std.proofs.lemmas.Bool.{eq-eqb}
 use Rattle.pb_core.specs.Election.{ElectionView}
 use Rattle.pb_core.specs.MoneyText.{money_text}
 use Rattle.pb_page.specs.Content.{Part, amount, attribute, block, element, figure, item, line, listed, own, paragraph, said, say, section, text}
-use Rattle.pb_page.specs.Inner.Counted.{begun, figures_of, filled_up, journal_source, link_said, made_by, only_then, options_said, picture_said, recount_said, result_said, sections, share_said, spent_said, voted_said}
+use Rattle.pb_page.specs.Inner.Counted.{begun, figures_of, files_said, filled_up, journal_source, link_said, made_by, name_said, only_then, options_said, picture_said, recount_said, result_said, sections, share_said, spent_said, then_listed, voted_said, works_said}
 use Rattle.pb_page.specs.Inner.Filling.{cut}
-use Rattle.pb_page.specs.Page.{blocks, budget, check, command, parts, raises_ended, rule, source, summary, tie, ties}
+use Rattle.pb_page.specs.Page.{beside, blocks, budget, by_raises, check, command, contents, link_to, parts, raises_ended, rule, source, summary, tie, ties, works}
 use Rattle.pb_page.specs.Words.{sentence}
 use Rattle.pb_page.specs.declared.facts.Facts.{Facts}
 use Rattle.pb_page.specs.declared.figures.Figures.{Figures}
 use Rattle.pb_page.specs.declared.keys.TheConstants as key
 use Rattle.pb_page.specs.declared.language.Language.{Language}
+use Rattle.pb_page.specs.declared.picture.TheConstants.{GROWN_SHARES, OPENING_SHARES}
 use Rattle.pb_page.specs.declared.style.TheConstants.{META, STYLE}
-use Rattle.pb_page.specs.declared.templates.TheConstants.{BLOCKS_CLOSING, BLOCKS_OPENING, BUDGET_CLOSING, BUDGET_OPENING, CHECK_CLOSING, CHECK_OPENING, CLOSING, COMMAND_CLOSING, COMMAND_OPENING, HEAD_OPENING, LEAD, LEAD_CLOSING, LEAD_NEXT, LIST_CLOSING, MAIN, NOTHING, ONLY_THEN_OPENING, OPTIONS, PARAGRAPH, RULE_CLOSING, RULE_OPENING, SOURCES_CLOSING, TIES_OPENING, TITLE, TOP}
+use Rattle.pb_page.specs.declared.templates.TheConstants.{BLOCKS_CLOSING, BLOCKS_OPENING, BUDGET_CLOSING, BUDGET_OPENING, CHECK_CLOSING, CHECK_OPENING, CLOSING, COMMAND_CLOSING, COMMAND_OPENING, CONTENTS_CLOSING, CONTENTS_OPENING, FIGURE_CLOSING, FIGURE_OPENING, HEAD_OPENING, LEAD, LEAD_CLOSING, LEAD_NEXT, LIST_CLOSING, LIST_OPENING, MAIN, NOTHING, ONLY_THEN_OPENING, OPTIONS, PARAGRAPH, RULE_CLOSING, RULE_OPENING, SOURCES_CLOSING, TIES_OPENING, TITLE, TOP}
 use Rattle.pb_page.proofs.Grown.{before, before_more, heads}
 use Rattle.pb_reasons.specs.Counted.{winners_of}
 use Rattle.pb_reasons.specs.CountedElection.{CountedElectionView}
@@ -23,7 +24,8 @@ use Rattle.pb_reasons.specs.declared.raise_end.NextRaise.{NextRaise}
 use Rattle.pb_reasons.specs.declared.raise_end.RaiseEnd.{RaiseEnd}
 use Rattle.pb_reasons.specs.declared.raise_end.RaiseEnd.TheVariants.{Over}
 use Rattle.pb_reasons.specs.declared.tie.Tie.{Tie}
-use Rattle.pb_rounds.specs.RuleNames.{by_completion, by_measure}
+use Rattle.pb_rounds.specs.Count.{opening_share}
+use Rattle.pb_rounds.specs.RuleNames.{by_completion, by_measure, profile_name}
 use Rattle.pb_rounds.specs.declared.rule.Rule.{Rule}
 
 summary_as : (voted result : List Part) (rest : List ℕ)
@@ -39,11 +41,11 @@ budget_as : (l : Language) (says blocks spent : List Part) (rest : List ℕ)
 unfolding cut
 budget_as l says those spent rest = simp (append_assoc, before_more)
 
-over_as : (l : Language) (says items : List Part) (rest : List ℕ)
-    → before (says ++ (heads l ONLY_THEN_OPENING.now (key.ONLY_THEN ∷ []) ++ (items ++ own LIST_CLOSING.now))) rest
-    ≡ before (says ++ listed l key.ONLY_THEN [] items) rest
+then_as : (l : Language) (items : List Part) (rest : List ℕ)
+    → before (heads l ONLY_THEN_OPENING.now (key.ONLY_THEN ∷ []) ++ (items ++ own LIST_CLOSING.now)) rest
+    ≡ before (listed l key.ONLY_THEN [] items) rest
 unfolding cut
-over_as l says items rest = simp (append_assoc, before_more)
+then_as l items rest = simp before_more
 
 ties_as : (l : Language) (items : List Part) (rest : List ℕ)
     → before (heads l TIES_OPENING.now (key.TIES ∷ []) ++ (items ++ own LIST_CLOSING.now)) rest
@@ -51,13 +53,19 @@ ties_as : (l : Language) (items : List Part) (rest : List ℕ)
 unfolding cut
 ties_as l items rest = simp before_more
 
-rule_as : (l : Language) (share one two three ends method filled ties : List Part) (rest : List ℕ)
-    → before (heads l RULE_OPENING.now (key.RULE_HEADING ∷ []) ++ (share ++ (one ++ (two ++ (three ++ (ends ++ (method ++ (filled
-    ++ (ties ++ own RULE_CLOSING.now))))))))) rest
-    ≡ before (section l [] (codes "rule") key.RULE_HEADING (block (codes "ol") [] (share ++ ((one ++ (two ++ (three ++ [])))
+rule_as : (l : Language) (works share one two three ends method filled ties : List Part) (rest : List ℕ)
+    → before (heads l RULE_OPENING.now (key.RULE_HEADING ∷ []) ++ (works ++ (own LIST_OPENING.now ++ (share ++ (one ++ (two ++ (three ++ (ends
+    ++ (method ++ (filled ++ (ties ++ own RULE_CLOSING.now))))))))))) rest
+    ≡ before (section l [] (codes "rule") key.RULE_HEADING (works ++ block (codes "ol") [] (share ++ ((one ++ (two ++ (three ++ [])))
     ++ (ends ++ ((method ++ filled) ++ ties)))))) rest
 unfolding cut
-rule_as l share one two three ends method filled ties rest = simp (append_assoc, before_more)
+rule_as l works share one two three ends method filled ties rest = simp (append_assoc, before_more)
+
+works_as : (l : Language) (says : List Part) (picture : List ℕ) (k : ℕ) (rest : List ℕ)
+    → before (says ++ (own FIGURE_OPENING.now ++ (own picture ++ heads l FIGURE_CLOSING.now (k ∷ [])))) rest
+    ≡ before (says ++ block (codes "figure") [] (own picture ++ line (codes "figcaption") [] (said l k))) rest
+unfolding cut
+works_as l says picture k rest = simp (append_assoc, before_more)
 
 link_as : (l : Language) (says : List Part) (rest : List ℕ)
     → before (says ++ heads l PARAGRAPH.now (key.PROGRAM_TOO ∷ [])) rest ≡ before (says ++ paragraph (said l key.PROGRAM_TOO)) rest
@@ -80,13 +88,37 @@ measure_said r = by_measure r.options.measure [] (codes " --measure cost")
 abbrev completion_said : Rule → List ℕ
 completion_said r = by_completion r.options.completion r.fill_up (codes " --plain") [] (codes " --completion utilitarian") (codes " --completion add1u")
 
-check_as : (l : Language) (file journal link command options made : List Part) (rest : List ℕ)
+check_as : (l : Language) (file journal files link command options name made : List Part) (rest : List ℕ)
     → before (heads l CHECK_OPENING.now (key.CHECK_HEADING ∷ key.CHECK_BYTES ∷ []) ++ (file ++ (journal ++ (own SOURCES_CLOSING.now
-    ++ (link ++ (own COMMAND_OPENING.now ++ (command ++ (own COMMAND_CLOSING.now ++ (options ++ (made ++ own CHECK_CLOSING.now)))))))))) rest
+    ++ (files ++ (link ++ (own COMMAND_OPENING.now ++ (command ++ (own COMMAND_CLOSING.now ++ (options ++ (name ++ (made ++ own CHECK_CLOSING.now)))))))))))) rest
     ≡ before (section l [] (codes "check") key.CHECK_HEADING (paragraph (said l key.CHECK_BYTES) ++ (block (codes "dl") [] (file ++ journal)
-    ++ (link ++ (line (codes "pre") [] (element (codes "code") [] command) ++ (options ++ made)))))) rest
+    ++ (files ++ (link ++ (line (codes "pre") [] (element (codes "code") [] command) ++ (options ++ (name ++ made)))))))) rest
 unfolding cut
-check_as l file journal link order options made rest = simp (append_assoc, before_more)
+check_as l file journal files link order options name made rest = simp (append_assoc, before_more)
+
+-- the contents
+contents_as : (l : Language) (a b c d e f g h i : List Part) (rest : List ℕ)
+    → before (heads l CONTENTS_OPENING.now (key.CONTENTS ∷ []) ++ (a ++ (b ++ (c ++ (d ++ (e ++ (f ++ (g ++ (h ++ (i ++ own CONTENTS_CLOSING.now)))))))))) rest
+    ≡ before (block (codes "nav") (attribute (codes "aria-label") (said l key.CONTENTS)) (block (codes "ul") []
+    (a ++ (b ++ (c ++ (d ++ (e ++ (f ++ (g ++ (h ++ i)))))))))) rest
+unfolding cut
+contents_as l a b c d e f g h i rest = simp (append_assoc, before_more)
+
+pub contents_are : (facts : Facts) (x : CountedElectionView) (has_added has_categories : Bool) → has_added ≡ nat_lt 0 (length x.counted.added)
+    → has_categories ≡ is_some facts.categories → (rest : List ℕ)
+    → let l = facts.language in before (heads l CONTENTS_OPENING.now (key.CONTENTS ∷ []) ++ (link_to l true (codes "budget") key.BUDGET_HEADING
+    ++ (link_to l true (codes "winners") key.WINNERS_HEADING ++ (link_to l has_added (codes "added") key.ADDED_HEADING
+    ++ (link_to l true (codes "others") key.OTHERS_HEADING ++ (link_to l has_categories (codes "categories") key.CATEGORIES_HEADING
+    ++ (link_to l true (codes "voters") key.VOTERS_HEADING ++ (link_to l facts.compares (codes "compared") key.COMPARED_HEADING
+    ++ (link_to l true (codes "rule") key.RULE_HEADING ++ (link_to l true (codes "check") key.CHECK_HEADING ++ own CONTENTS_CLOSING.now)))))))))) rest
+    ≡ before (contents facts x) rest
+unfolding contents
+contents_are facts x has_added has_categories added_is categories_is rest = let l = facts.language in
+    rw (added_is, categories_is) (contents_as l (link_to l true (codes "budget") key.BUDGET_HEADING) (link_to l true (codes "winners") key.WINNERS_HEADING)
+    (link_to l (nat_lt 0 (length x.counted.added)) (codes "added") key.ADDED_HEADING) (link_to l true (codes "others") key.OTHERS_HEADING)
+    (link_to l (is_some facts.categories) (codes "categories") key.CATEGORIES_HEADING) (link_to l true (codes "voters") key.VOTERS_HEADING)
+    (link_to l facts.compares (codes "compared") key.COMPARED_HEADING) (link_to l true (codes "rule") key.RULE_HEADING)
+    (link_to l true (codes "check") key.CHECK_HEADING) rest)
 
 -- the page, an element after the other
 line_before : (tag : List ℕ) (attributes inside : List Part) (rest : List ℕ) → before (line tag attributes inside) rest
@@ -165,13 +197,27 @@ budget_is l x f is rest =
     ≡ before (budget l x) rest in
     subst Same (sym is) (budget_as l (picture_said l (figures_of x)) (blocks l.costs x.election 0 (winners_of x.counted)) (spent_said l (figures_of x)) rest)
 
-pub over_is : (l : Language) (e : ElectionView) (next : NextRaise) (places : List ℕ) → places ≡ next.only_then.items → (rest : List ℕ)
+pub then_is : (l : Language) (e : ElectionView) (new : List ℕ) → length new == 0 ≡ false → (rest : List ℕ)
+    → before (heads l ONLY_THEN_OPENING.now (key.ONLY_THEN ∷ []) ++ (flat_map (only_then l e) new ++ own LIST_CLOSING.now)) rest
+    ≡ before (then_listed l e new) rest
+then_is l e new some rest =
+    let all = listed l key.ONLY_THEN [] (flat_map (only_then l e) new) in
+    then_as l (flat_map (only_then l e) new) rest ∙ ap (λ (b : Bool). before (if b then [] else all) rest) (sym some)
+
+pub none_then : (l : Language) (e : ElectionView) (new : List ℕ) → length new == 0 ≡ true → [] ≡ then_listed l e new
+none_then l e new none =
+    let all = listed l key.ONLY_THEN [] (flat_map (only_then l e) new) in ap (λ (b : Bool). if b then [] else all) (sym none)
+
+pub over_is : (l : Language) (x : CountedElectionView) (next : NextRaise) (e : ElectionView) (winners places : List ℕ) → e ≡ x.election
+    → winners ≡ winners_of x.counted → places ≡ next.only_then.items → (rest : List ℕ)
     → before (item (say l key.OVER (amount l.amounts (codes "next_share") next.share ∷ amount l.costs (codes "next_cost") next.cost ∷ []))
-    ++ (heads l ONLY_THEN_OPENING.now (key.ONLY_THEN ∷ []) ++ (flat_map (only_then l e) places ++ own LIST_CLOSING.now))) rest
-    ≡ before (raises_ended l e (Over next)) rest
-over_is l e next places is rest = rw is (over_as l
-    (item (say l key.OVER (amount l.amounts (codes "next_share") next.share ∷ amount l.costs (codes "next_cost") next.cost ∷ [])))
-    (flat_map (only_then l e) next.only_then.items) rest)
+    ++ then_listed l e (beside winners places)) rest
+    ≡ before (raises_ended l x (Over next)) rest
+over_is l x next e winners places e_is winners_is places_is rest =
+    let first = item (say l key.OVER (amount l.amounts (codes "next_share") next.share ∷ amount l.costs (codes "next_cost") next.cost ∷ [])) in
+    ap (λ (w : List ℕ). before (first ++ then_listed l e (beside w places)) rest) winners_is
+    ∙ ap (λ (p : List ℕ). before (first ++ then_listed l e (beside (winners_of x.counted) p)) rest) places_is
+    ∙ ap (λ (f : ElectionView). before (first ++ then_listed l f (beside (winners_of x.counted) next.only_then.items)) rest) e_is
 
 pub ties_are : (l : Language) (x : CountedElectionView) (all : List Tie) → all ≡ ties_of x.rule.options.measure x.election x.counted.outcome
     → length all == 0 ≡ false → (rest : List ℕ)
@@ -185,23 +231,45 @@ unfolding ties
 no_ties l x all is none = rw (sym is, none) refl
 
 pub rule_is : (l : Language) (x : CountedElectionView) (end : RaiseEnd) (share one two method filled : List Part)
-    → share ≡ share_said l x.rule.options.step x.counted.outcome.share x.counted.outcome.raised
+    → share ≡ share_said l (by_raises x.rule key.SHARE_UNRAISED key.SHARE) x.rule.options.step x.counted.outcome.share x.counted.outcome.raised
     → one ≡ item (said l (by_measure x.rule.options.measure key.BY_VOTES key.BY_COST))
     → two ≡ item (said l (by_completion x.rule.options.completion x.rule.fill_up key.PLAIN (if x.counted.outcome.raised == 0 then key.UNRAISED else key.RAISED)
-    key.UNUSED (if x.counted.outcome.raised == 0 then key.UNRAISED else key.RAISED)))
+    key.FILLED_UP (if x.counted.outcome.raised == 0 then key.UNRAISED else key.RAISED)))
     → method ≡ item (said l (by_completion x.rule.options.completion x.rule.fill_up key.METHOD_PLAIN key.METHOD_ADD1 key.METHOD_FILLED key.METHOD_ADD1))
-    → filled ≡ filled_up l x.rule.fill_up → (rest : List ℕ)
-    → before (heads l RULE_OPENING.now (key.RULE_HEADING ∷ []) ++ (share ++ (item (said l key.SUPPORTERS) ++ (one ++ (two
-    ++ (raises_ended l x.election end ++ (method ++ (filled ++ (ties l x ++ own RULE_CLOSING.now))))))))) rest
+    → filled ≡ filled_up l x.rule → (rest : List ℕ)
+    → before (heads l RULE_OPENING.now (key.RULE_HEADING ∷ []) ++ (works l x ++ (own LIST_OPENING.now ++ (share ++ (item (said l key.SUPPORTERS)
+    ++ (one ++ (two ++ (raises_ended l x end ++ (method ++ (filled ++ (ties l x ++ own RULE_CLOSING.now))))))))))) rest
     ≡ before (rule l x end) rest
 unfolding rule
 rule_is l x end share one two method filled share_is one_is two_is method_is filled_is rest =
-    rw (share_is, one_is, two_is, method_is, filled_is) (rule_as l (share_said l x.rule.options.step x.counted.outcome.share x.counted.outcome.raised)
+    rw (share_is, one_is, two_is, method_is, filled_is) (rule_as l (works l x)
+    (share_said l (by_raises x.rule key.SHARE_UNRAISED key.SHARE) x.rule.options.step x.counted.outcome.share x.counted.outcome.raised)
     (item (said l key.SUPPORTERS)) (item (said l (by_measure x.rule.options.measure key.BY_VOTES key.BY_COST)))
     (item (said l (by_completion x.rule.options.completion x.rule.fill_up key.PLAIN (if x.counted.outcome.raised == 0 then key.UNRAISED else key.RAISED)
-    key.UNUSED (if x.counted.outcome.raised == 0 then key.UNRAISED else key.RAISED)))) (raises_ended l x.election end)
+    key.FILLED_UP (if x.counted.outcome.raised == 0 then key.UNRAISED else key.RAISED)))) (raises_ended l x end)
     (item (said l (by_completion x.rule.options.completion x.rule.fill_up key.METHOD_PLAIN key.METHOD_ADD1 key.METHOD_FILLED key.METHOD_ADD1)))
-    (filled_up l x.rule.fill_up) (ties l x) rest)
+    (filled_up l x.rule) (ties l x) rest)
+
+abbrev works_laid : Language → ElectionView → (k : ℕ) → (picture : List ℕ) → (caption : ℕ) → List Part
+works_laid l e k picture caption = works_said l k e.budget (length e.voters) (opening_share e) ++ (own FIGURE_OPENING.now ++ (own picture
+    ++ heads l FIGURE_CLOSING.now (caption ∷ [])))
+
+pub works_is : (l : Language) (x : CountedElectionView) (r : Rule) (e : ElectionView) (k caption : ℕ) (picture : List ℕ) → r ≡ x.rule → e ≡ x.election
+    → k ≡ by_raises r key.WORKS_UNRAISED key.WORKS → picture ≡ by_raises r OPENING_SHARES.now GROWN_SHARES.now
+    → caption ≡ by_raises r key.WORKS_PICTURE_UNRAISED key.WORKS_PICTURE → (rest : List ℕ)
+    → before (works_said l k e.budget (length e.voters) (opening_share e) ++ (own FIGURE_OPENING.now ++ (own picture
+    ++ heads l FIGURE_CLOSING.now (caption ∷ [])))) rest
+    ≡ before (works l x) rest
+unfolding works
+works_is l x r e k caption picture r_is e_is k_is picture_is caption_is rest =
+    let said = by_raises x.rule key.WORKS_UNRAISED key.WORKS in let drawn = by_raises x.rule OPENING_SHARES.now GROWN_SHARES.now in
+    let below = by_raises x.rule key.WORKS_PICTURE_UNRAISED key.WORKS_PICTURE in
+    ap (λ (n : ℕ). before (works_laid l e n picture caption) rest) (k_is ∙ ap (λ (q : Rule). by_raises q key.WORKS_UNRAISED key.WORKS) r_is)
+    ∙ ap (λ (t : List ℕ). before (works_laid l e said t caption) rest) (picture_is ∙ ap (λ (q : Rule). by_raises q OPENING_SHARES.now GROWN_SHARES.now) r_is)
+    ∙ ap (λ (n : ℕ). before (works_laid l e said drawn n) rest)
+    (caption_is ∙ ap (λ (q : Rule). by_raises q key.WORKS_PICTURE_UNRAISED key.WORKS_PICTURE) r_is)
+    ∙ ap (λ (f : ElectionView). before (works_laid l f said drawn below) rest) e_is
+    ∙ works_as l (works_said l said x.election.budget (length x.election.voters) (opening_share x.election)) drawn below rest
 
 pub link_is : (l : Language) (address : List ℕ) (rest : List ℕ)
     → before (recount_said l address ++ heads l PARAGRAPH.now (key.PROGRAM_TOO ∷ [])) rest ≡ before (recount_said l address ++ paragraph (said l key.PROGRAM_TOO)) rest
@@ -220,19 +288,23 @@ command_is facts r measure completion step raises measure_is completion_is step_
     ∙ ap (λ (n : ℕ). before (ordered facts (measure_said r) (completion_said r) r.options.step n) rest) raises_is
 
 pub check_is : (facts : Facts) (r : Rule) (rest : List ℕ) → before (heads facts.language CHECK_OPENING.now (key.CHECK_HEADING ∷ key.CHECK_BYTES ∷ [])
-    ++ (source (codes "FILE: ") facts.file ++ (journal_source facts.journal ++ (own SOURCES_CLOSING.now ++ (link_said facts.language facts.recount
+    ++ (source (codes "FILE: ") facts.file ++ (journal_source facts.journal ++ (own SOURCES_CLOSING.now ++ (files_said facts.language facts.files ++ (link_said facts.language facts.recount
     ++ (own COMMAND_OPENING.now ++ (command facts r ++ (own COMMAND_CLOSING.now ++ (options_said facts.language r
-    ++ (made_by facts.language facts.program.now ++ own CHECK_CLOSING.now)))))))))) rest
+    ++ (name_said facts.language (profile_name r) ++ (made_by facts.language facts.program.now ++ own CHECK_CLOSING.now)))))))))))) rest
     ≡ before (check facts r) rest
 unfolding check
-check_is facts r rest = check_as facts.language (source (codes "FILE: ") facts.file) (journal_source facts.journal) (link_said facts.language facts.recount)
-    (command facts r) (options_said facts.language r) (made_by facts.language facts.program.now) rest
+check_is facts r rest = check_as facts.language (source (codes "FILE: ") facts.file) (journal_source facts.journal) (files_said facts.language facts.files) (link_said facts.language facts.recount)
+    (command facts r) (options_said facts.language r) (name_said facts.language (profile_name r)) (made_by facts.language facts.program.now) rest
 
 pub page_is : (facts : Facts) (x : CountedElectionView) (end : RaiseEnd) (lang dir : List ℕ) → lang ≡ sentence facts.language.words key.LANG
     → dir ≡ sentence facts.language.words key.DIR → (rest : List ℕ)
     → before (cut HEAD_OPENING.now (lang ∷ dir ∷ []) ++ (own META.now ++ (cut TITLE.now (facts.title.now ∷ []) ++ (own STYLE.now
-    ++ (cut TOP.now (facts.title.now ∷ []) ++ (summary facts.language x ++ (own MAIN.now ++ (sections facts x end ++ own CLOSING.now)))))))) rest
+    ++ (cut TOP.now (facts.title.now ∷ []) ++ (summary facts.language x ++ (contents facts x ++ (own MAIN.now ++ (sections facts x end ++ own CLOSING.now))))))))) rest
     ≡ before (parts facts x end) rest
 unfolding parts
 page_is facts x end lang dir lang_is dir_is rest =
-    rw (lang_is, dir_is) (page_as facts.language META.now STYLE.now facts.title.now (summary facts.language x) (sections facts x end) rest)
+    let l = facts.language in let title = facts.title.now in
+    let Put : List Part → List ℕ = λ lead. before (heads l HEAD_OPENING.now (key.LANG ∷ key.DIR ∷ []) ++ (own META.now ++ (cut TITLE.now (title ∷ [])
+    ++ (own STYLE.now ++ (cut TOP.now (title ∷ []) ++ lead))))) rest in
+    rw (lang_is, dir_is) (ap Put (sym (append_assoc (summary l x) (contents facts x) (own MAIN.now ++ (sections facts x end ++ own CLOSING.now))))
+    ∙ page_as l META.now STYLE.now title (summary l x ++ contents facts x) (sections facts x end) rest)

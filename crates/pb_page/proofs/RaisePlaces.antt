@@ -9,10 +9,16 @@ use Rattle.pb_reasons.specs.RaiseEnd.{IsRaiseEnd}
 use Rattle.pb_reasons.specs.declared.raise_end.RaiseEnd.{RaiseEnd}
 use Rattle.pb_reasons.specs.declared.raise_end.RaiseEnd.TheVariants.{Plain, Exhausted, Over}
 use Rattle.pb_rounds.proofs.RunIs.{only_run}
+use Rattle.pb_rounds.specs.MostVotes.{is_taken}
 use Rattle.pb_rounds.specs.Outcome.{OutcomeView}
 use Rattle.pb_rounds.specs.Run.{ElectedView, RunView, is_elected}
 use Rattle.pb_rounds.specs.declared.options.CountOptions.{CountOptions}
 use Rattle.pb_page.specs.Inner.Counted.{KnowsPlaces}
+use Rattle.pb_page.specs.Page.{beside}
+
+pub beside_are_known : (e : ElectionView) (taken places : List ℕ) → All (λ place. place < length e.projects) places
+    → All (λ place. place < length e.projects) (beside taken places)
+beside_are_known e taken places known = All-filter (λ place. not (is_taken taken place)) (λ place. place < length e.projects) places known
 
 pub places_are_known : (e : ElectionView) (options : CountOptions) (o : OutcomeView) (end : RaiseEnd) → IsRaiseEnd e options o end → KnowsPlaces e end
 places_are_known e options o Plain h = tt

@@ -1,28 +1,30 @@
 -- The tables of a page, as they are put: pieces, and rows between them.
-use Rattle.std.proofs.Common.{◌≡◌, ◌≢◌, ℕ, false, true, List, [], ◌∷◌, ◌++◌, append_assoc, length, map, refl, sym, ◌∙◌, ap}
-use Rattle.std.specs.Prelude.{◌==◌, Some, codes, decimal, flat_map, if◌then◌else◌}
+use Rattle.std.proofs.Common.{◌≡◌, ◌≢◌, Bool, ℕ, false, true, List, [], ◌∷◌, ◌++◌, append_assoc, length, map, refl, sym, ◌∙◌, ap, inl, inr}
+use Rattle.std.specs.Prelude.{◌==◌, Bool, Option, Some, codes, decimal, flat_map, if◌then◌else◌, nat_lt}
 use Rattle.std.specs.List.{range_with_len}
 use Rattle.std.specs.Option.{option_map_or}
-use Rattle.std.proofs.lemmas.Bool.{ne_eqb}
+use Rattle.std.proofs.lemmas.Bool.{cases_Bool, ne_eqb}
 use Rattle.pb_core.specs.Election.{ElectionView, ProjectView}
 use Rattle.pb_core.specs.MoneyText.{money_text}
 use Rattle.pb_page.specs.Amount.{shown}
-use Rattle.pb_page.specs.Content.{Part, amount, attribute, bar, cell, column, columns, figure, head, isolated, item, line, nameless, own, row, said, say, section, table, text, under}
-use Rattle.pb_page.specs.Inner.Counted.{exact_row, got_said, in_category, lost_row, only_then}
+use Rattle.pb_page.specs.Content.{Part, amount, attribute, bar, block, cell, column, columns, element, figure, head, isolated, item, line, nameless, number, own, paragraph, row, said, say, section, table, text, under}
+use Rattle.pb_page.specs.Inner.Counted.{both_only, compared, exact_row, got_said, in_category, links, lost_row, only_then, more_told, nothing_told, payment_told, told_of, went_as}
 use Rattle.pb_page.specs.Inner.Filling.{cut}
-use Rattle.pb_page.specs.Page.{added, at_least, ballots_row, besides, categories, category_name, category_of, category_row, cells, choices_won, compared_row, ended_row, others, project_at, projects, row_at, short_key, titled, width, winners}
+use Rattle.pb_page.specs.Page.{added, at_least, ballots_row, beside, besides, called, categories, category_name, category_of, category_row, cells, choices_won, compared_row, ended_row, linked, others, project_at, projects, row_at, short_key, titled, width, winners, money_told, went}
 use Rattle.pb_page.specs.Words.{sentence}
 use Rattle.pb_page.specs.declared.categories.Categories.{Categories}
 use Rattle.pb_page.specs.declared.facts.Facts.{Facts}
 use Rattle.pb_page.specs.declared.in_category.InCategory.{InCategory}
 use Rattle.pb_page.specs.declared.keys.TheConstants as key
 use Rattle.pb_page.specs.declared.language.Language.{Language}
-use Rattle.pb_page.specs.declared.templates.TheConstants.{ADDED, ADDED_OPENING, CATEGORIES_OPENING, CATEGORY, COMPARED_OPENING, COMPARED_ROW, HEAD_CATEGORY, HEAD_CLOSING, NONE_LOST, NONE_WON, ONLY_THEN, OTHER, OTHERS_OPENING, OTHER_CLOSING, ROW_CATEGORY, ROW_CLOSING, ROW_OPENING, TABLE_CLOSING, VOTERS_OPENING, VOTERS_ROW, VOTERS_ROW_CLOSING, VOTERS_TABLE, WINNER, WINNERS_OPENING}
+use Rattle.pb_page.specs.declared.templates.TheConstants.{ADDED, ADDED_OPENING, CATEGORIES_OPENING, CATEGORY, COMPARED_OPENING, COMPARED_ROW, HEAD_CATEGORY, HEAD_CLOSING, LINKED, LINKS_CLOSING, LINKS_OPENING, NONE_LOST, NONE_WON, ONLY_THEN, OTHER, OTHERS_OPENING, OTHER_CLOSING, OTHER_OPENING, ROWS_CLOSING, ROW_CATEGORY, ROW_CLOSING, ROW_OPENING, SECTION_CLOSING, TABLE_CLOSING, VOTERS_OPENING, VOTERS_ROW, VOTERS_ROW_CLOSING, VOTERS_TABLE, WENT_CLOSING, WENT_OPENING, WINNER, WINNERS_OPENING}
 use Rattle.pb_page.proofs.Grown.{before, before_more}
-use Rattle.pb_reasons.specs.BesideVotes.{beside_votes}
+use Rattle.pb_reasons.specs.BesideVotes.{beside_votes, elected_by_votes}
 use Rattle.pb_reasons.specs.Counted.{winners_of}
 use Rattle.pb_reasons.specs.CountedElection.{CountedElectionView}
+use Rattle.pb_reasons.specs.Money.{MoneyView}
 use Rattle.pb_reasons.specs.Reasons.{project_reason}
+use Rattle.pb_reasons.specs.declared.payment.Payment.{Payment}
 use Rattle.pb_reasons.specs.declared.comparison.Comparison.{Comparison}
 use Rattle.pb_reasons.specs.declared.project_reason.Ending.{Ending}
 use Rattle.pb_reasons.specs.declared.project_reason.Ending.TheVariants as ending
@@ -39,30 +41,72 @@ heads l piece keys = cut piece (map (sentence l.words) keys)
 
 -- the comparison
 pub compared_row_is : (l : Language) (k : ℕ) (r : RuleRow) (rest : List ℕ)
-    → before (cut COMPARED_ROW.now (sentence l.words k ∷ sentence l.words key.COMPARED_WON ∷ decimal r.projects ∷ sentence l.words key.WITHOUT
+    → before (cut COMPARED_ROW.now (sentence l.words k ∷ sentence l.words key.COMPARED_WON ∷ decimal r.projects
+    ∷ sentence l.words key.COMPARED_COST ∷ money_text r.spent ∷ shown l.costs r.spent ∷ sentence l.words key.WITHOUT
     ∷ decimal r.without ∷ sentence l.words key.MORE ∷ decimal r.more_choices ∷ [])) rest ≡ before (compared_row l k r) rest
 unfolding cut
 compared_row_is l k r rest = refl
 
-besides_as : (l : Language) (one two : List Part) (rest : List ℕ)
-    → before (heads l COMPARED_OPENING.now (key.COMPARED_HEADING ∷ key.COMPARED_CAPTION ∷ key.COMPARED_RULE ∷ key.COMPARED_WON ∷ key.WITHOUT ∷ key.MORE ∷ [])
-    ++ (one ++ (two ++ own TABLE_CLOSING.now))) rest
-    ≡ before (section l (codes " class='many'") (codes "compared") key.COMPARED_HEADING (table l (codes " class='wide'")
-    key.COMPARED_CAPTION (columns l [] key.COMPARED_RULE (key.COMPARED_WON ∷ key.WITHOUT ∷ key.MORE ∷ [])) (one ++ two))) rest
-unfolding cut
-besides_as l one two rest = simp before_more
+abbrev compared_heads : Language → List Part
+compared_heads l = heads l COMPARED_OPENING.now (key.COMPARED_HEADING ∷ key.COMPARED_CAPTION ∷ key.COMPARED_RULE ∷ key.COMPARED_WON ∷ key.COMPARED_COST
+    ∷ key.WITHOUT ∷ key.MORE ∷ [])
 
-pub besides_are : (facts : Facts) (x : CountedElectionView) (rules : Comparison) → facts.compares ≡ true → rules ≡ beside_votes x.election x.counted
-    → (rest : List ℕ)
-    → before (heads facts.language COMPARED_OPENING.now (key.COMPARED_HEADING ∷ key.COMPARED_CAPTION ∷ key.COMPARED_RULE ∷ key.COMPARED_WON ∷ key.WITHOUT ∷ key.MORE ∷ [])
-    ++ (compared_row facts.language key.EQUAL_SHARES rules.own ++ (compared_row facts.language key.MOST_VOTES rules.other ++ own TABLE_CLOSING.now))) rest
-    ≡ before (besides facts x) rest
-unfolding besides
-besides_are facts x rules so is rest =
-    let l = facts.language in let all = beside_votes x.election x.counted in
-    ap (λ (r : Comparison). before (heads l COMPARED_OPENING.now (key.COMPARED_HEADING ∷ key.COMPARED_CAPTION ∷ key.COMPARED_RULE ∷ key.COMPARED_WON ∷ key.WITHOUT ∷ key.MORE ∷ [])
-    ++ (compared_row l key.EQUAL_SHARES r.own ++ (compared_row l key.MOST_VOTES r.other ++ own TABLE_CLOSING.now))) rest) is
-    ∙ rw so (besides_as l (compared_row l key.EQUAL_SHARES all.own) (compared_row l key.MOST_VOTES all.other) rest)
+compared_as : (l : Language) (one two both : List Part) (rest : List ℕ)
+    → before (compared_heads l ++ (one ++ (two ++ (own ROWS_CLOSING.now ++ (both ++ own SECTION_CLOSING.now))))) rest
+    ≡ before (section l (codes " class='many'") (codes "compared") key.COMPARED_HEADING (table l (codes " class='wide'")
+    key.COMPARED_CAPTION (columns l [] key.COMPARED_RULE (key.COMPARED_WON ∷ key.COMPARED_COST ∷ key.WITHOUT ∷ key.MORE ∷ [])) (one ++ two) ++ both)) rest
+unfolding cut
+compared_as l one two both rest = simp before_more
+
+pub compared_are : (l : Language) (x : CountedElectionView) (rules : Comparison) → rules ≡ beside_votes x.election x.counted → (rest : List ℕ)
+    → before (compared_heads l ++ (compared_row l key.EQUAL_SHARES rules.own ++ (compared_row l key.MOST_VOTES rules.other
+    ++ (own ROWS_CLOSING.now ++ (both_only l x ++ own SECTION_CLOSING.now))))) rest
+    ≡ before (compared l x) rest
+unfolding compared
+compared_are l x rules is rest =
+    let all = beside_votes x.election x.counted in
+    ap (λ (r : Comparison). before (compared_heads l ++ (compared_row l key.EQUAL_SHARES r.own ++ (compared_row l key.MOST_VOTES r.other
+    ++ (own ROWS_CLOSING.now ++ (both_only l x ++ own SECTION_CLOSING.now))))) rest) is
+    ∙ compared_as l (compared_row l key.EQUAL_SHARES all.own) (compared_row l key.MOST_VOTES all.other) (both_only l x) rest
+
+pub both_are : (l : Language) (x : CountedElectionView) (e : ElectionView) (own other again : List ℕ) → e ≡ x.election → own ≡ winners_of x.counted
+    → other ≡ elected_by_votes x.election → again ≡ winners_of x.counted → (rest : List ℕ)
+    → before (links l e key.ONLY_BY_SHARES (beside other own) ++ links l e key.ONLY_BY_VOTES (beside again other)) rest ≡ before (both_only l x) rest
+unfolding both_only
+both_are l x e own other again e_is own_is other_is again_is rest =
+    let won = winners_of x.counted in let voted = elected_by_votes x.election in
+    ap (λ (f : ElectionView). before (links l f key.ONLY_BY_SHARES (beside other own) ++ links l f key.ONLY_BY_VOTES (beside again other)) rest) e_is
+    ∙ ap (λ (w : List ℕ). before (links l x.election key.ONLY_BY_SHARES (beside other w) ++ links l x.election key.ONLY_BY_VOTES (beside again other)) rest) own_is
+    ∙ ap (λ (o : List ℕ). before (links l x.election key.ONLY_BY_SHARES (beside o won) ++ links l x.election key.ONLY_BY_VOTES (beside again o)) rest) other_is
+    ∙ ap (λ (w : List ℕ). before (links l x.election key.ONLY_BY_SHARES (beside voted won) ++ links l x.election key.ONLY_BY_VOTES (beside w voted)) rest) again_is
+
+pub besides_are : (facts : Facts) (x : CountedElectionView) → facts.compares ≡ true → (rest : List ℕ)
+    → before (compared facts.language x) rest ≡ before (besides facts x) rest
+unfolding besides compared both_only
+besides_are facts x so rest = ap (λ (b : Bool). before (if b then compared facts.language x else []) rest) (sym so)
+
+links_as : (l : Language) (k : ℕ) (items : List Part) (rest : List ℕ)
+    → before (heads l LINKS_OPENING.now (k ∷ []) ++ (items ++ own LINKS_CLOSING.now)) rest
+    ≡ before (paragraph (said l k) ++ block (codes "ul") [] items) rest
+unfolding cut
+links_as l k items rest = simp before_more
+
+pub links_are : (l : Language) (e : ElectionView) (k : ℕ) (places : List ℕ) → length places == 0 ≡ false → (rest : List ℕ)
+    → before (heads l LINKS_OPENING.now (k ∷ []) ++ (flat_map (linked e) places ++ own LINKS_CLOSING.now)) rest ≡ before (links l e k places) rest
+links_are l e k places some rest =
+    let all = paragraph (said l k) ++ block (codes "ul") [] (flat_map (linked e) places) in
+    links_as l k (flat_map (linked e) places) rest ∙ ap (λ (b : Bool). before (if b then [] else all) rest) (sym some)
+
+pub no_links : (l : Language) (e : ElectionView) (k : ℕ) (places : List ℕ) → length places == 0 ≡ true → [] ≡ links l e k places
+no_links l e k places none =
+    let all = paragraph (said l k) ++ block (codes "ul") [] (flat_map (linked e) places) in
+    ap (λ (b : Bool). if b then [] else all) (sym none)
+
+pub linked_is : (e : ElectionView) (place : ℕ) (name : List ℕ) → name ≡ called (project_at e place) → (rest : List ℕ)
+    → before (cut LINKED.now (decimal place ∷ name ∷ [])) rest ≡ before (linked e place) rest
+unfolding cut
+linked_is e place name is rest = ap (λ (t : List ℕ). before (item (element (codes "a") (attribute (codes "href") (own (codes "#p-") ++ text (decimal place)))
+    (isolated t))) rest) is
 
 -- the histogram
 voters_as : (l : Language) (says rows more : List Part) (rest : List ℕ)
@@ -235,11 +279,11 @@ unfolding cut
 head_category_is facts g some rest = rw some refl
 
 -- the row of a project
-row_as : (id : List ℕ) (ended category : List Part) (rest : List ℕ)
-    → before (cut ROW_OPENING.now (id ∷ []) ++ (ended ++ (category ++ own ROW_CLOSING.now))) rest
-    ≡ before (row (attribute (codes "data-project") (text id)) (ended ++ category)) rest
+row_as : (place : ℕ) (id : List ℕ) (ended category : List Part) (rest : List ℕ)
+    → before (cut ROW_OPENING.now (decimal place ∷ id ∷ []) ++ (ended ++ (category ++ own ROW_CLOSING.now))) rest
+    ≡ before (row (attribute (codes "id") (own (codes "p-") ++ text (decimal place)) ++ attribute (codes "data-project") (text id)) (ended ++ category)) rest
 unfolding cut
-row_as id ended category rest = simp before_more
+row_as place id ended category rest = simp before_more
 
 abbrev pub category_cell : Facts → (place : ℕ) → List Part
 category_cell facts place = option_map_or (λ g. cell (attribute (codes "data-label") (said facts.language key.CATEGORY))
@@ -251,17 +295,31 @@ unfolding cut
 category_cell_is facts place g name some is rest =
     ap (λ (t : List ℕ). before (cell (attribute (codes "data-label") (said facts.language key.CATEGORY)) (isolated t)) rest) is ∙ rw some refl
 
+-- a row has told of what was paid
+told_is : (l : Language) (x : CountedElectionView) (short whole : ℕ) (p : ProjectView) (place votes : ℕ) (e : Ending)
+    → ended_row l short whole p votes (went_as l x.election (told_of x place votes e)) e ≡ ended_row l short whole p votes (went l x place votes) e
+told_is l x short whole p place votes (ending.Won w) = refl
+told_is l x short whole p place votes (ending.Added a) = refl
+told_is l x short whole p place votes (ending.Lost lost) = elim (cases_Bool (nat_lt votes 5)) [
+  | inl few ↦ rw few refl
+  | inr many ↦ rw many refl
+]
+
 pub row_is : (facts : Facts) (x : CountedElectionView) (place : ℕ) (p : ProjectView) (id name : List ℕ) (cost short budget votes : ℕ) (e : Ending)
+    (election : ElectionView) (paid : Option MoneyView) → election ≡ x.election → paid ≡ told_of x place votes e
     → p ≡ project_at x.election place → id ≡ p.id → name ≡ p.name → cost ≡ p.cost → short ≡ short_key x.rule
     → budget ≡ x.election.budget → votes ≡ (project_reason x.election x.counted place).votes → e ≡ (project_reason x.election x.counted place).ending
     → (rest : List ℕ)
-    → before (cut ROW_OPENING.now (id ∷ []) ++ (ended_row facts.language short budget (record { id = id; name = name; cost = cost }) votes e
+    → before (cut ROW_OPENING.now (decimal place ∷ id ∷ []) ++ (ended_row facts.language short budget (record { id = id; name = name; cost = cost }) votes (went_as facts.language election paid) e
     ++ (category_cell facts place ++ own ROW_CLOSING.now))) rest
     ≡ before (row_at facts x place) rest
-row_is facts x place p id name cost short budget votes e p_is id_is name_is cost_is short_is budget_is votes_is e_is rest =
+row_is facts x place p id name cost short budget votes e election paid election_is paid_is p_is id_is name_is cost_is short_is budget_is votes_is e_is rest =
     let r = project_reason x.election x.counted place in let q = project_at x.election place in
-    rw (id_is, name_is, cost_is, p_is, short_is, budget_is, votes_is, e_is)
-    (row_as q.id (ended_row facts.language (short_key x.rule) x.election.budget q r.votes r.ending) (category_cell facts place) rest)
+    let l = facts.language in let category = category_cell facts place in
+    rw (election_is, paid_is, id_is, name_is, cost_is, p_is, short_is, budget_is, votes_is, e_is)
+    (ap (λ (ended : List Part). before (cut ROW_OPENING.now (decimal place ∷ q.id ∷ []) ++ (ended ++ (category ++ own ROW_CLOSING.now))) rest)
+    (told_is l x (short_key x.rule) x.election.budget q place r.votes r.ending)
+    ∙ row_as place q.id (ended_row l (short_key x.rule) x.election.budget q r.votes (went l x place r.votes) r.ending) category rest)
 
 abbrev won_put : Language → ProjectView → (wide votes : ℕ) → Won → List Part
 won_put l p wide votes w = cut WINNER.now (sentence l.words key.ROUND ∷ decimal w.round ∷ p.id ∷ p.name ∷ decimal wide ∷ sentence l.words key.COST
@@ -269,7 +327,7 @@ won_put l p wide votes w = cut WINNER.now (sentence l.words key.ROUND ∷ decima
     ∷ shown l.amounts w.price ∷ sentence l.words key.IN_FULL ∷ decimal w.in_full ∷ [])
 
 pub won_is : (l : Language) (short whole : ℕ) (p : ProjectView) (wide votes : ℕ) (w : Won) → wide ≡ width p.cost whole → (rest : List ℕ)
-    → before (won_put l p wide votes w) rest ≡ before (ended_row l short whole p votes (ending.Won w)) rest
+    → before (won_put l p wide votes w) rest ≡ before (ended_row l short whole p votes (λ left. []) (ending.Won w)) rest
 unfolding cut
 won_is l short whole p wide votes w is rest = ap (λ (n : ℕ). before (won_put l p n votes w) rest) is
 
@@ -278,28 +336,95 @@ added_put l p wide votes a = cut ADDED.now (sentence l.words key.NUMBER ∷ deci
     ∷ money_text p.cost ∷ shown l.costs p.cost ∷ sentence l.words key.VOTES ∷ decimal votes ∷ [])
 
 pub added_is : (l : Language) (short whole : ℕ) (p : ProjectView) (wide votes : ℕ) (a : Added) → wide ≡ width p.cost whole → (rest : List ℕ)
-    → before (added_put l p wide votes a) rest ≡ before (ended_row l short whole p votes (ending.Added a)) rest
+    → before (added_put l p wide votes a) rest ≡ before (ended_row l short whole p votes (λ left. []) (ending.Added a)) rest
 unfolding cut
 added_is l short whole p wide votes a is rest = ap (λ (n : ℕ). before (added_put l p n votes a) rest) is
 
-abbrev lost_put : Language → (short : ℕ) → ProjectView → (wide votes : ℕ) → Lost → (says : List Part) → List Part
-lost_put l short p wide votes lost says = cut OTHER.now (p.id ∷ p.name ∷ decimal wide ∷ sentence l.words key.COST ∷ money_text p.cost ∷ shown l.costs p.cost
+abbrev lost_head : ProjectView → (wide : ℕ) → List Part
+lost_head p wide = cut OTHER_OPENING.now (p.id ∷ p.name ∷ decimal wide ∷ [])
+
+abbrev lost_cells : Language → (short : ℕ) → ProjectView → (votes : ℕ) → Lost → (says : List Part) → List Part
+lost_cells l short p votes lost says = cut OTHER.now (sentence l.words key.COST ∷ money_text p.cost ∷ shown l.costs p.cost
     ∷ sentence l.words key.VOTES ∷ decimal votes ∷ sentence l.words key.LEFT ∷ money_text lost.left ∷ shown l.amounts lost.left
     ∷ sentence l.words short ∷ money_text lost.missing ∷ []) ++ (says ++ own OTHER_CLOSING.now)
 
-lost_as : (l : Language) (short : ℕ) (p : ProjectView) (wide votes : ℕ) (lost : Lost) (says : List Part) (rest : List ℕ)
-    → before (lost_put l short p wide votes lost says) rest
-    ≡ before (cells l p wide votes ++ (under l key.LEFT (amount l.amounts (codes "left") lost.left)
-    ++ under l short (figure (codes "missing") (money_text lost.missing) says))) rest
-unfolding cut
-lost_as l short p wide votes lost says rest = simp before_more
+abbrev cost_votes : Language → ProjectView → (votes : ℕ) → List Part
+cost_votes l p votes = under l key.COST (amount l.costs (codes "cost") p.cost) ++ under l key.VOTES (number (codes "votes") votes)
 
-pub lost_is : (l : Language) (short whole : ℕ) (p : ProjectView) (wide votes : ℕ) (lost : Lost) → wide ≡ width lost.left p.cost → (rest : List ℕ)
-    → before (lost_put l short p wide votes lost (say l key.SHORT (text (shown l.amounts lost.missing) ∷ []))) rest
-    ≡ before (ended_row l short whole p votes (ending.Lost lost)) rest
-lost_is l short whole p wide votes lost is rest =
+abbrev left_missing : Language → (short : ℕ) → Lost → (says : List Part) → List Part
+left_missing l short lost says = under l key.LEFT (amount l.amounts (codes "left") lost.left)
+    ++ under l short (figure (codes "missing") (money_text lost.missing) says)
+
+told_before : (told closing cells more : List Part) (rest : List ℕ)
+    → before (((told ++ closing) ++ cells) ++ more) rest ≡ before told (before (closing ++ (cells ++ more)) rest)
+told_before told closing cells more rest =
+    before_more ((told ++ closing) ++ cells) more rest ∙ (before_more (told ++ closing) cells (before more rest)
+    ∙ (before_more told closing (before cells (before more rest))
+    ∙ ap (λ (t : List ℕ). before told t) (sym (before_more closing (cells ++ more) rest
+    ∙ ap (λ (t : List ℕ). before closing t) (before_more cells more rest)))))
+
+told_in : (l : Language) (p : ProjectView) (wide votes : ℕ) (told more : List Part) (rest : List ℕ)
+    → before (lost_head p wide) (before told (before (own (codes "</th>") ++ (cost_votes l p votes ++ more)) rest))
+    ≡ before (cells l p wide votes told ++ more) rest
+unfolding cut
+told_in l p wide votes told more rest =
+    ap (λ (t : List ℕ). before (lost_head p wide) t) (sym (told_before told (own (codes "</th>")) (cost_votes l p votes) more rest))
+
+cells_as : (l : Language) (short : ℕ) (p : ProjectView) (votes : ℕ) (lost : Lost) (says : List Part) (rest : List ℕ)
+    → before (lost_cells l short p votes lost says) rest
+    ≡ before (own (codes "</th>") ++ (cost_votes l p votes ++ left_missing l short lost says)) rest
+unfolding cut
+cells_as l short p votes lost says rest = simp before_more
+
+abbrev lost_put : Language → (short : ℕ) → ProjectView → (wide votes : ℕ) → Lost → (told says : List Part) → List Part
+lost_put l short p wide votes lost told says = lost_head p wide ++ (told ++ lost_cells l short p votes lost says)
+
+lost_as : (l : Language) (short : ℕ) (p : ProjectView) (wide votes : ℕ) (lost : Lost) (told says : List Part) (rest : List ℕ)
+    → before (lost_put l short p wide votes lost told says) rest
+    ≡ before (cells l p wide votes told ++ left_missing l short lost says) rest
+lost_as l short p wide votes lost told says rest =
+    before_more (lost_head p wide) (told ++ lost_cells l short p votes lost says) rest
+    ∙ (ap (λ (t : List ℕ). before (lost_head p wide) t) (before_more told (lost_cells l short p votes lost says) rest
+    ∙ ap (λ (t : List ℕ). before told t) (cells_as l short p votes lost says rest))
+    ∙ told_in l p wide votes told (left_missing l short lost says) rest)
+
+pub lost_is : (l : Language) (short whole : ℕ) (p : ProjectView) (wide votes : ℕ) (lost : Lost) (told : ℕ → List Part) → wide ≡ width lost.left p.cost
+    → (rest : List ℕ)
+    → before (lost_put l short p wide votes lost (told lost.left) (say l key.SHORT (text (shown l.amounts lost.missing) ∷ []))) rest
+    ≡ before (ended_row l short whole p votes told (ending.Lost lost)) rest
+lost_is l short whole p wide votes lost told is rest =
     let says = say l key.SHORT (text (shown l.amounts lost.missing) ∷ []) in
-    ap (λ (n : ℕ). before (lost_put l short p n votes lost says) rest) is ∙ lost_as l short p (width lost.left p.cost) votes lost says rest
+    ap (λ (n : ℕ). before (lost_put l short p n votes lost (told lost.left) says) rest) is
+    ∙ lost_as l short p (width lost.left p.cost) votes lost (told lost.left) says rest
+
+-- where the money went
+money_as : (l : Language) (payments more nothing kept : List Part) (rest : List ℕ)
+    → before (heads l WENT_OPENING.now (key.WENT ∷ []) ++ (payments ++ (more ++ (nothing ++ (kept ++ own WENT_CLOSING.now))))) rest
+    ≡ before (element (codes "details") [] (element (codes "summary") [] (said l key.WENT) ++ block (codes "ul") [] (payments ++ (more ++ (nothing ++ kept))))) rest
+unfolding cut
+money_as l payments more nothing kept rest = simp (append_assoc, before_more)
+
+abbrev money_put : Language → ElectionView → (left : ℕ) → List Payment → (more : ℕ) → (is_empty : Bool) → List Part
+money_put l e left payments more is_empty = heads l WENT_OPENING.now (key.WENT ∷ []) ++ (flat_map (payment_told l e) payments ++ (more_told l more
+    ++ (nothing_told l is_empty ++ (item (say l key.KEPT (amount l.amounts (codes "kept") left ∷ [])) ++ own WENT_CLOSING.now))))
+
+pub money_is : (l : Language) (e : ElectionView) (left : ℕ) (m : MoneyView) (payments : List Payment) (more : ℕ) (is_empty : Bool)
+    → payments ≡ m.most → more ≡ m.others → is_empty ≡ (length m.most == 0) → (rest : List ℕ)
+    → before (money_put l e left payments more is_empty) rest ≡ before (money_told l e left m) rest
+money_is l e left m payments more is_empty payments_are more_is empty_is rest =
+    ap (λ (ps : List Payment). before (money_put l e left ps more is_empty) rest) payments_are
+    ∙ (ap (λ (n : ℕ). before (money_put l e left m.most n is_empty) rest) more_is
+    ∙ (ap (λ (b : Bool). before (money_put l e left m.most m.others b) rest) empty_is
+    ∙ money_as l (flat_map (payment_told l e) m.most) (more_told l m.others) (nothing_told l (length m.most == 0))
+    (item (say l key.KEPT (amount l.amounts (codes "kept") left ∷ []))) rest))
+
+abbrev payment_put : Language → Payment → (name : List ℕ) → List Part
+payment_put l p name = item (say l key.PAID (amount l.amounts (codes "paid_for") p.amount ∷ element (codes "a")
+    (attribute (codes "href") (own (codes "#p-") ++ text (decimal p.place))) (isolated name) ∷ []))
+
+pub payment_is : (l : Language) (e : ElectionView) (p : Payment) (name : List ℕ) → name ≡ called (project_at e p.place) → (rest : List ℕ)
+    → before (payment_put l p name) rest ≡ before (payment_told l e p) rest
+payment_is l e p name is rest = ap (λ (n : List ℕ). before (payment_put l p n) rest) is
 
 -- a project of the next raise
 abbrev then_shown : Language → ProjectView → List Part

@@ -1,6 +1,6 @@
 -- The page of a result: its elements, and which figure is in which.
-use Rattle.std.specs.Prelude.{◌≡◌, ℕ, ◌+◌, ◌-◌, ◌*◌, ◌/◌, ◌==◌, List, [], ◌∷◌, ◌++◌, codes, count_by, decimal}
-use Rattle.std.specs.Prelude.{filter, flat_map, if◌then◌else◌, length, map, max, min, nat_le, slice_get, slice_index_or}
+use Rattle.std.specs.Prelude.{◌≡◌, ℕ, ◌+◌, ◌-◌, ◌*◌, ◌/◌, ◌==◌, Bool, true, List, [], ◌∷◌, ◌++◌, codes, count_by, decimal}
+use Rattle.std.specs.Prelude.{filter, flat_map, if◌then◌else◌, is_some, length, map, max, min, nat_le, nat_lt, not, slice_get, slice_index_or}
 use Rattle.std.specs.Prelude.{sum_by}
 use Rattle.std.specs.List.{range_with_len}
 use Rattle.std.specs.Option.{option_map_or}
@@ -13,9 +13,10 @@ use Rattle.pb_page.specs.Content.{paragraph, row, said, say, section, table, tex
 use Rattle.pb_page.specs.Words.{sentence}
 use Rattle.pb_page.specs.declared.markup.form.Form.{Form}
 use Rattle.pb_price.specs.Supporters.{cost_at, support_of}
-use Rattle.pb_reasons.specs.BesideVotes.{beside_votes}
+use Rattle.pb_reasons.specs.BesideVotes.{beside_votes, elected_by_votes}
 use Rattle.pb_reasons.specs.Counted.{winners_of}
 use Rattle.pb_reasons.specs.CountedElection.{CountedElectionView}
+use Rattle.pb_reasons.specs.Money.{MoneyView, money_of, paid_together}
 use Rattle.pb_reasons.specs.RaiseEnd.{IsRaiseEnd}
 use Rattle.pb_reasons.specs.Reasons.{project_reason, voter_reason}
 use Rattle.pb_reasons.specs.Ties.{ties_of}
@@ -27,13 +28,16 @@ use Rattle.pb_reasons.specs.declared.project_reason.Ending.{Ending}
 use Rattle.pb_reasons.specs.declared.project_reason.Ending.TheVariants.{Won, Added, Lost}
 use Rattle.pb_reasons.specs.declared.tie.Tie.{Tie}
 use Rattle.pb_rounds.specs.MostVotes.{is_taken}
+use Rattle.pb_rounds.specs.Count.{opening_share}
 use Rattle.pb_rounds.specs.RuleNames.{by_completion, by_measure, completion_name, fills_up, measure_name}
+use Rattle.pb_rounds.specs.RuleNames.{profile_name}
 use Rattle.pb_rounds.specs.declared.rule.Rule.{Rule}
 use Rattle.pb_page.specs.declared.categories.Categories.{Categories}
 use Rattle.pb_page.specs.declared.facts.Facts.{Facts}
 use Rattle.pb_page.specs.declared.facts.ReadText.{ReadText}
 use Rattle.pb_page.specs.declared.keys.TheConstants as key
 use Rattle.pb_page.specs.declared.language.Language.{Language}
+use Rattle.pb_page.specs.declared.picture.TheConstants.{GROWN_SHARES, OPENING_SHARES}
 use Rattle.pb_page.specs.declared.style.TheConstants.{META, STYLE}
 
 -- how wide an amount is: ten thousandths of the whole, at most all of them
@@ -90,22 +94,38 @@ category_name g k = option_map_or (λ text. text.now) (slice_get g.names.now k) 
 abbrev pub titled : ProjectView → List Part
 titled p = element (codes "span") (own (codes " class='id' dir='auto'")) (text p.id) ++ (own (codes " ") ++ isolated p.name)
 
-abbrev pub cells : Language → ProjectView → (wide votes : ℕ) → List Part
-cells l p wide votes = head (titled p ++ bar wide) ++ (under l key.COST (amount l.costs (codes "cost") p.cost)
+abbrev pub cells : Language → ProjectView → (wide votes : ℕ) → (more : List Part) → List Part
+cells l p wide votes more = head (titled p ++ (bar wide ++ more)) ++ (under l key.COST (amount l.costs (codes "cost") p.cost)
     ++ under l key.VOTES (number (codes "votes") votes))
 
--- what stands above what projects were short, by whether shares are raised; and the row of a project up to its
--- category, by how it ended
-abbrev pub short_key : Rule → ℕ
-short_key r = by_completion r.options.completion r.fill_up key.MISSING key.LEFT_SHORT key.MISSING key.LEFT_SHORT
+-- one of two things, by whether a rule raises shares; so what stands above what projects were short; and the row
+-- of a project up to its category, by how it ended
+abbrev pub by_raises : {A : Type 0} → Rule → (unraised raised : A) → A
+by_raises r unraised raised = by_completion r.options.completion r.fill_up unraised raised unraised raised
 
-abbrev pub ended_row : Language → (short whole : ℕ) → ProjectView → (votes : ℕ) → Ending → List Part
-ended_row l short whole p votes (Won w) = under l key.ROUND (number (codes "round") w.round)
-    ++ (cells l p (width p.cost whole) votes ++ (under l key.PRICE (amount l.amounts (codes "price") w.price)
+-- where the money of a project's supporters went, and what they have left; it is told of five supporters or more
+abbrev pub money_told : Language → ElectionView → (left : ℕ) → MoneyView → List Part
+money_told l e left m = element (codes "details") [] (element (codes "summary") [] (said l key.WENT) ++ block (codes "ul") []
+    (flat_map (λ p. item (say l key.PAID (amount l.amounts (codes "paid_for") p.amount ∷ element (codes "a") (attribute (codes "href")
+    (own (codes "#p-") ++ text (decimal p.place))) (isolated (called (project_at e p.place))) ∷ []))) m.most
+    ++ ((if m.others == 0 then [] else item (say l key.PAID_MORE (amount l.amounts (codes "paid_more") m.others ∷ [])))
+    ++ ((if length m.most == 0 then item (said l key.PAID_NOTHING) else [])
+    ++ item (say l key.KEPT (amount l.amounts (codes "kept") left ∷ []))))))
+
+abbrev pub went : Language → CountedElectionView → (place votes left : ℕ) → List Part
+went l x place votes left = if nat_lt votes 5 then []
+    else money_told l x.election left (money_of (paid_together x.election x.counted.outcome place))
+
+abbrev pub short_key : Rule → ℕ
+short_key r = by_raises r key.MISSING key.LEFT_SHORT
+
+abbrev pub ended_row : Language → (short whole : ℕ) → ProjectView → (votes : ℕ) → (went : ℕ → List Part) → Ending → List Part
+ended_row l short whole p votes went (Won w) = under l key.ROUND (number (codes "round") w.round)
+    ++ (cells l p (width p.cost whole) votes [] ++ (under l key.PRICE (amount l.amounts (codes "price") w.price)
     ++ under l key.IN_FULL (number (codes "in_full") w.in_full)))
-ended_row l short whole p votes (Added a) =
-    under l key.NUMBER (number (codes "added") a.number) ++ cells l p (width p.cost whole) votes
-ended_row l short whole p votes (Lost lost) = cells l p (width lost.left p.cost) votes
+ended_row l short whole p votes went (Added a) =
+    under l key.NUMBER (number (codes "added") a.number) ++ cells l p (width p.cost whole) votes []
+ended_row l short whole p votes went (Lost lost) = cells l p (width lost.left p.cost) votes (went lost.left)
     ++ (under l key.LEFT (amount l.amounts (codes "left") lost.left) ++ under l short
     (figure (codes "missing") (money_text lost.missing) (say l key.SHORT (text (shown l.amounts lost.missing) ∷ []))))
 
@@ -113,8 +133,9 @@ ended_row l short whole p votes (Lost lost) = cells l p (width lost.left p.cost)
 -- them
 abbrev pub row_at : Facts → CountedElectionView → ℕ → List Part
 row_at facts x place = let l = facts.language in let p = project_at x.election place in
-    let r = project_reason x.election x.counted place in row (attribute (codes "data-project") (text p.id))
-    (ended_row l (short_key x.rule) x.election.budget p r.votes r.ending ++ option_map_or (λ g.
+    let r = project_reason x.election x.counted place in row
+    (attribute (codes "id") (own (codes "p-") ++ text (decimal place)) ++ attribute (codes "data-project") (text p.id))
+    (ended_row l (short_key x.rule) x.election.budget p r.votes (went l x place r.votes) r.ending ++ option_map_or (λ g.
     cell (attribute (codes "data-label") (said l key.CATEGORY)) (isolated (category_name g (category_of g place)))) facts.categories [])
 
 abbrev pub projects : Facts → (class name : List ℕ) → (heading caption : ℕ) → (columns rows : List Part) → List Part
@@ -188,25 +209,41 @@ abbrev pub voters : Language → CountedElectionView → List Part
 voters l x = choices_won l
     (map (λ voter. (voter_reason x.election x.counted voter).elected) (range_with_len 0 (length x.election.voters)))
 
--- the row of a rule, and, where it is asked for, the count beside most votes first
+-- those of these places that are not taken; the row of a rule; those that one rule elects and another does not, each
+-- a link to its row, where there are any; and, where it is asked for, the count beside most votes first
+abbrev pub beside : (taken places : List ℕ) → List ℕ
+beside taken places = filter (λ place. not (is_taken taken place)) places
+
 abbrev pub compared_row : Language → ℕ → RuleRow → List Part
 compared_row l k r = row [] (head (said l k) ++ (under l key.COMPARED_WON (number (codes "rule_projects") r.projects)
-    ++ (under l key.WITHOUT (number (codes "without") r.without) ++ under l key.MORE (number (codes "more_choices") r.more_choices))))
+    ++ (under l key.COMPARED_COST (amount l.costs (codes "rule_cost") r.spent) ++ (under l key.WITHOUT (number (codes "without") r.without)
+    ++ under l key.MORE (number (codes "more_choices") r.more_choices)))))
+
+abbrev pub linked : ElectionView → ℕ → List Part
+linked e place = item (element (codes "a") (attribute (codes "href") (own (codes "#p-") ++ text (decimal place)))
+    (isolated (called (project_at e place))))
+
+abbrev pub elected_only : Language → ElectionView → ℕ → (winners other : List ℕ) → List Part
+elected_only l e k winners other = let those = beside other winners in if length those == 0 then []
+    else paragraph (said l k) ++ block (codes "ul") [] (flat_map (linked e) those)
 
 unfoldable pub besides : Facts → CountedElectionView → List Part
-besides facts x = let l = facts.language in let rules = beside_votes x.election x.counted in if facts.compares
-    then section l (codes " class='many'") (codes "compared") key.COMPARED_HEADING (table l (codes " class='wide'")
-    key.COMPARED_CAPTION (columns l [] key.COMPARED_RULE (key.COMPARED_WON ∷ key.WITHOUT ∷ key.MORE ∷ []))
-    (compared_row l key.EQUAL_SHARES rules.own ++ compared_row l key.MOST_VOTES rules.other)) else []
+besides facts x = let l = facts.language in let e = x.election in let rules = beside_votes e x.counted in
+    let own = winners_of x.counted in let other = elected_by_votes e in if facts.compares
+    then section l (codes " class='many'") (codes "compared") key.COMPARED_HEADING (table l (codes " class='wide'") key.COMPARED_CAPTION
+    (columns l [] key.COMPARED_RULE (key.COMPARED_WON ∷ key.COMPARED_COST ∷ key.WITHOUT ∷ key.MORE ∷ []))
+    (compared_row l key.EQUAL_SHARES rules.own ++ compared_row l key.MOST_VOTES rules.other)
+    ++ (elected_only l e key.ONLY_BY_SHARES own other ++ elected_only l e key.ONLY_BY_VOTES other own)) else []
 
--- why the raises ended: what would be elected with one more, and which projects only then
-abbrev pub raises_ended : Language → ElectionView → RaiseEnd → List Part
-raises_ended l e Plain = []
-raises_ended l e Exhausted = item (said l key.EXHAUSTED)
-raises_ended l e (Over next) = item (say l key.OVER
+-- why the raises ended: what would be elected with one more, and
+-- which projects that have not won only then, where there are any
+abbrev pub raises_ended : Language → CountedElectionView → RaiseEnd → List Part
+raises_ended l x Plain = []
+raises_ended l x Exhausted = item (said l key.EXHAUSTED)
+raises_ended l x (Over next) = let new = beside (winners_of x.counted) next.only_then.items in item (say l key.OVER
     (amount l.amounts (codes "next_share") next.share ∷ amount l.costs (codes "next_cost") next.cost ∷ []))
-    ++ listed l key.ONLY_THEN [] (flat_map (λ place. let p = project_at e place in item (titled p ++ (own (codes " (")
-    ++ (nameless (money_text p.cost) (text (shown l.costs p.cost)) ++ own (codes ")"))))) next.only_then.items)
+    ++ (if length new == 0 then [] else listed l key.ONLY_THEN [] (flat_map (λ place. let p = project_at x.election place in item
+    (titled p ++ (own (codes " (") ++ (nameless (money_text p.cost) (text (shown l.costs p.cost)) ++ own (codes ")"))))) new))
 
 -- a tie: its round, the project that it elected, and the other; and the ties, where there are any
 abbrev pub tie : Language → CountedElectionView → Tie → List Part
@@ -217,18 +254,25 @@ unfoldable pub ties : Language → CountedElectionView → List Part
 ties l x = let all = ties_of x.rule.options.measure x.election x.counted.outcome in if length all == 0 then []
     else listed l key.TIES (own (codes " class='ties'")) (flat_map (tie l x) all)
 
--- how the share came about, which project is elected first, whether shares were raised and why that ended,
--- how the rest was filled up, and the ties
+-- what shares are, as this election has them, in words and in a picture
+unfoldable pub works : Language → CountedElectionView → List Part
+works l x = let e = x.election in paragraph (say l (by_raises x.rule key.WORKS_UNRAISED key.WORKS) (amount l.costs (codes "budget") e.budget
+    ∷ number (codes "voters") (length e.voters) ∷ amount l.amounts (codes "opening_share") (opening_share e) ∷ []))
+    ++ block (codes "figure") [] (own (by_raises x.rule OPENING_SHARES.now GROWN_SHARES.now)
+    ++ line (codes "figcaption") [] (said l (by_raises x.rule key.WORKS_PICTURE_UNRAISED key.WORKS_PICTURE)))
+
+-- that; how the share came about, which project is elected first, whether shares were raised and why that
+-- ended, how the rest was filled up, and the ties
 unfoldable pub rule : Language → CountedElectionView → RaiseEnd → List Part
 rule l x end = let r = x.rule in let o = r.options in let raised = x.counted.outcome.raised in
     let raises = if raised == 0 then key.UNRAISED else key.RAISED in let items = flat_map (λ k. item (said l k)) in
-    section l [] (codes "rule") key.RULE_HEADING (block (codes "ol") [] (item (say l key.SHARE
+    section l [] (codes "rule") key.RULE_HEADING (works l x ++ block (codes "ol") [] (item (say l (by_raises r key.SHARE_UNRAISED key.SHARE)
     (amount l.amounts (codes "share") x.counted.outcome.share ∷ number (codes "raises") raised
     ∷ nameless (money_text o.step) (text (shown l.amounts o.step)) ∷ noun_at l key.TIMES raised ∷ []))
     ++ (items (key.SUPPORTERS ∷ by_measure o.measure key.BY_VOTES key.BY_COST
-    ∷ by_completion o.completion r.fill_up key.PLAIN raises key.UNUSED raises ∷ []) ++ (raises_ended l x.election end
+    ∷ by_completion o.completion r.fill_up key.PLAIN raises key.FILLED_UP raises ∷ []) ++ (raises_ended l x end
     ++ (items (by_completion o.completion r.fill_up key.METHOD_PLAIN key.METHOD_ADD1 key.METHOD_FILLED
-    key.METHOD_ADD1 ∷ (if fills_up r.fill_up then key.FILLED_UP ∷ [] else [])) ++ ties l x)))))
+    key.METHOD_ADD1 ∷ by_completion o.completion r.fill_up [] [] [] (key.FILLED_UP ∷ [])) ++ ties l x)))))
 
 -- a text that was counted; and the command that counts it, with its options
 abbrev pub source : (name : List ℕ) → ReadText → List Part
@@ -242,25 +286,43 @@ command facts r = let o = r.options in option_map_or (λ j. own (codes "pb_app a
     (codes " --plain") [] (codes " --completion utilitarian") (codes " --completion add1u"))
     ++ (own (codes " --step ") ++ (text (decimal o.step) ++ (own (codes " --raises ") ++ text (decimal o.max_raises))))))
 
--- what was counted, where a page recounts it, the command that does, its options again in words, and the
+-- what was counted, where it is published and where a page recounts it, the command that does, its options again in words, and the
 -- program that made the page
 unfoldable pub check : Facts → Rule → List Part
 check facts r = let l = facts.language in let o = r.options in section l [] (codes "check") key.CHECK_HEADING
     (paragraph (said l key.CHECK_BYTES) ++ (block (codes "dl") [] (source (codes "FILE: ") facts.file
     ++ option_map_or (source (codes "JOURNAL: ")) facts.journal []) ++ (option_map_or (λ address.
+    paragraph (say l key.FILES (element (codes "a") (own (codes " class='files'") ++ attribute (codes "href") (text address.now))
+    (said l key.FILES_LINK) ∷ []))) facts.files [] ++ (option_map_or (λ address.
     paragraph (say l key.RECOUNT (element (codes "a") (attribute (codes "href") (text address.now)) (said l key.LINK) ∷ []))
     ++ paragraph (said l key.PROGRAM_TOO)) facts.recount (paragraph (said l key.PROGRAM))
-    ++ (line (codes "pre") [] (element (codes "code") [] (command facts r)) ++ (paragraph (say l key.OPTIONS
-    (text (measure_name o.measure) ∷ text (completion_name o.completion r.fill_up)
+    ++ (line (codes "pre") [] (element (codes "code") [] (command facts r)) ++ (paragraph (say l (by_raises r key.OPTIONS_UNRAISED key.OPTIONS)
+    (said l (by_measure o.measure key.MEASURE_VOTES key.MEASURE_COST) ∷ text (measure_name o.measure)
+    ∷ said l (by_completion o.completion r.fill_up key.COMPLETION_NONE key.COMPLETION_ADD1 key.COMPLETION_UTILITARIAN key.COMPLETION_ADD1U)
+    ∷ text (completion_name o.completion r.fill_up)
     ∷ amount l.amounts (codes "step") o.step ∷ number (codes "limit") o.max_raises ∷ []))
-    ++ paragraph (say l key.MADE_BY (text facts.program.now ∷ [])))))))
+    ++ (paragraph (say l key.RULE_NAME (element (codes "code") [] (text (profile_name r)) ∷ [])) ++ paragraph (say l key.MADE_BY (text facts.program.now ∷ [])))))))))
+
+-- a link to the section of this name, by its heading, where the page has it; and all of them
+abbrev pub link_to : Language → (is_there : Bool) → (name : List ℕ) → (heading : ℕ) → List Part
+link_to l is_there name heading = if is_there then item (element (codes "a")
+    (attribute (codes "href") (own (codes "#") ++ text name)) (said l heading)) else []
+
+unfoldable pub contents : Facts → CountedElectionView → List Part
+contents facts x = let l = facts.language in block (codes "nav") (attribute (codes "aria-label") (said l key.CONTENTS))
+    (block (codes "ul") [] (link_to l true (codes "budget") key.BUDGET_HEADING ++ (link_to l true (codes "winners") key.WINNERS_HEADING
+    ++ (link_to l (nat_lt 0 (length x.counted.added)) (codes "added") key.ADDED_HEADING ++ (link_to l true (codes "others") key.OTHERS_HEADING
+    ++ (link_to l (is_some facts.categories) (codes "categories") key.CATEGORIES_HEADING ++ (link_to l true (codes "voters") key.VOTERS_HEADING
+    ++ (link_to l facts.compares (codes "compared") key.COMPARED_HEADING ++ (link_to l true (codes "rule") key.RULE_HEADING
+    ++ link_to l true (codes "check") key.CHECK_HEADING)))))))))
 
 -- all parts of a page, where the raises ended so
 unfoldable pub parts : Facts → CountedElectionView → RaiseEnd → List Part
 parts facts x end = let l = facts.language in let title = text facts.title.now in own (codes "<!DOCTYPE html>\n")
     ++ block (codes "html") (attribute (codes "lang") (said l key.LANG) ++ attribute (codes "dir") (said l key.DIR))
     (block (codes "head") [] (own META.now ++ (line (codes "title") [] title ++ line (codes "style") [] (own STYLE.now)))
-    ++ block (codes "body") [] (block (codes "header") [] (line (codes "h1") (own (codes " dir='auto'")) title ++ summary l x)
+    ++ block (codes "body") [] (block (codes "header") [] (line (codes "h1") (own (codes " dir='auto'")) title
+    ++ (summary l x ++ contents facts x))
     ++ block (codes "main") [] (budget l x ++ (winners facts x ++ (added facts x ++ (others facts x ++ (categories facts x
     ++ (voters l x ++ (besides facts x ++ (rule l x end ++ check facts x.rule))))))))))
 

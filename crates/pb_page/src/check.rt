@@ -1,10 +1,11 @@
 //! How to check a result.
 
 ghost use Rattle.std.specs.Prelude.{◌≡◌, [], OnOk, codes};
-ghost use Rattle.pb_page.specs.Inner.Counted.{begun, journal_source, link_said, made_by, options_said};
+ghost use Rattle.pb_page.specs.Inner.Counted.{begun, files_said, journal_source, link_said, made_by, name_said, options_said};
 ghost use Rattle.pb_page.specs.Inner.Grown.{Grows};
-ghost use Rattle.pb_page.specs.Page.{check, command, source};
-ghost use Rattle.pb_rounds.specs.RuleNames.{by_completion, by_measure};
+ghost use Rattle.pb_page.specs.Page.{by_raises, check, command, source};
+ghost use Rattle.pb_page.specs.declared.keys.TheConstants as key;
+ghost use Rattle.pb_rounds.specs.RuleNames.{by_completion, by_measure, profile_name};
 
 use crate::facts::{Facts, ReadText};
 use crate::keys;
@@ -36,11 +37,13 @@ pub(crate) fn put_check(page: &mut Vec<u8>, facts: &Facts, rule: &Rule) -> Resul
     put_file(page, language, facts.file)?;
     put_journal(page, language, facts.journal)?;
     put_own(page, SOURCES_CLOSING)?;
+    put_files(page, language, facts.files)?;
     put_link(page, language, facts.recount)?;
     put_own(page, COMMAND_OPENING)?;
     put_command(page, facts, rule)?;
     put_own(page, COMMAND_CLOSING)?;
     say_options(page, language, rule)?;
+    put_name(page, language, rule)?;
     say_made_by(page, language, facts.program)?;
     put_own(page, CHECK_CLOSING)
 }
@@ -66,6 +69,17 @@ fn put_journal(
             let values = [Value::Text(journal.name), Value::Text(journal.digest)];
             put(page, language, CHECK_JOURNAL, &values)
         }
+        None => Ok(()),
+    }
+}
+
+/// Where the files lie that are published beside the page, if they do.
+#[tactic(auto, using(crate::proofs::Grown::none))]
+fn put_files(page: &mut Vec<u8>, language: &Language, address: Option<&str>) -> Result<(), NoMemory>
+    ensures { OnOk result (Grows page.old.items page.new.items (files_said language.now address.entry)) }
+{
+    match address {
+        Some(address) => say_paragraph(page, language, keys::FILES, &[Place::Files(address)]),
         None => Ok(()),
     }
 }
@@ -135,18 +149,71 @@ fn completion_option(completion: Completion, fill_up: FillUp) -> &'static str
     }
 }
 
-/// The options in words.
+/// The options in words, and by the program's names.
 fn say_options(page: &mut Vec<u8>, language: &Language, rule: &Rule) -> Result<(), NoMemory>
     ensures { OnOk result (Grows page.old.items page.new.items (options_said language.now rule.now)) }
 {
     let options = &rule.options;
     let places = [
+        Place::Said(measure_key(options.measure)),
         Place::Text(measure_name(options.measure)),
+        Place::Said(completion_key(rule)),
         Place::Text(completion_name(options.completion, rule.fill_up)),
         Place::Amount("step", options.step, language.amounts),
         Place::Number("limit", u64::from(options.max_raises)),
     ];
-    say_paragraph(page, language, keys::OPTIONS, &places)
+    say_paragraph(page, language, options_key(rule), &places)
+}
+
+/// The rule's one name.
+fn put_name(page: &mut Vec<u8>, language: &Language, rule: &Rule) -> Result<(), NoMemory>
+    ensures { OnOk result (Grows page.old.items page.new.items (name_said language.now (profile_name rule.now))) }
+{
+    let name = rule.profile(*page.allocator())?;
+    let put = say_name(page, language, name.as_str());
+    drop(name);
+    put
+}
+
+/// The same, where it is this.
+fn say_name(page: &mut Vec<u8>, language: &Language, name: &str) -> Result<(), NoMemory>
+    ensures { OnOk result (Grows page.old.items page.new.items (name_said language.now name.now)) }
+{
+    let name = Place::Code(name);
+    say_paragraph(page, language, keys::RULE_NAME, &[name])
+}
+
+/// The key of the sentence on the options.
+fn options_key(rule: &Rule) -> u16
+    ensures { result ≡ by_raises rule.now key.OPTIONS_UNRAISED key.OPTIONS }
+{
+    match (rule.options.completion, rule.fill_up) {
+        (Completion::Plain, FillUp::Nothing | FillUp::MostVotes) => keys::OPTIONS_UNRAISED,
+        (Completion::Add1, FillUp::Nothing | FillUp::MostVotes) => keys::OPTIONS,
+    }
+}
+
+/// The key of what a measure is in words.
+fn measure_key(measure: Measure) -> u16
+    ensures { result ≡ by_measure measure key.MEASURE_VOTES key.MEASURE_COST }
+{
+    match measure {
+        Measure::Votes => keys::MEASURE_VOTES,
+        Measure::Cost => keys::MEASURE_COST,
+    }
+}
+
+/// The key of what the completion is in words.
+fn completion_key(rule: &Rule) -> u16
+    ensures { result ≡ by_completion rule.now.options.completion rule.now.fill_up key.COMPLETION_NONE
+        key.COMPLETION_ADD1 key.COMPLETION_UTILITARIAN key.COMPLETION_ADD1U }
+{
+    match (rule.options.completion, rule.fill_up) {
+        (Completion::Plain, FillUp::Nothing) => keys::COMPLETION_NONE,
+        (Completion::Add1, FillUp::Nothing) => keys::COMPLETION_ADD1,
+        (Completion::Plain, FillUp::MostVotes) => keys::COMPLETION_UTILITARIAN,
+        (Completion::Add1, FillUp::MostVotes) => keys::COMPLETION_ADD1U,
+    }
 }
 
 /// Which program made the page.

@@ -1,17 +1,21 @@
 //! The count beside most votes first.
 
-ghost use Rattle.std.specs.Prelude.{OnOk};
+ghost use Rattle.std.specs.Prelude.{◌≡◌, ◌<◌, ◌^◌, OnOk};
+ghost use Rattle.pb_page.specs.Inner.Counted.{both_only, compared};
 ghost use Rattle.pb_page.specs.Inner.Grown.{Grows};
 ghost use Rattle.pb_page.specs.Page.{besides, compared_row};
+ghost use Rattle.pb_reasons.specs.BesideVotes.{elected_by_votes};
 
+use crate::elected_only::{OnlyBy, put_only};
 use crate::facts::Facts;
 use crate::keys;
 use crate::language::Language;
 use crate::markup::Value;
 use crate::put::{put, put_own};
-use crate::templates::{COMPARED_OPENING, COMPARED_ROW, TABLE_CLOSING};
+use crate::templates::{COMPARED_OPENING, COMPARED_ROW, ROWS_CLOSING, SECTION_CLOSING};
+use pb_core::money::Money;
 use pb_core::no_memory::NoMemory;
-use pb_reasons::{CountedElection, RuleRow, compare_with_votes};
+use pb_reasons::{CountedElection, RuleRow, compare_with_votes, elected_by_votes};
 
 /// Both rules, where the facts ask for them; otherwise nothing.
 #[tactic(auto, using(crate::proofs::Grown::none), unfolding(crate::specs::Page::besides))]
@@ -25,20 +29,65 @@ pub(crate) fn put_besides(
     if !facts.compares {
         return Ok(());
     }
-    let language = &facts.language;
+    let other = elected_by_votes(*page.allocator(), count)?;
+    let put = put_compared(page, &facts.language, count, other.as_slice());
+    drop(other);
+    put
+}
+
+/// Both rules, where most votes first elects these.
+fn put_compared(
+    page: &mut Vec<u8>,
+    language: &Language,
+    count: &CountedElection,
+    other: &[u32],
+) -> Result<(), NoMemory>
+    requires { other.now ≡ elected_by_votes count.now.election }
+    ensures { OnOk result (Grows page.old.items page.new.items (compared language.now count.now)) }
+{
+    // What is true of every count bounds what the winners of both rules cost.
+    let _election = count.election();
     let rules = compare_with_votes(*page.allocator(), count)?;
     let heads = [
         Value::Said(keys::COMPARED_HEADING),
         Value::Said(keys::COMPARED_CAPTION),
         Value::Said(keys::COMPARED_RULE),
         Value::Said(keys::COMPARED_WON),
+        Value::Said(keys::COMPARED_COST),
         Value::Said(keys::WITHOUT),
         Value::Said(keys::MORE),
     ];
     put(page, language, COMPARED_OPENING, &heads)?;
     put_row(page, language, keys::EQUAL_SHARES, &rules.own)?;
     put_row(page, language, keys::MOST_VOTES, &rules.other)?;
-    put_own(page, TABLE_CLOSING)
+    put_own(page, ROWS_CLOSING)?;
+    put_others(page, language, count, other)?;
+    put_own(page, SECTION_CLOSING)
+}
+
+/// Those that only this count elects, and those that only most votes first elects, which are these.
+fn put_others(
+    page: &mut Vec<u8>,
+    language: &Language,
+    count: &CountedElection,
+    other: &[u32],
+) -> Result<(), NoMemory>
+    requires { other.now ≡ elected_by_votes count.now.election }
+    ensures { OnOk result (Grows page.old.items page.new.items (both_only language.now count.now)) }
+{
+    let election = count.election();
+    let by_shares = OnlyBy {
+        said: keys::ONLY_BY_SHARES,
+        winners: count.winners(),
+        other,
+    };
+    put_only(page, language, election, by_shares)?;
+    let by_votes = OnlyBy {
+        said: keys::ONLY_BY_VOTES,
+        winners: other,
+        other: count.winners(),
+    };
+    put_only(page, language, election, by_votes)
 }
 
 /// The row of a rule.
@@ -48,12 +97,17 @@ fn put_row(
     rule: u16,
     row: &RuleRow,
 ) -> Result<(), NoMemory>
+    requires { row.now.spent < 2 ^ 64 }
     ensures { OnOk result (Grows page.old.items page.new.items (compared_row language.now rule row.now)) }
 {
+    let spent = Money(row.spent as u64);
     let cells = [
         Value::Said(rule),
         Value::Said(keys::COMPARED_WON),
         Value::Number(row.projects as u64),
+        Value::Said(keys::COMPARED_COST),
+        Value::Amount(spent),
+        Value::Shown(spent, language.costs),
         Value::Said(keys::WITHOUT),
         Value::Small(row.without),
         Value::Said(keys::MORE),

@@ -21,6 +21,8 @@ pub struct Facts<'a> {
     pub file: ReadText<'a>,
     /// The journal that left the ballots, if there is one.
     pub journal: Option<ReadText<'a>>,
+    /// Where the files lie that are published beside the page, if they do.
+    pub files: Option<&'a str>,
     /// Where a page lies that recounts in a browser, if one does.
     pub recount: Option<&'a str>,
     /// The page also has the comparison with most votes first.

@@ -80,7 +80,7 @@ pub(crate) const BY_COST: u16 = 38;
 
 pub(crate) const PLAIN: u16 = 39;
 
-pub(crate) const UNUSED: u16 = 40;
+pub(crate) const SHARE_UNRAISED: u16 = 40;
 
 pub(crate) const RAISED: u16 = 41;
 
@@ -175,3 +175,49 @@ pub(crate) const CATEGORY_WON: u16 = 97;
 pub(crate) const CATEGORY_COST: u16 = 98;
 
 pub(crate) const LEFT_SHORT: u16 = 99;
+
+pub(crate) const OPTIONS_UNRAISED: u16 = 100;
+
+pub(crate) const MEASURE_VOTES: u16 = 101;
+
+pub(crate) const MEASURE_COST: u16 = 102;
+
+pub(crate) const COMPLETION_NONE: u16 = 103;
+
+pub(crate) const COMPLETION_ADD1: u16 = 104;
+
+pub(crate) const COMPLETION_UTILITARIAN: u16 = 105;
+
+pub(crate) const COMPLETION_ADD1U: u16 = 106;
+
+pub(crate) const WORKS: u16 = 107;
+
+pub(crate) const WORKS_UNRAISED: u16 = 108;
+
+pub(crate) const WORKS_PICTURE: u16 = 109;
+
+pub(crate) const WORKS_PICTURE_UNRAISED: u16 = 110;
+
+pub(crate) const COMPARED_COST: u16 = 111;
+
+pub(crate) const ONLY_BY_SHARES: u16 = 112;
+
+pub(crate) const ONLY_BY_VOTES: u16 = 113;
+
+pub(crate) const RULE_NAME: u16 = 114;
+
+pub(crate) const CONTENTS: u16 = 115;
+
+pub(crate) const FILES: u16 = 116;
+
+pub(crate) const FILES_LINK: u16 = 117;
+
+pub(crate) const WENT: u16 = 118;
+
+pub(crate) const PAID: u16 = 119;
+
+pub(crate) const PAID_MORE: u16 = 120;
+
+pub(crate) const PAID_NOTHING: u16 = 121;
+
+pub(crate) const KEPT: u16 = 122;

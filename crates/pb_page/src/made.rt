@@ -1,6 +1,6 @@
 //! The page of an outcome.
 
-ghost use Rattle.std.specs.Prelude.{IfOk, OnOk};
+ghost use Rattle.std.specs.Prelude.{◌≡◌, IfOk, OnOk};
 ghost use Rattle.pb_page.specs.Inner.Counted.{KnowsPlaces, sections};
 ghost use Rattle.pb_page.specs.Inner.Grown.{Grows};
 ghost use Rattle.pb_page.specs.Page.{IsPage, parts};
@@ -9,6 +9,7 @@ ghost use Rattle.pb_reasons.specs.RaiseEnd.{IsRaiseEnd};
 use crate::by_category::put_categories;
 use crate::check::put_check;
 use crate::compared::put_besides;
+use crate::contents::put_contents;
 use crate::facts::Facts;
 use crate::keys;
 use crate::markup::Value;
@@ -21,7 +22,7 @@ use crate::top::{put_budget, put_summary};
 use crate::voters::put_voters;
 use pb_core::gate::Gate;
 use pb_core::no_memory::NoMemory;
-use pb_reasons::{CountedElection, RaiseEnd};
+use pb_reasons::{CountedElection, MoneyTeller, RaiseEnd};
 use std::alloc::Global;
 use std::thread::Threads;
 
@@ -56,8 +57,9 @@ fn page_ended(
     requires { IsRaiseEnd count.now.election count.now.rule.options count.now.counted.outcome end.now }
     ensures { IfOk result (λ text. IsPage count.now facts.now text.items) }
 {
+    let money = MoneyTeller::of(alloc, count)?;
     let mut page = Vec::new(alloc);
-    put_all(&mut page, facts, count, end)?;
+    put_all(&mut page, facts, count, &money, end)?;
     Ok(page)
 }
 
@@ -66,9 +68,11 @@ fn put_all(
     page: &mut Vec<u8>,
     facts: &Facts,
     count: &CountedElection,
+    money: &MoneyTeller,
     end: &RaiseEnd,
 ) -> Result<(), NoMemory>
-    requires { KnowsPlaces count.now.election end.now }
+    requires same { money.now ≡ count.now }
+    requires places { KnowsPlaces count.now.election end.now }
     ensures { OnOk result (Grows page.old.items page.new.items (parts facts.now count.now end.now)) }
 {
     let language = &facts.language;
@@ -83,8 +87,9 @@ fn put_all(
     put_own(page, STYLE)?;
     put(page, language, TOP, &[Value::Text(title)])?;
     put_summary(page, language, count)?;
+    put_contents(page, facts, count)?;
     put_own(page, MAIN)?;
-    put_sections(page, facts, count, end)?;
+    put_sections(page, facts, count, money, end)?;
     put_own(page, CLOSING)
 }
 
@@ -93,16 +98,18 @@ fn put_sections(
     page: &mut Vec<u8>,
     facts: &Facts,
     count: &CountedElection,
+    money: &MoneyTeller,
     end: &RaiseEnd,
 ) -> Result<(), NoMemory>
-    requires { KnowsPlaces count.now.election end.now }
+    requires same { money.now ≡ count.now }
+    requires places { KnowsPlaces count.now.election end.now }
     ensures { OnOk result (Grows page.old.items page.new.items (sections facts.now count.now end.now)) }
 {
     let language = &facts.language;
     put_budget(page, language, count)?;
-    put_winners(page, facts, count)?;
-    put_added(page, facts, count)?;
-    put_others(page, facts, count)?;
+    put_winners(page, facts, count, money)?;
+    put_added(page, facts, count, money)?;
+    put_others(page, facts, count, money)?;
     put_categories(page, facts, count)?;
     put_voters(page, language, count)?;
     put_besides(page, facts, count)?;

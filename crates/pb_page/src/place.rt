@@ -22,6 +22,14 @@ pub(crate) enum Place<'a> {
     Nameless(Money, Form<'a>),
     /// What a project is called.
     Called(&'a str),
+    /// What the words of the page say at a key.
+    Said(u16),
+    /// A text of the program's, as code.
+    Code(&'a str),
+    /// A link to the row of a project: its place in the file, and what it is called.
+    Project(u32, &'a str),
+    /// A link to what is published: its address.
+    Files(&'a str),
     /// A link: its address, and the key of what it is called.
     Link(&'a str, u16),
 }

@@ -1,9 +1,9 @@
 //! The row of a project, by how it ended.
 
-ghost use Rattle.std.specs.Prelude.{◌<◌, [], OnOk, codes, length};
+ghost use Rattle.std.specs.Prelude.{◌≡◌, ◌<◌, [], OnOk, codes, length};
 ghost use Rattle.std.specs.Option.{option_map_or};
 ghost use Rattle.pb_page.specs.Content.{attribute, cell, isolated, said};
-ghost use Rattle.pb_page.specs.Inner.Counted.{project_of};
+ghost use Rattle.pb_page.specs.Inner.Counted.{project_of, went_as};
 ghost use Rattle.pb_page.specs.Inner.Grown.{Grows};
 ghost use Rattle.pb_page.specs.Page.{category_name, category_of, ended_row, row_at};
 ghost use Rattle.pb_page.specs.declared.keys.TheConstants as key;
@@ -18,11 +18,13 @@ use crate::put::{put, put_own};
 use crate::rule::short_key;
 use crate::sentences::say;
 use crate::templates::{
-    ADDED, OTHER, OTHER_CLOSING, ROW_CATEGORY, ROW_CLOSING, ROW_OPENING, WINNER,
+    ADDED, OTHER, OTHER_CLOSING, OTHER_OPENING, ROW_CATEGORY, ROW_CLOSING, ROW_OPENING, WINNER,
 };
+use crate::went::{paid_of, put_went};
+use pb_core::election::Election;
 use pb_core::money::Money;
 use pb_core::no_memory::NoMemory;
-use pb_reasons::{Added, CountedElection, Ending, Lost, Won};
+use pb_reasons::{Added, CountedElection, Ending, Lost, MoneyPaid, MoneyTeller, Won};
 
 /// A project, as its row has it.
 #[derive(Clone, Copy)]
@@ -34,6 +36,8 @@ pub struct ProjectRow<'a> {
     pub votes: u32,
     /// The budget of the election.
     pub budget: Money,
+    /// The election itself.
+    pub election: &'a Election,
     /// The key of what stands above what projects were short.
     pub short: u16,
 }
@@ -43,25 +47,30 @@ pub(crate) fn put_row(
     page: &mut Vec<u8>,
     facts: &Facts,
     count: &CountedElection,
+    money: &MoneyTeller,
     place: u32,
 ) -> Result<(), NoMemory>
-    requires { place < length count.now.election.projects }
+    requires known { place < length count.now.election.projects }
+    requires same { money.now ≡ count.now }
     ensures { OnOk result (Grows page.old.items page.new.items (row_at facts.now count.now place)) }
 {
     let election = count.election();
     let projects = election.projects();
     let project = &projects[place as usize];
     let reason = count.project(place);
+    let paid = paid_of(*page.allocator(), money, place, &reason)?;
     let row = ProjectRow {
         id: project.id(),
         name: project.name(),
         cost: project.cost(),
         votes: reason.votes,
         budget: election.budget(),
+        election,
         short: short_key(&count.rule()),
     };
-    put(page, &facts.language, ROW_OPENING, &[Value::Text(row.id)])?;
-    put_ended(page, &facts.language, &row, &reason.ending)?;
+    let names = [Value::Small(place), Value::Text(row.id)];
+    put(page, &facts.language, ROW_OPENING, &names)?;
+    put_ended(page, &facts.language, &row, &reason.ending, &paid)?;
     put_category(page, facts, place)?;
     put_own(page, ROW_CLOSING)
 }
@@ -72,14 +81,15 @@ fn put_ended<'a>(
     language: &Language<'a>,
     row: &ProjectRow<'a>,
     ending: &Ending,
+    paid: &Option<MoneyPaid>,
 ) -> Result<(), NoMemory>
-    ensures { OnOk result (Grows page.old.items page.new.items
-        (ended_row language.now row.now.short row.now.budget (project_of row.now) row.now.votes ending.now)) }
+    ensures { OnOk result (Grows page.old.items page.new.items (ended_row language.now row.now.short row.now.budget
+        (project_of row.now) row.now.votes (went_as language.now row.now.election.now paid.now) ending.now)) }
 {
     match ending {
         Ending::Won(won) => put_elected(page, language, row, won),
         Ending::Added(added) => put_added(page, language, row, added),
-        Ending::Lost(lost) => put_lost(page, language, row, lost),
+        Ending::Lost(lost) => put_lost(page, language, row, lost, paid),
     }
 }
 
@@ -90,8 +100,8 @@ fn put_elected<'a>(
     row: &ProjectRow<'a>,
     won: &Won,
 ) -> Result<(), NoMemory>
-    ensures { OnOk result (Grows page.old.items page.new.items
-        (ended_row language.now row.now.short row.now.budget (project_of row.now) row.now.votes (Ending.Won won.now))) }
+    ensures { OnOk result (Grows page.old.items page.new.items (ended_row language.now
+        row.now.short row.now.budget (project_of row.now) row.now.votes (λ left. []) (Ending.Won won.now))) }
 {
     let cells = [
         Value::Said(keys::ROUND),
@@ -120,8 +130,8 @@ fn put_added<'a>(
     row: &ProjectRow<'a>,
     added: &Added,
 ) -> Result<(), NoMemory>
-    ensures { OnOk result (Grows page.old.items page.new.items
-        (ended_row language.now row.now.short row.now.budget (project_of row.now) row.now.votes (Ending.Added added.now))) }
+    ensures { OnOk result (Grows page.old.items page.new.items (ended_row language.now
+        row.now.short row.now.budget (project_of row.now) row.now.votes (λ left. []) (Ending.Added added.now))) }
 {
     let cells = [
         Value::Said(keys::NUMBER),
@@ -144,14 +154,17 @@ fn put_lost<'a>(
     language: &Language<'a>,
     row: &ProjectRow<'a>,
     lost: &Lost,
+    paid: &Option<MoneyPaid>,
 ) -> Result<(), NoMemory>
-    ensures { OnOk result (Grows page.old.items page.new.items
-        (ended_row language.now row.now.short row.now.budget (project_of row.now) row.now.votes (Ending.Lost lost.now))) }
+    ensures { OnOk result (Grows page.old.items page.new.items (ended_row language.now row.now.short row.now.budget
+        (project_of row.now) row.now.votes (went_as language.now row.now.election.now paid.now) (Ending.Lost lost.now))) }
 {
-    let cells = [
+    let head = [
         Value::Text(row.id),
         Value::Text(row.name),
         Value::Number(bar(lost.left, row.cost)),
+    ];
+    let cells = [
         Value::Said(keys::COST),
         Value::Amount(row.cost),
         Value::Shown(row.cost, language.costs),
@@ -163,6 +176,8 @@ fn put_lost<'a>(
         Value::Said(row.short),
         Value::Amount(lost.missing),
     ];
+    put(page, language, OTHER_OPENING, &head)?;
+    put_went(page, language, row.election, paid, lost.left)?;
     put(page, language, OTHER, &cells)?;
     let missing = Place::Shown(lost.missing, language.amounts);
     say(page, language, keys::SHORT, &[missing])?;

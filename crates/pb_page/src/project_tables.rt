@@ -21,7 +21,7 @@ use crate::templates::{
     WINNERS_OPENING,
 };
 use pb_core::no_memory::NoMemory;
-use pb_reasons::CountedElection;
+use pb_reasons::{CountedElection, MoneyTeller};
 use pb_rounds::outcome::{Elected, Outcome};
 use pb_rounds::rule::FillUp;
 
@@ -30,7 +30,9 @@ pub(crate) fn put_winners(
     page: &mut Vec<u8>,
     facts: &Facts,
     count: &CountedElection,
+    money: &MoneyTeller,
 ) -> Result<(), NoMemory>
+    requires { money.now ≡ count.now }
     ensures { OnOk result (Grows page.old.items page.new.items (winners facts.now count.now)) }
 {
     let elected = elected_of(count.outcome());
@@ -52,7 +54,7 @@ pub(crate) fn put_winners(
     put(page, &facts.language, WINNERS_OPENING, &heads)?;
     put_head_category(page, facts)?;
     put_own(page, HEAD_CLOSING)?;
-    put_elected_rows(page, facts, count, elected)?;
+    put_elected_rows(page, facts, count, money, elected)?;
     put_own(page, TABLE_CLOSING)
 }
 
@@ -79,14 +81,16 @@ fn put_elected_rows(
     page: &mut Vec<u8>,
     facts: &Facts,
     count: &CountedElection,
+    money: &MoneyTeller,
     elected: &[Elected],
 ) -> Result<(), NoMemory>
-    requires { All (λ w. w.place < length count.now.election.projects) elected.now }
+    requires same { money.now ≡ count.now }
+    requires known { All (λ w. w.place < length count.now.election.projects) elected.now }
     ensures { OnOk result (Grows page.old.items page.new.items
         (flat_map (λ w. row_at facts.now count.now w.place) elected.now)) }
 {
     for winner in elected {
-        put_row(page, facts, count, winner.place)?;
+        put_row(page, facts, count, money, winner.place)?;
     }
     Ok(())
 }
@@ -97,7 +101,9 @@ pub(crate) fn put_added(
     page: &mut Vec<u8>,
     facts: &Facts,
     count: &CountedElection,
+    money: &MoneyTeller,
 ) -> Result<(), NoMemory>
+    requires { money.now ≡ count.now }
     ensures { OnOk result (Grows page.old.items page.new.items (added facts.now count.now)) }
 {
     let places = count.added();
@@ -117,7 +123,7 @@ pub(crate) fn put_added(
     put(page, &facts.language, ADDED_OPENING, &heads)?;
     put_head_category(page, facts)?;
     put_own(page, HEAD_CLOSING)?;
-    put_added_rows(page, facts, count, places)?;
+    put_added_rows(page, facts, count, money, places)?;
     put_own(page, TABLE_CLOSING)
 }
 
@@ -126,14 +132,16 @@ fn put_added_rows(
     page: &mut Vec<u8>,
     facts: &Facts,
     count: &CountedElection,
+    money: &MoneyTeller,
     places: &[u32],
 ) -> Result<(), NoMemory>
-    requires { All (λ place. place < length count.now.election.projects) places.now }
+    requires same { money.now ≡ count.now }
+    requires known { All (λ place. place < length count.now.election.projects) places.now }
     ensures { OnOk result (Grows page.old.items page.new.items
         (flat_map (row_at facts.now count.now) places.now)) }
 {
     for place in places {
-        put_row(page, facts, count, *place)?;
+        put_row(page, facts, count, money, *place)?;
     }
     Ok(())
 }
@@ -143,7 +151,9 @@ pub(crate) fn put_others(
     page: &mut Vec<u8>,
     facts: &Facts,
     count: &CountedElection,
+    money: &MoneyTeller,
 ) -> Result<(), NoMemory>
+    requires { money.now ≡ count.now }
     ensures { OnOk result (Grows page.old.items page.new.items (others facts.now count.now)) }
 {
     let winners = count.winners();
@@ -167,12 +177,18 @@ pub(crate) fn put_others(
     put(page, &facts.language, OTHERS_OPENING, &heads)?;
     put_head_category(page, facts)?;
     put_own(page, HEAD_CLOSING)?;
-    put_lost_rows(page, facts, count)?;
+    put_lost_rows(page, facts, count, money)?;
     put_own(page, TABLE_CLOSING)
 }
 
 /// A row for each project that did not win.
-fn put_lost_rows(page: &mut Vec<u8>, facts: &Facts, count: &CountedElection) -> Result<(), NoMemory>
+fn put_lost_rows(
+    page: &mut Vec<u8>,
+    facts: &Facts,
+    count: &CountedElection,
+    money: &MoneyTeller,
+) -> Result<(), NoMemory>
+    requires { money.now ≡ count.now }
     ensures { OnOk result (Grows page.old.items page.new.items
         (flat_map (lost_row facts.now count.now)
         (range_with_len 0 (length count.now.election.projects)))) }
@@ -180,7 +196,7 @@ fn put_lost_rows(page: &mut Vec<u8>, facts: &Facts, count: &CountedElection) -> 
     let election = count.election();
     let projects = election.projects();
     for place in 0..projects.len() {
-        put_row_of_lost(page, facts, count, place as u32)?;
+        put_row_of_lost(page, facts, count, money, place as u32)?;
     }
     Ok(())
 }
@@ -191,15 +207,17 @@ fn put_row_of_lost(
     page: &mut Vec<u8>,
     facts: &Facts,
     count: &CountedElection,
+    money: &MoneyTeller,
     place: u32,
 ) -> Result<(), NoMemory>
-    requires { place < length count.now.election.projects }
+    requires same { money.now ≡ count.now }
+    requires known { place < length count.now.election.projects }
     ensures { OnOk result (Grows page.old.items page.new.items (lost_row facts.now count.now place)) }
 {
     if count.has_won(place) {
         return Ok(());
     }
-    put_row(page, facts, count, place)
+    put_row(page, facts, count, money, place)
 }
 
 /// The head of the column of categories, where there are some.

@@ -4,7 +4,7 @@ ghost use Rattle.std.specs.Prelude.{◌≡◌, ◌==◌, OnOk, if◌then◌else�
 ghost use Rattle.pb_page.specs.Content.{item, said};
 ghost use Rattle.pb_page.specs.Inner.Counted.{KnowsPlaces, filled_up, share_said};
 ghost use Rattle.pb_page.specs.Inner.Grown.{Grows};
-ghost use Rattle.pb_page.specs.Page.{rule, short_key};
+ghost use Rattle.pb_page.specs.Page.{by_raises, rule, short_key};
 ghost use Rattle.pb_page.specs.declared.keys.TheConstants as key;
 ghost use Rattle.pb_rounds.specs.RuleNames.{by_completion, by_measure};
 
@@ -15,8 +15,9 @@ use crate::place::Place;
 use crate::put::{put, put_own};
 use crate::raises_ended::put_end;
 use crate::sentences::say_item;
-use crate::templates::{ITEM, RULE_CLOSING, RULE_OPENING};
+use crate::templates::{ITEM, LIST_OPENING, RULE_CLOSING, RULE_OPENING};
 use crate::ties::put_ties;
+use crate::works::put_works;
 use pb_core::money::Money;
 use pb_core::no_memory::NoMemory;
 use pb_reasons::{CountedElection, RaiseEnd};
@@ -45,13 +46,15 @@ pub(crate) fn put_rule(
         RULE_OPENING,
         &[Value::Said(keys::RULE_HEADING)],
     )?;
-    say_share(page, language, options.step, share, u64::from(raised))?;
+    put_works(page, language, count)?;
+    put_own(page, LIST_OPENING)?;
+    put_share(page, language, &rule, share, raised)?;
     put_item(page, language, keys::SUPPORTERS)?;
     put_item(page, language, order_key(options.measure))?;
     put_item(page, language, raises_key(&rule, raised))?;
-    put_end(page, language, count.election(), end)?;
+    put_end(page, language, count, end)?;
     put_item(page, language, method_key(&rule))?;
-    put_filled_up(page, language, rule.fill_up)?;
+    put_filled_up(page, language, &rule)?;
     put_ties(page, language, count)?;
     put_own(page, RULE_CLOSING)
 }
@@ -71,22 +74,34 @@ fn raised_by(outcome: &Outcome) -> u32
 }
 
 /// How the share came about.
-fn say_share(
+fn put_share(
     page: &mut Vec<u8>,
     language: &Language,
-    step: Money,
+    rule: &Rule,
     share: Money,
-    raises: u64,
+    raised: u32,
 ) -> Result<(), NoMemory>
-    ensures { OnOk result (Grows page.old.items page.new.items (share_said language.now step share raises)) }
+    ensures { OnOk result (Grows page.old.items page.new.items (share_said language.now
+        (by_raises rule.now key.SHARE_UNRAISED key.SHARE) rule.now.options.step share raised)) }
 {
+    let raises = u64::from(raised);
     let places = [
         Place::Amount("share", share, language.amounts),
         Place::Number("raises", raises),
-        Place::Nameless(step, language.amounts),
+        Place::Nameless(rule.options.step, language.amounts),
         Place::Noun(keys::TIMES, raises),
     ];
-    say_item(page, language, keys::SHARE, &places)
+    say_item(page, language, share_key(rule), &places)
+}
+
+/// The key of the sentence on that.
+fn share_key(rule: &Rule) -> u16
+    ensures { result ≡ by_raises rule.now key.SHARE_UNRAISED key.SHARE }
+{
+    match (rule.options.completion, rule.fill_up) {
+        (Completion::Plain, FillUp::Nothing | FillUp::MostVotes) => keys::SHARE_UNRAISED,
+        (Completion::Add1, FillUp::Nothing | FillUp::MostVotes) => keys::SHARE,
+    }
 }
 
 /// A sentence of the list.
@@ -106,15 +121,15 @@ fn order_key(measure: Measure) -> u16
     }
 }
 
-/// The key of the sentence on the raises.
+/// The key of the sentence on the raises, or on what is done where there are none.
 fn raises_key(rule: &Rule, raised: u32) -> u16
     ensures { result ≡ by_completion rule.now.options.completion rule.now.fill_up key.PLAIN
-        (if raised == 0 then key.UNRAISED else key.RAISED) key.UNUSED
+        (if raised == 0 then key.UNRAISED else key.RAISED) key.FILLED_UP
         (if raised == 0 then key.UNRAISED else key.RAISED) }
 {
     match (rule.options.completion, rule.fill_up) {
         (Completion::Plain, FillUp::Nothing) => keys::PLAIN,
-        (Completion::Plain, FillUp::MostVotes) => keys::UNUSED,
+        (Completion::Plain, FillUp::MostVotes) => keys::FILLED_UP,
         (Completion::Add1, FillUp::Nothing | FillUp::MostVotes) => {
             if raised == 0 {
                 keys::UNRAISED
@@ -147,13 +162,13 @@ fn method_key(rule: &Rule) -> u16
     }
 }
 
-/// How what was left was filled up, where it was.
-fn put_filled_up(page: &mut Vec<u8>, language: &Language, fill_up: FillUp) -> Result<(), NoMemory>
-    ensures { OnOk result (Grows page.old.items page.new.items (filled_up language.now fill_up)) }
+/// How what the raises left was filled up, where it was.
+#[tactic(auto, using(crate::proofs::Grown::none))]
+fn put_filled_up(page: &mut Vec<u8>, language: &Language, rule: &Rule) -> Result<(), NoMemory>
+    ensures { OnOk result (Grows page.old.items page.new.items (filled_up language.now rule.now)) }
 {
-    if fill_up.fills_up() {
-        put_item(page, language, keys::FILLED_UP)
-    } else {
-        Ok(())
+    match (rule.options.completion, rule.fill_up) {
+        (Completion::Add1, FillUp::MostVotes) => put_item(page, language, keys::FILLED_UP),
+        _ => Ok(()),
     }
 }

@@ -5,11 +5,14 @@ ghost use Rattle.pb_page.specs.Content.{item, paragraph, say};
 ghost use Rattle.pb_page.specs.Inner.Grown.{Grows};
 ghost use Rattle.pb_page.specs.Inner.Value.{at_place, character_said};
 
+use crate::keys;
 use crate::language::Language;
 use crate::markup::{Value, write_byte};
 use crate::place::Place;
 use crate::put::{put, put_own};
-use crate::templates::{AMOUNT, CALLED, NAMELESS, NUMBER, RECOUNT_LINK, TEXT};
+use crate::templates::{
+    AMOUNT, CALLED, CODE, FILES_LINK, NAMELESS, NUMBER, PROJECT_LINK, RECOUNT_LINK, TEXT,
+};
 use pb_core::no_memory::NoMemory;
 
 /// The bytes below this one are places of a sentence: byte 0 the first, byte 1 the second, and so on.
@@ -110,6 +113,16 @@ fn put_place(page: &mut Vec<u8>, language: &Language, place: &Place) -> Result<(
             put(page, language, NAMELESS, &values)
         }
         Place::Called(name) => put(page, language, CALLED, &[Value::Text(name)]),
+        Place::Said(key) => put(page, language, TEXT, &[Value::Said(key)]),
+        Place::Code(text) => put(page, language, CODE, &[Value::Text(text)]),
+        Place::Project(place, name) => {
+            let values = [Value::Small(place), Value::Text(name)];
+            put(page, language, PROJECT_LINK, &values)
+        }
+        Place::Files(address) => {
+            let values = [Value::Text(address), Value::Said(keys::FILES_LINK)];
+            put(page, language, FILES_LINK, &values)
+        }
         Place::Link(address, key) => {
             let values = [Value::Text(address), Value::Said(key)];
             put(page, language, RECOUNT_LINK, &values)

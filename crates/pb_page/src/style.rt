@@ -33,6 +33,7 @@ h1 { font-size: clamp(1.5rem, 5vw, 2.25rem); line-height: 1.2; margin: 0 0 .75re
 h2 { font-size: 1.3rem; line-height: 1.25; margin: 2.5rem 0 .5rem; }
 .lead { font-size: 1.15rem; margin: .25rem 0; max-width: 46rem; }
 p, li { max-width: 46rem; }
+h2, p, li, caption, figcaption { hyphens: auto; }
 figure { margin: 1rem 0 0; }
 figcaption { margin-top: .4rem; }
 figcaption, caption { color: var(--soft); font-size: .9rem; }
@@ -51,9 +52,17 @@ div.budget bdi { padding: 0 .25rem; }
 .id { color: var(--soft); font-size: .85em; font-weight: 400; }
 .id:has(+ bdi:empty) { color: inherit; font-size: inherit; font-weight: inherit; }
 .bar { height: .4rem; margin-top: .3rem; background: var(--track); border-radius: .2rem; overflow: hidden; }
+.shares { max-width: 30rem; }
+.shares .share { fill: var(--many); }
+.shares .raise { fill: var(--many); opacity: .5; }
+.shares .winners { fill: var(--won); }
+.shares .budget { fill: var(--ink); }
 .won .bar rect { fill: var(--won); }
 .lost .bar rect { fill: var(--lost); }
 .many .bar rect { fill: var(--many); }
+details { margin-top: .3rem; font-size: .9rem; font-weight: 400; }
+summary { color: var(--many); cursor: pointer; padding: .15rem 0; }
+details ul { margin: .15rem 0 .3rem; padding-inline-start: 1.25rem; }
 table { width: 100%; border-collapse: collapse; margin: .5rem 0 0; }
 caption { text-align: start; padding-bottom: .4rem; }
 th, td { padding: .5rem .6rem; border-bottom: 1px solid var(--line); text-align: start; vertical-align: top; }
@@ -68,6 +77,8 @@ dl { margin: .5rem 0; }
 dt { color: var(--soft); font-size: .9rem; }
 dd { margin: 0 0 .6rem; }
 a { color: var(--many); }
+nav ul { display: flex; flex-wrap: wrap; gap: .25rem 1.25rem; margin: 1rem 0 0; padding: 0; list-style: none; }
+tr:target { outline: 2px solid var(--many); outline-offset: -1px; }
 code { font: .9rem/1.5 ui-monospace, 'DejaVu Sans Mono', Consolas, monospace; }
 pre { margin: .5rem 0; padding: .75rem; background: var(--track); border-radius: .35rem; white-space: pre-wrap; }
 @media (min-width: 44rem) {
@@ -81,12 +92,13 @@ pre { margin: .5rem 0; padding: .75rem; background: var(--track); border-radius:
 @media (max-width: 43.99rem) {
   .wide, .wide caption, .wide tbody { display: block; }
   .wide thead { position: absolute; width: 1px; height: 1px; overflow: hidden; clip-path: inset(50%); }
-  .wide tr { display: grid; grid-template-columns: 1fr auto; padding: .6rem 0; border-bottom: 1px solid var(--line); }
-  .wide th, .wide td { display: block; padding: .15rem 0; border: 0; }
-  .wide tbody th { grid-column: 1 / -1; grid-row: 1; padding-bottom: .35rem; }
-  .wide td { grid-column: 1 / -1; display: flex; justify-content: space-between; gap: 1rem; }
+  .wide tr { display: flex; flex-wrap: wrap; column-gap: 1.25rem; padding: .4rem 0; border-bottom: 1px solid var(--line); }
+  .wide th, .wide td { display: block; min-width: 0; max-width: 100%; padding: 0; border: 0; line-height: 1.4; }
+  .wide tbody th { flex: 1 0 100%; order: -1; padding-bottom: .2rem; }
+  .wide td { flex: 1 0 100%; display: flex; justify-content: space-between; gap: 1rem; }
+  .wide td:has(.round, .added, .cost, .votes) { flex: 0 1 auto; gap: .4rem; }
   .wide td::before { content: attr(data-label); content: attr(data-label) / ''; color: var(--soft); font-size: .9rem; text-align: start; white-space: normal; overflow-wrap: anywhere; hyphens: auto; }
-  .wide td data, .wide td bdi { flex: none; max-width: 70%; }
+  .wide td data:not(.round, .added, .cost, .votes), .wide td bdi { flex: none; max-width: 70%; }
 }
 @media print {
   :root {
@@ -99,6 +111,8 @@ pre { margin: .5rem 0; padding: .75rem; background: var(--track); border-radius:
   tbody tr:first-child, pre { break-before: avoid; }
   tr, figure, pre, dl, li { break-inside: avoid; }
   svg { print-color-adjust: exact; -webkit-print-color-adjust: exact; }
+  nav { display: none; }
+  details::details-content { content-visibility: visible; block-size: auto; }
 }
 @media print, (forced-colors: active) {
   div.budget, div.budget span, div.budget span:nth-child(even) { background: none; color: inherit; }

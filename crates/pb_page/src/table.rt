@@ -108,7 +108,7 @@ const FIRST: &[SentenceEntry] = &[
     plain!("winners.heading", "The winners"),
     plain!(
         "winners.caption",
-        "In order of election. The bar is the project's part of the budget."
+        "In order of election. What supporters paid is taken from their shares alone. The bar is the project's part of the budget."
     ),
     plain!("winners.none", "No project won."),
     plain!(
@@ -130,10 +130,10 @@ const FIRST: &[SentenceEntry] = &[
     plain!("others.heading", "The other projects"),
     plain!(
         "others.caption",
-        "In the order of the file. What a project's supporters have left, and what it was short of its cost, are told at the final share. What it was short is no measure of how near it was: shares are counted money, not the budget's, and a project that cost so much less might still not win. The command pb_app whatif looks for what would have made it win. The bar is what its supporters have left, as a part of its cost."
+        "In the order of the file. What a project's supporters still have of their shares together, after the last round, and by how much that is less than its cost. The bar is what they have, as a part of its cost. The command pb_app whatif looks for what would have made a project win: under a rule that raises shares, even a cost lower by what was short might not be enough, since shares are only figures to count with, not money of the budget."
     ),
     plain!("others.none", "There are none."),
-    plain!("column.left", "Its supporters have left"),
+    plain!("column.left", "Its supporters still have"),
     plain!("column.missing", "Missing"),
     SentenceEntry {
         key: "others.short",
@@ -179,21 +179,26 @@ const MIDDLE: &[SentenceEntry] = &[
     },
     plain!(
         "rule.supporters",
-        "A project could be paid as long as its supporters, the voters who chose it, could cover its cost together: each by the same price, or by all that was left of the share where that was less."
+        "A project could be paid as long as its supporters, the voters who chose it, could cover its cost together: each paid the same price, or all that was left of the share where that was less."
     ),
     plain!(
         "rule.by_votes",
-        "In each round the project with the lowest price was elected, among equals the first in the file, and its supporters paid for it; the rounds ended when no other project could be paid."
+        "In each round the project with the lowest price per supporter was elected, among equals the first in the file, and its supporters paid for it; the rounds ended when no other project could be paid."
     ),
     plain!(
         "rule.by_cost",
-        "In each round the project with the lowest price for its cost was elected, among equals the first in the file, and its supporters paid for it; the rounds ended when no other project could be paid."
+        "In each round the project with the lowest price per supporter in proportion to its cost was elected, among equals the first in the file, and its supporters paid for it; the rounds ended when no other project could be paid."
     ),
     plain!(
         "rule.plain",
-        "The shares were not raised: what these rounds left of the budget is not spent."
+        "What these rounds left of the budget is not spent."
     ),
-    plain!("rule.unused", "The shares were not raised."),
+    SentenceEntry {
+        key: "rule.share_unraised",
+        numbers: &["share"],
+        nouns: &[],
+        english: "Each voter got the same share, {share}: an equal part of the budget.",
+    },
     plain!(
         "rule.raised",
         "To spend more of the budget, all rounds were held anew with higher and higher shares."
@@ -201,7 +206,7 @@ const MIDDLE: &[SentenceEntry] = &[
     plain!("rule.unraised", "The shares were not raised."),
     plain!(
         "rule.filled_up",
-        "What was then left of the budget was filled up by votes: as long as it paid for a project that anyone had voted for, the one with the most votes was added, of equal votes the cheaper, of equal costs the first in the file."
+        "What is then left of the budget is spent by votes: as long as it pays for a project that anyone voted for, the one with the most votes is added, of equal votes the cheaper, of equal costs the first in the file."
     ),
     plain!(
         "method.plain",
@@ -218,7 +223,7 @@ const MIDDLE: &[SentenceEntry] = &[
     plain!("check.heading", "Check it yourself"),
     plain!(
         "check.bytes",
-        "These bytes were counted. The same bytes give the same winners, whoever counts them."
+        "Exactly these bytes were counted. The same bytes give the same winners by the same rule, whoever counts them."
     ),
     SentenceEntry {
         key: "check.recount",
@@ -229,11 +234,11 @@ const MIDDLE: &[SentenceEntry] = &[
     plain!("check.link", "the page that counts"),
     plain!(
         "check.program_too",
-        "To recount them by the program, and to see their digests:"
+        "To recount the votes with the program, and to see the SHA-256 of each file:"
     ),
     plain!(
         "check.program",
-        "To recount them, and to see their digests:"
+        "To recount the votes, and to see the SHA-256 of each file:"
     ),
 ];
 
@@ -242,7 +247,7 @@ const LATER: &[SentenceEntry] = &[
     plain!("compared.heading", "Compared with most votes"),
     plain!(
         "compared.caption",
-        "By most votes, the projects with the most votes win, one after the other, each that the rest of the budget still pays for. This is only a comparison: the winners are the projects above."
+        "By most votes, projects are taken in the order of their votes, and each wins if what is left of the budget still pays for it. This is only a comparison: the winners are the projects above. If no list follows the table, both rules have the same winners."
     ),
     plain!("compared.rule", "Rule"),
     plain!("compared.equal_shares", "This count"),
@@ -292,9 +297,9 @@ const LATER: &[SentenceEntry] = &[
     plain!("budget.none", "The bar is empty, because no project won."),
     SentenceEntry {
         key: "check.options",
-        numbers: &["measure", "completion", "step", "limit"],
+        numbers: &["by", "measure", "then", "completion", "step", "limit"],
         nouns: &[],
-        english: "Options of this count: measure {measure}, completion {completion}, step {step}, limit of raises {limit}.",
+        english: "Options of this count: measure {measure} ({by}), completion {completion} ({then}), step {step} (--step takes hundredths), limit of raises {limit}.",
     },
     SentenceEntry {
         key: "check.made_by",
@@ -339,4 +344,85 @@ const LATER: &[SentenceEntry] = &[
     plain!("column.category_won", "Winners"),
     plain!("column.category_cost", "Cost of the winners"),
     plain!("column.left_short", "Left short when raising ended"),
+    SentenceEntry {
+        key: "check.options_unraised",
+        numbers: &["by", "measure", "then", "completion"],
+        nouns: &[],
+        english: "Options of this count: measure {measure} ({by}), completion {completion} ({then}).",
+    },
+    plain!("measure.votes", "the lowest price per supporter first"),
+    plain!(
+        "measure.cost",
+        "the lowest price per supporter in proportion to its cost first"
+    ),
+    plain!("completion.none", "what is left is not spent"),
+    plain!("completion.add1", "shares are raised"),
+    plain!("completion.utilitarian", "what is left is spent by votes"),
+    plain!(
+        "completion.add1u",
+        "shares are raised, and what is then left is spent by votes"
+    ),
+    SentenceEntry {
+        key: "works.raised",
+        numbers: &["budget", "voters", "share"],
+        nouns: &[],
+        english: "At first the budget of {budget} is divided by the number of voters, {voters}: each has a share of {share}, which pays only for projects on their own ballot. If the shares then pay for no other project although some of the budget is left, all shares are raised by the same step and all rounds are held again from the start, as if what was left were shared out once more. So the shares may come to more than the budget in the end; what the winners cost together never does.",
+    },
+    SentenceEntry {
+        key: "works.unraised",
+        numbers: &["budget", "voters", "share"],
+        nouns: &[],
+        english: "The budget of {budget} is divided by the number of voters, {voters}: each has a share of {share}, which pays only for projects on their own ballot. Those who chose a project pay for it together. So what the shares pay for never costs more than the budget.",
+    },
+    plain!(
+        "works.picture",
+        "A sketch with four voters, not to scale. Above: the budget in equal shares. In the middle: shares that were raised. Below: what the winners cost. The line shows where the budget ends."
+    ),
+    plain!(
+        "works.picture_unraised",
+        "A sketch with four voters, not to scale. Above: the budget in equal shares. Below: what the shares pay for. The line shows where the budget ends."
+    ),
+    plain!("compared.cost", "Cost of the winners"),
+    plain!(
+        "compared.only_by_shares",
+        "These projects win by this count, but not by most votes:"
+    ),
+    plain!(
+        "compared.only_by_votes",
+        "These projects win by most votes, but not by this count:"
+    ),
+    SentenceEntry {
+        key: "check.rule",
+        numbers: &["rule"],
+        nouns: &[],
+        english: "The name of this rule is {rule}.",
+    },
+    plain!("contents", "On this page"),
+    SentenceEntry {
+        key: "check.files",
+        numbers: &["link"],
+        nouns: &[],
+        english: "The file with new voter ids, the report and the tables are {link}. Check them with your own copy of recount.html.",
+    },
+    plain!("check.files_link", "published here"),
+    plain!("others.went", "Where its supporters' money went"),
+    SentenceEntry {
+        key: "others.paid",
+        numbers: &["amount", "project"],
+        nouns: &[],
+        english: "{amount} for {project}",
+    },
+    SentenceEntry {
+        key: "others.paid_more",
+        numbers: &["amount"],
+        nouns: &[],
+        english: "{amount} for other projects",
+    },
+    plain!("others.paid_nothing", "They paid for no project."),
+    SentenceEntry {
+        key: "others.kept",
+        numbers: &["amount"],
+        nouns: &[],
+        english: "{amount} left",
+    },
 ];

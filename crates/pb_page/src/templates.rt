@@ -29,6 +29,20 @@ pub(crate) const LEAD_NEXT: &str = "</p>
 pub(crate) const LEAD_CLOSING: &str = "</p>
 ";
 
+/// The head of the contents. Value: what they are called.
+pub(crate) const CONTENTS_OPENING: &str = "<nav aria-label='~'>
+<ul>
+";
+
+/// A link to a section. Values: the section's name, and its heading.
+pub(crate) const CONTENTS_LINK: &str = "<li><a href='#~'>~</a></li>
+";
+
+/// The end of the contents.
+pub(crate) const CONTENTS_CLOSING: &str = "</ul>
+</nav>
+";
+
 /// What stands before the sections.
 pub(crate) const MAIN: &str = "</header>
 <main>
@@ -89,8 +103,8 @@ pub(crate) const HEAD_CLOSING: &str = "</tr></thead>
 /// The category of a project, in its row. Values: the label, and the category.
 pub(crate) const ROW_CATEGORY: &str = "<td role='cell' data-label='~'><bdi dir='auto'>~</bdi></td>";
 
-/// The start of a project's row, up to its cells, and its end. Value: the id.
-pub(crate) const ROW_OPENING: &str = "<tr role='row' data-project='~'>";
+/// The start of a project's row, up to its cells, and its end. Values: its place in the file, and its id.
+pub(crate) const ROW_OPENING: &str = "<tr role='row' id='p-~' data-project='~'>";
 
 pub(crate) const ROW_CLOSING: &str = "</tr>
 ";
@@ -136,11 +150,25 @@ pub(crate) const OTHERS_OPENING: &str = "<section class='lost' aria-labelledby='
 <caption role='caption'>~</caption>
 <thead role='rowgroup'><tr role='row'><th role='columnheader' scope='col'>~</th><th role='columnheader' scope='col' class='n'>~</th><th role='columnheader' scope='col' class='n'>~</th><th role='columnheader' scope='col' class='n'>~</th><th role='columnheader' scope='col' class='n'>~</th>";
 
-/// The cells of a project that did not win, up to what is said of what is missing. Values: id, name, width of its bar;
-/// cost, votes and what its supporters have left, with their labels; the label of what is missing, and that
-/// for programs.
+/// The head of a project that did not win, up to where the money of its supporters went. Values: id, name, and
+/// width of its bar.
+pub(crate) const OTHER_OPENING: &str =
+    "<th role='rowheader' scope='row'><span class='id' dir='auto'>~</span> <bdi dir='auto'>~</bdi><svg class='bar' viewBox='0 0 10000 1' preserveAspectRatio='none' aria-hidden='true'><rect width='~' height='1'/></svg>";
+
+/// The head of where it went, and its end. Value: what it is called.
+pub(crate) const WENT_OPENING: &str = "<details><summary>~</summary><ul>
+";
+
+pub(crate) const WENT_CLOSING: &str = "</ul>
+</details>";
+
+/// A link to the row of a project. Values: its place in the file, and what it is called.
+pub(crate) const PROJECT_LINK: &str = "<a href='#p-~'><bdi dir='auto'>~</bdi></a>";
+
+/// The cells behind that head, up to what is said of what is missing. Values: cost, votes and what its supporters
+/// have left, with their labels; the label of what is missing, and that for programs.
 pub(crate) const OTHER: &str =
-    "<th role='rowheader' scope='row'><span class='id' dir='auto'>~</span> <bdi dir='auto'>~</bdi><svg class='bar' viewBox='0 0 10000 1' preserveAspectRatio='none' aria-hidden='true'><rect width='~' height='1'/></svg></th><td role='cell' class='n' data-label='~'><data class='cost' value='~'>~</data></td><td role='cell' class='n' data-label='~'><data class='votes' value='^'>~</data></td><td role='cell' class='n' data-label='~'><data class='left' value='~'>~</data></td><td role='cell' class='n' data-label='~'><data class='missing' value='~'>";
+    "</th><td role='cell' class='n' data-label='~'><data class='cost' value='~'>~</data></td><td role='cell' class='n' data-label='~'><data class='votes' value='^'>~</data></td><td role='cell' class='n' data-label='~'><data class='left' value='~'>~</data></td><td role='cell' class='n' data-label='~'><data class='missing' value='~'>";
 
 /// What stands behind that.
 pub(crate) const OTHER_CLOSING: &str = "</data></td>";
@@ -200,20 +228,51 @@ pub(crate) const COMPARED_OPENING: &str = "<section class='many' aria-labelledby
 <h2 id='compared'>~</h2>
 <table class='wide' role='table'>
 <caption role='caption'>~</caption>
-<thead role='rowgroup'><tr role='row'><th role='columnheader' scope='col'>~</th><th role='columnheader' scope='col' class='n'>~</th><th role='columnheader' scope='col' class='n'>~</th><th role='columnheader' scope='col' class='n'>~</th></tr></thead>
+<thead role='rowgroup'><tr role='row'><th role='columnheader' scope='col'>~</th><th role='columnheader' scope='col' class='n'>~</th><th role='columnheader' scope='col' class='n'>~</th><th role='columnheader' scope='col' class='n'>~</th><th role='columnheader' scope='col' class='n'>~</th></tr></thead>
 <tbody role='rowgroup'>
 ";
 
-/// A rule. Values: what it is called; how many projects win, how many voters have no winner, and how many
-/// have more winners than by the other rule, each behind its label.
+/// A rule. Values: what it is called; how many projects win, what they cost, for programs and as it is shown, how many
+/// voters have no winner, and how many have more winners than by the other rule, each behind its label.
 pub(crate) const COMPARED_ROW: &str =
-    "<tr role='row'><th role='rowheader' scope='row'>~</th><td role='cell' class='n' data-label='~'><data class='rule_projects' value='^'>~</data></td><td role='cell' class='n' data-label='~'><data class='without' value='^'>~</data></td><td role='cell' class='n' data-label='~'><data class='more_choices' value='^'>~</data></td></tr>
+    "<tr role='row'><th role='rowheader' scope='row'>~</th><td role='cell' class='n' data-label='~'><data class='rule_projects' value='^'>~</data></td><td role='cell' class='n' data-label='~'><data class='rule_cost' value='~'>~</data></td><td role='cell' class='n' data-label='~'><data class='without' value='^'>~</data></td><td role='cell' class='n' data-label='~'><data class='more_choices' value='^'>~</data></td></tr>
+";
+
+/// The end of a table within a section, and the end of a section.
+pub(crate) const ROWS_CLOSING: &str = "</tbody>\n</table>\n";
+
+pub(crate) const SECTION_CLOSING: &str = "</section>
+";
+
+/// The head of a list of links. Value: what is said of them.
+pub(crate) const LINKS_OPENING: &str = "<p>~</p>
+<ul>
+";
+
+/// A link to the row of a project. Values: its place, and what it is called.
+pub(crate) const LINKED: &str = "<li><a href='#p-~'><bdi dir='auto'>~</bdi></a></li>
+";
+
+/// The end of that list.
+pub(crate) const LINKS_CLOSING: &str = "</ul>
 ";
 
 /// The head of how it was counted. Value: the heading.
 pub(crate) const RULE_OPENING: &str = "<section aria-labelledby='rule'>
 <h2 id='rule'>~</h2>
-<ol>
+";
+
+/// What stands before the picture of shares.
+pub(crate) const FIGURE_OPENING: &str = "<figure>
+";
+
+/// What stands behind it. Value: the caption.
+pub(crate) const FIGURE_CLOSING: &str = "<figcaption>~</figcaption>
+</figure>
+";
+
+/// What stands before the list.
+pub(crate) const LIST_OPENING: &str = "<ol>
 ";
 
 /// Its end.
@@ -227,6 +286,9 @@ pub(crate) const ITEM: &str = "<li>~</li>
 
 /// What a project is called, within a sentence. Value: that.
 pub(crate) const CALLED: &str = "<bdi dir='auto'>~</bdi>";
+
+/// A text of the program's, within a sentence. Value: the text.
+pub(crate) const CODE: &str = "<code>~</code>";
 
 /// The head of the list of ties, itself an item of a list. Value: the heading.
 pub(crate) const TIES_OPENING: &str = "<li>~
@@ -271,6 +333,9 @@ pub(crate) const SOURCES_CLOSING: &str = "</dl>
 
 /// A link. Values: its address, and what it is called.
 pub(crate) const RECOUNT_LINK: &str = "<a href='~'>~</a>";
+
+/// A link to what is published. Values: its address, and what it is called.
+pub(crate) const FILES_LINK: &str = "<a class='files' href='~'>~</a>";
 
 /// A paragraph. Value: the sentence.
 pub(crate) const PARAGRAPH: &str = "<p>~</p>

@@ -105,7 +105,7 @@ fn key_of(measure: Measure) -> u16
 }
 
 /// What the project at this place is called; nothing where there is none.
-fn called_at(election: &Election, place: u32) -> &str
+pub(crate) fn called_at(election: &Election, place: u32) -> &str
     ensures { result.now ≡ called (project_at election.now place) }
 {
     match election.projects().get(place as usize) {

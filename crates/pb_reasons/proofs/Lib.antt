@@ -24,6 +24,7 @@ pub mod AllTies
 pub mod TieOrder
 pub mod Rooms
 pub mod Spendings
+mod Moneys
 pub mod FairRows
 pub mod FairWords
 pub mod Changed

@@ -33,20 +33,20 @@ use Rattle.pb_reasons.specs.declared.payment.Payment.{Payment}
 use Rattle.pb_reasons.proofs.VoterTold.{supports}
 
 -- sums of numbers that are the same, or that are nothing
-sum_same : (f g : ℕ → ℕ) (xs : List ℕ) → All (λ x. f x ≡ g x) xs → sum_by f xs ≡ sum_by g xs
+pub sum_same : (f g : ℕ → ℕ) (xs : List ℕ) → All (λ x. f x ≡ g x) xs → sum_by f xs ≡ sum_by g xs
 sum_same f g [] same = refl
 sum_same f g (x ∷ xs) same =
     let others = sum_same f g xs (All-tail (λ y. f y ≡ g y) x xs same) in
     omega (arith, sum_by-cons f x xs, sum_by-cons g x xs, All-head (λ y. f y ≡ g y) x xs same, others)
 
-sum_nothing : (f : ℕ → ℕ) (xs : List ℕ) → ((x : ℕ) → f x ≡ 0) → sum_by f xs ≡ 0
+pub sum_nothing : (f : ℕ → ℕ) (xs : List ℕ) → ((x : ℕ) → f x ≡ 0) → sum_by f xs ≡ 0
 sum_nothing f [] none = refl
 sum_nothing f (x ∷ xs) none =
     let others = sum_nothing f xs none in
     omega (arith, sum_by-cons f x xs, none x, others)
 
 -- a sum over different numbers, where one of them counts for more than nothing
-sum_with : (g : ℕ → ℕ) (x a : ℕ) (xs : List ℕ) → AllPairs (λ y z. y < z) xs → g x ≡ 0 → (approves xs x ≡ false → a ≡ 0)
+pub sum_with : (g : ℕ → ℕ) (x a : ℕ) (xs : List ℕ) → AllPairs (λ y z. y < z) xs → g x ≡ 0 → (approves xs x ≡ false → a ≡ 0)
     → sum_by (λ y. cond (x == y) a (g y)) xs ≡ a + sum_by g xs
 sum_with g x a [] rise nothing outside = let none = outside refl in omega (arith, none)
 sum_with g x a (y ∷ ys) rise nothing outside = elim (cases_eq y x) [
@@ -64,7 +64,7 @@ sum_with g x a (y ∷ ys) rise nothing outside = elim (cases_eq y x) [
       omega (arith, sum_by-cons (λ z. cond (x == z) a (g z)) y ys, sum_by-cons g y ys, here, others)
 ]
 
-nothing_either_way : (b : Bool) (paid : ℕ) → paid ≡ 0 → cond b paid 0 ≡ 0
+pub nothing_either_way : (b : Bool) (paid : ℕ) → paid ≡ 0 → cond b paid 0 ≡ 0
 nothing_either_way true paid none = none
 nothing_either_way false paid none = refl
 
@@ -114,6 +114,19 @@ module _ (m : Measure) (s : SupportView) (place : ℕ) where
       paid_there-cons rests w elected v p
       ∙ cond-false _ _ _ (ne_eqb w.place p (All-head (λ u. u.place ≢ p) w elected others))
       ∙ paid_nowhere p v elected (All-tail (λ u. u.place ≢ p) w elected others) (charged (supporters_at s w.place) w.price rests)
+
+  -- who does not support a project pays nothing for it
+  pub unlisted_pays_nothing : (p v : ℕ) → is_listed (supporters_at s p) v ≡ false → (elected : List ElectedView) (rests : List ℕ) → paid_there rests elected v p ≡ 0
+  unfolding paid_in_turn
+  unlisted_pays_nothing p v none [] rests = refl
+  unlisted_pays_nothing p v none (w ∷ elected) rests = elim (cases_eq w.place p) [
+    | inl same ↦
+        paid_there-cons rests w elected v p ∙ cond-true _ _ _ (eq-eqb w.place p same)
+        ∙ cond-false _ _ _ (ap (λ q. is_listed (supporters_at s q) v) same ∙ none)
+    | inr other ↦
+        paid_there-cons rests w elected v p ∙ cond-false _ _ _ (ne_eqb w.place p other)
+        ∙ unlisted_pays_nothing p v none elected (charged (supporters_at s w.place) w.price rests)
+  ]
 
   within_cond : (x p paid rest : ℕ) → within p (cond (x == p) paid rest) ≡ cond (x == p) (within x paid) (within p rest)
   within_cond x p paid rest = elim (cases_eq x p) [
@@ -166,7 +179,7 @@ module _ (m : Measure) (s : SupportView) (place : ℕ) where
       ∙ ap (λ n. counts_within m s place p + n) (payments_counted paid_of places)
       ∙ sym (sum_by-cons (λ q. within q (paid_of q)) q places)
 
-ballot_rises : (e : ElectionView) (voter : ℕ) → IsElection e → voter < length e.voters → AllPairs (λ a b. a < b) (ballot_at e voter)
+pub ballot_rises : (e : ElectionView) (voter : ℕ) → IsElection e → voter < length e.voters → AllPairs (λ a b. a < b) (ballot_at e voter)
 ballot_rises e voter h is_voter =
     let d : VoterView = record { id = []; ballot = [] } in
     let same : ballot_at e voter ≡ (get_or e.voters voter d).ballot = get_or-map (λ (v : VoterView). v.ballot) e.voters voter d [] is_voter in

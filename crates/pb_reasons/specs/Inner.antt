@@ -4,6 +4,7 @@ pub mod Comparing
 pub mod Counts
 pub mod Kept
 pub mod Losers
+pub mod Money
 pub mod Numbers
 pub mod OfOutcome
 pub mod Raises

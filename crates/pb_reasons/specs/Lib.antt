@@ -5,6 +5,7 @@ pub mod Counted
 pub mod CountedElection
 pub mod Fairness
 pub mod Losers
+pub mod Money
 pub mod RaiseEnd
 pub mod RaiseLimit
 pub mod Reasons

@@ -12,6 +12,8 @@ mod ending;
 mod fairness;
 mod kept;
 pub mod laws;
+pub mod money_paid;
+pub mod money_teller;
 mod numbers;
 pub mod payment;
 pub mod project_reason;
@@ -40,6 +42,8 @@ pub use changes::{
 pub use comparison::Comparison;
 pub use counted_election::CountedElection;
 pub use fairness::{most_spent, needed};
+pub use money_paid::MoneyPaid;
+pub use money_teller::MoneyTeller;
 pub use payment::Payment;
 pub use project_reason::{Added, Ending, Lost, ProjectReason, Won};
 pub use raise_end::{NextRaise, RaiseEnd};

@@ -40,9 +40,9 @@ impl<R: Files> Case<'_, R> {
             (ReadKind::MissingColumn, _) => self.column_remedy(),
             (ReadKind::EmptyId, Stage::InVotes(_))
                 if self.faulty.is_ballot(ids) && self.faulty.is_slid(self.text) =>
-                "The first voter has no vote, and the last vote no voter: the column `vote` may have slid down by one cell. Compare a few rows with the ballots before you write an id.\n",
+                "The first voter has no vote, and the last vote no voter: the column `vote` may have slid down by one cell. Compare a few rows with the ballots before you write an id. If they agree, and the row is a total, delete it.\n",
             (ReadKind::EmptyId, Stage::InVotes(_)) if self.faulty.is_ballot(ids) =>
-                "The row is a ballot. If it belongs to the voter above, write that voter's id. If it is another voter's, write any id that no other row has.\n",
+                "If the row is a ballot of the voter above, write that voter's id. If it is another voter's ballot, write any id that no other row has. If it is a total, delete it.\n",
             (ReadKind::MissingField, _) if self.faulty.is_invisible() =>
                 "Delete the line. (Some programs put such a character at the end of a file.)\n",
             (ReadKind::BadMoney, _) if self.faulty.is_id_alone() =>

@@ -90,7 +90,7 @@ pub(crate) fn amount_remedy(value: &str) -> &'static str {
         && is_word(unit)
         && unit.len() < value.len()
     {
-        "If the word beside the number multiplies it, as thousands do, write the amount in full. If not, leave the word out: write digits only, like `1200` or `1200.50`.\n"
+        "If the word beside the number multiplies it, as thousands do, write the amount in full. If not, find out the whole amount, and write it with digits only, like `1200` or `1200.50`.\n"
     } else if is_noted {
         "If a mark of a footnote is behind the amount, leave it out. Write the amount with digits only, like `1200` or `1200.50`.\n"
     } else {

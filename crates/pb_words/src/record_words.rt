@@ -237,7 +237,7 @@ impl<R: Files> Case<'_, R> {
             out.put(if is_tabs {
                 "Tabs separate the fields of this row. Write `;` in place of each.\n"
             } else {
-                "Look whether the first comma stands for `;`. If so, commas separate the fields of this row: write `;` between them, but keep the commas between the ids of a vote.\n"
+                "Check whether the first comma stands for `;`. If so, commas separate the fields of this row: write `;` between them, but keep the commas between the ids of a vote.\n"
             })
         } else if self.faulty.is_line_of_words() {
             out.put(
@@ -324,10 +324,10 @@ fn put_joined_vote(out: &mut WordsWriter, sign: &str) {
             &[Own(number)],
         ),
         (None, "") => out.put(
-            "If a `;` is missing between the voter's id and the vote, write it there, and leave the commas. If the row is a voter's id alone, write `;` behind it.\n",
+            "If a `;` is missing between the voter's id and the vote, write it there, and leave the commas. If the row is a voter's id alone, and the voter chose nothing, write `;` behind it.\n",
         ),
         (None, _) => out.fill(
-            "Between the voter's id and the vote stands {} in place of `;`. Write `;` there, and leave the commas.\n",
+            "If a vote stands behind the voter's id, with {} in place of `;`, write `;` there, and leave the commas. If the row is a voter's id alone, and the voter chose nothing, write `;` behind it.\n",
             &[Quoted(sign)],
         ),
     }

@@ -105,11 +105,11 @@ fn list_remedy(cause: Cause) -> &'static str {
         Cause::CutOff =>
             "This seems to be cut off, as programs show long texts, and what is left may be a part of an id. Get the votes again, whole.\n",
         Cause::Kept =>
-            "The project {} on line {} differs only by zeros before a number, but other votes have these zeros, so a program may have made this id of another one. Look at a ballot, or get the votes again, as text. If it is meant, write its id in the vote.\n",
+            "The project {} on line {} differs only by zeros before a number, but other votes have these zeros, so a program may have made this id out of another one. Look at a ballot, or get the votes again, as text. If it is meant, write its id in the vote.\n",
         Cause::Signs =>
-            "This may have a sign for each project, in the order of PROJECTS, which is the id where the voter approves it. If so, write only these ids, with `,` between them.\n",
+            "This may be a range of ids. Or it has one sign for each project, in the order of PROJECTS: its id where the voter approves it, another sign where not. Look at the voter's ballot. If it has such signs, write only these ids, with `,` between them. If not, write all ids that are meant.\n",
         Cause::Run =>
-            "If these are several ids whose commas are lost, get the votes again, as text. If it is the id of a project that was withdrawn, take it out of the votes.\n",
+            "If these are several ids whose commas are lost, get the votes again, as text. If it is the id of a project that was withdrawn, take it out of the votes. If neither, ask whoever made the file which project is meant.\n",
         Cause::Percent =>
             "Codes such as `%2C` stand for other characters here (this one for a comma), as in the address of a web page. Decode all of them, or get the votes again.\n",
         Cause::Mail =>

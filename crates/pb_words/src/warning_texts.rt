@@ -79,7 +79,8 @@ If a `;` has cut the amount, write it in one field. If the amount there is the r
     &[
         "the ballot is empty
 the ballot is empty
-It is counted, and its voter gets a share of the budget. If your rules do not allow it, delete the row.",
+It is counted, and its voter gets a share of the budget. If your rules do not allow it, and no other warning is \
+    about the row, delete the row.",
         STRAY_VOTE,
     ],
     &[
@@ -138,8 +139,9 @@ It is counted as a project. If it is a total, delete the row. If not, give it an
     &[
         "the column `votes` says {value}, but the number of vote rows that name the project is {number}
 the column `votes` is wrong: the number of vote rows that name the project is {number}
-If rows are missing, get the whole file again. Correct the number only if you know that every row is here, \
-    and that the ids of the votes are those of the projects.",
+If rows are missing, get the whole file again. If ids in the votes may have been changed or exchanged, get the votes \
+    again. Correct the number only if you know that every row is here, and that the ids of the votes are those of the \
+    projects.",
         "the number of ballots for it is {number}, and `min_project_score_threshold` asks for {limit}. The key is ignored
 a project has fewer ballots than `min_project_score_threshold` asks for. The key is ignored
 If your rules do not allow the project to win, take its row out, and its id out of the votes.",
@@ -242,7 +244,8 @@ If only one of the two may win, or one needs the other, this program can't count
     give the column the name `comment`.",
         "{value}, in column {column}, names another row. The column is ignored: both rows are counted
 a column of VOTES names other rows. The column is ignored: all rows are counted
-If one row replaces the other, delete the row that is replaced. If not, give the column the name `comment`.",
+If one row replaces the other, delete the row that is replaced. If it only cancels the other, delete both. If neither, \
+    give the column the name `comment`.",
     ],
     &[
         "{value} is not counted: all projects share the amount of the key `budget`

@@ -10,10 +10,11 @@ use Rattle.pb_streams.specs.declared.run_refusal.RunRefusal.{RunRefusal}
 use Rattle.pb_streams.specs.declared.run_refusal.RunRefusal.TheVariants.{Told}
 use Rattle.pb_streams.specs.declared.run_refusal.End.TheVariants.{Page}
 
--- the facts are as the run asks: the title if one is given, the page that recounts, and the comparison
+-- the facts are as the run asks: the title if one is given, where the files and the page that recounts lie, and the
+-- comparison
 abbrev pub AreAsked : PageRun → Facts → Type 0
 AreAsked run facts = IfSome run.title (λ title. facts.title ≡ title)
-    × (facts.recount ≡ run.recount) × (facts.compares ≡ run.compares)
+    × (facts.files ≡ run.files) × (facts.recount ≡ run.recount) × (facts.compares ≡ run.compares)
 
 -- the text is the page of a count of the election by this rule, with facts that are as the run asks
 abbrev pub IsPageBy : PageRun → Rule → ElectionView → List ℕ → Type 0

@@ -1,14 +1,15 @@
 -- Words of private contracts on what is counted.
 use Rattle.std.specs.Prelude.{ℕ, ◌<◌, ◌-◌, ◌==◌, List, [], ◌∷◌, ◌++◌, All, ⊤, codes, decimal, filter}
-use Rattle.std.specs.Prelude.{Option, flat_map, if◌then◌else◌, length, sum_by}
+use Rattle.std.specs.Prelude.{Option, flat_map, if◌then◌else◌, length, not, sum_by, Bool, None, Some, nat_lt}
 use Rattle.std.specs.Borrow.{Bor}
 use Rattle.std.specs.Option.{option_map_or}
 use Rattle.pb_core.specs.Election.{ElectionView, ProjectView}
 use Rattle.pb_core.specs.MoneyText.{money_text}
 use Rattle.pb_page.specs.Amount.{shown}
-use Rattle.pb_page.specs.Content.{Part, amount, attribute, element, figure, item, nameless, noun_at, number, own, paragraph, said, say, text}
-use Rattle.pb_page.specs.Page.{added, at_least, ballots_row, besides, budget, categories, category_of, check, exactly, others, project_at, row_at, rule, source}
-use Rattle.pb_page.specs.Page.{titled, voters, winners}
+use Rattle.pb_page.specs.Content.{Part, amount, attribute, block, columns, element, figure, item, listed, nameless, noun_at, number, own, paragraph, said, say, section, table, text, isolated}
+use Rattle.pb_page.specs.Page.{added, at_least, ballots_row, beside, besides, budget, by_raises, categories, category_of, check, compared_row, exactly, linked, others, project_at, row_at, rule, source}
+use Rattle.pb_page.specs.Inner.Value.{files_link}
+use Rattle.pb_page.specs.Page.{titled, voters, winners, called, money_told}
 use Rattle.pb_page.specs.declared.categories.Categories.{Categories}
 use Rattle.pb_page.specs.declared.facts.Facts.{Facts}
 use Rattle.pb_page.specs.declared.facts.ReadText.{ReadText}
@@ -18,14 +19,18 @@ use Rattle.pb_page.specs.declared.keys.TheConstants as key
 use Rattle.pb_page.specs.declared.language.Language.{Language}
 use Rattle.pb_page.specs.declared.project_row.ProjectRow.{ProjectRow}
 use Rattle.pb_price.specs.Supporters.{cost_at, support_of}
+use Rattle.pb_reasons.specs.BesideVotes.{beside_votes, elected_by_votes}
 use Rattle.pb_reasons.specs.Counted.{winners_of}
 use Rattle.pb_reasons.specs.CountedElection.{CountedElectionView}
+use Rattle.pb_reasons.specs.Money.{MoneyView, money_of, paid_together}
 use Rattle.pb_reasons.specs.Totals.{totals_of}
+use Rattle.pb_reasons.specs.declared.payment.Payment.{Payment}
+use Rattle.pb_reasons.specs.declared.project_reason.Ending.{Ending}
+use Rattle.pb_reasons.specs.declared.project_reason.Ending.TheVariants.{Won, Added, Lost}
 use Rattle.pb_reasons.specs.declared.raise_end.RaiseEnd.{RaiseEnd}
 use Rattle.pb_reasons.specs.declared.raise_end.RaiseEnd.TheVariants.{Plain, Exhausted, Over}
 use Rattle.pb_rounds.specs.MostVotes.{is_taken}
-use Rattle.pb_rounds.specs.RuleNames.{completion_name, fills_up, measure_name}
-use Rattle.pb_rounds.specs.declared.rule.FillUp.{FillUp}
+use Rattle.pb_rounds.specs.RuleNames.{by_completion, by_measure, completion_name, measure_name}
 use Rattle.pb_rounds.specs.declared.rule.Rule.{Rule}
 
 -- the numbers of the whole
@@ -61,16 +66,23 @@ abbrev pub spent_said : Language → Figures → List Part
 spent_said l f = say l (if f.won == 0 then key.BUDGET_NONE else key.BUDGET_CAPTION) (amount l.costs (codes "spent") f.spent
     ∷ amount l.costs (codes "left") f.left ∷ amount l.amounts (codes "surplus") f.surplus ∷ [])
 
-abbrev pub share_said : Language → (step share raises : ℕ) → List Part
-share_said l step share raises = item (say l key.SHARE (amount l.amounts (codes "share") share ∷ number (codes "raises") raises
+abbrev pub share_said : Language → (k step share raises : ℕ) → List Part
+share_said l k step share raises = item (say l k (amount l.amounts (codes "share") share ∷ number (codes "raises") raises
     ∷ nameless (money_text step) (text (shown l.amounts step)) ∷ noun_at l key.TIMES raises ∷ []))
 
-abbrev pub filled_up : Language → FillUp → List Part
-filled_up l fill_up = flat_map (λ k. item (said l k)) (if fills_up fill_up then key.FILLED_UP ∷ [] else [])
+abbrev pub filled_up : Language → Rule → List Part
+filled_up l r = flat_map (λ k. item (said l k)) (by_completion r.options.completion r.fill_up [] [] [] (key.FILLED_UP ∷ []))
+
+abbrev pub works_said : Language → (k budget voters opening : ℕ) → List Part
+works_said l k budget voters opening = paragraph (say l k (amount l.costs (codes "budget") budget
+    ∷ number (codes "voters") voters ∷ amount l.amounts (codes "opening_share") opening ∷ []))
 
 -- the parts of how to check a result
 abbrev pub journal_source : Option ReadText → List Part
 journal_source journal = option_map_or (source (codes "JOURNAL: ")) journal []
+
+abbrev pub files_said : Language → Option (Bor (List ℕ)) → List Part
+files_said l files = option_map_or (λ address. paragraph (say l key.FILES (files_link l address.now ∷ []))) files []
 
 abbrev pub recount_said : Language → List ℕ → List Part
 recount_said l address = paragraph (say l key.RECOUNT
@@ -84,10 +96,18 @@ abbrev pub begun : Option ReadText → List Part
 begun journal = option_map_or (λ j. own (codes "pb_app audit FILE JOURNAL --digests --require-shut")) journal
     (own (codes "sha256sum FILE\npb_app projects FILE"))
 
+abbrev pub options_put : Language → (k by : ℕ) → (measure : List ℕ) → (after : ℕ) → (completion : List ℕ) → (step limit : ℕ) → List Part
+options_put l k by measure after completion step limit = paragraph (say l k (said l by ∷ text measure ∷ said l after ∷ text completion
+    ∷ amount l.amounts (codes "step") step ∷ number (codes "limit") limit ∷ []))
+
 abbrev pub options_said : Language → Rule → List Part
-options_said l r = let o = r.options in paragraph (say l key.OPTIONS (text (measure_name o.measure)
-    ∷ text (completion_name o.completion r.fill_up) ∷ amount l.amounts (codes "step") o.step
-    ∷ number (codes "limit") o.max_raises ∷ []))
+options_said l r = let o = r.options in options_put l (by_raises r key.OPTIONS_UNRAISED key.OPTIONS)
+    (by_measure o.measure key.MEASURE_VOTES key.MEASURE_COST) (measure_name o.measure) (by_completion o.completion r.fill_up
+    key.COMPLETION_NONE key.COMPLETION_ADD1 key.COMPLETION_UTILITARIAN key.COMPLETION_ADD1U) (completion_name o.completion r.fill_up)
+    o.step o.max_raises
+
+abbrev pub name_said : Language → List ℕ → List Part
+name_said l name = paragraph (say l key.RULE_NAME (element (codes "code") [] (text name) ∷ []))
 
 abbrev pub made_by : Language → List ℕ → List Part
 made_by l program = paragraph (say l key.MADE_BY (text program ∷ []))
@@ -97,6 +117,22 @@ abbrev pub sections : Facts → CountedElectionView → RaiseEnd → List Part
 sections facts x end = let l = facts.language in budget l x ++ (winners facts x ++ (added facts x ++ (others facts x
     ++ (categories facts x ++ (voters l x ++ (besides facts x ++ (rule l x end ++ check facts x.rule)))))))
 
+-- the list of places, where there are any; and the comparison, where it is asked for
+abbrev pub links : Language → ElectionView → ℕ → (places : List ℕ) → List Part
+links l e k places = if length places == 0 then []
+    else paragraph (said l k) ++ block (codes "ul") [] (flat_map (linked e) places)
+
+unfoldable pub both_only : Language → CountedElectionView → List Part
+both_only l x = let e = x.election in let own = winners_of x.counted in let other = elected_by_votes e in
+    links l e key.ONLY_BY_SHARES (beside other own) ++ links l e key.ONLY_BY_VOTES (beside own other)
+
+unfoldable pub compared : Language → CountedElectionView → List Part
+compared l x = let rules = beside_votes x.election x.counted in
+    section l (codes " class='many'") (codes "compared") key.COMPARED_HEADING (table l (codes " class='wide'") key.COMPARED_CAPTION
+    (columns l [] key.COMPARED_RULE (key.COMPARED_WON ∷ key.COMPARED_COST ∷ key.WITHOUT ∷ key.MORE ∷ []))
+    (compared_row l key.EQUAL_SHARES rules.own ++ compared_row l key.MOST_VOTES rules.other)
+    ++ both_only l x)
+
 -- how many voters have a winner among theirs; and the row of so many winners
 abbrev pub got_said : Language → List ℕ → List Part
 got_said l won = paragraph (say l key.GOT (text (decimal (at_least 1 won)) ∷ number (codes "voters") (length won)
@@ -105,6 +141,26 @@ got_said l won = paragraph (say l key.GOT (text (decimal (at_least 1 won)) ∷ n
 
 abbrev pub exact_row : Language → List ℕ → ℕ → List Part
 exact_row l won n = ballots_row l key.EXACTLY n (exactly n won) won
+
+-- what is told of where the money of a project's supporters went, and how
+abbrev pub told_of : CountedElectionView → (place votes : ℕ) → Ending → Option MoneyView
+told_of x place votes (Won w) = None
+told_of x place votes (Added a) = None
+told_of x place votes (Lost lost) =
+    if nat_lt votes 5 then None else Some (money_of (paid_together x.election x.counted.outcome place))
+
+abbrev pub went_as : Language → ElectionView → Option MoneyView → (left : ℕ) → List Part
+went_as l e paid left = option_map_or (money_told l e left) paid []
+
+abbrev pub payment_told : Language → ElectionView → Payment → List Part
+payment_told l e p = item (say l key.PAID (amount l.amounts (codes "paid_for") p.amount ∷ element (codes "a")
+    (attribute (codes "href") (own (codes "#p-") ++ text (decimal p.place))) (isolated (called (project_at e p.place))) ∷ []))
+
+abbrev pub more_told : Language → ℕ → List Part
+more_told l others = if others == 0 then [] else item (say l key.PAID_MORE (amount l.amounts (codes "paid_more") others ∷ []))
+
+abbrev pub nothing_told : Language → Bool → List Part
+nothing_told l is_empty = if is_empty then item (said l key.PAID_NOTHING) else []
 
 -- the project of a row; and the row of a place in the table of the others
 abbrev pub project_of : ProjectRow → ProjectView
@@ -122,6 +178,9 @@ KnowsPlaces e (Over next) = All (λ place. place < length e.projects) next.only_
 abbrev pub only_then : Language → ElectionView → ℕ → List Part
 only_then l e place = let p = project_at e place in item (titled p ++ (own (codes " (")
     ++ (nameless (money_text p.cost) (text (shown l.costs p.cost)) ++ own (codes ")"))))
+
+abbrev pub then_listed : Language → ElectionView → (new : List ℕ) → List Part
+then_listed l e new = if length new == 0 then [] else listed l key.ONLY_THEN [] (flat_map (only_then l e) new)
 
 -- which of these winners are of a category, and what it has of them
 abbrev pub winners_in : Categories → List ℕ → ℕ → List ℕ

@@ -1,11 +1,12 @@
 -- The values that fill the places of markup, and what stands at the places of a sentence.
-use Rattle.std.specs.Prelude.{ℕ, List, [], ◌∷◌, codes, decimal, if◌then◌else◌, nat_lt, slice_index_or}
+use Rattle.std.specs.Prelude.{ℕ, List, [], ◌∷◌, ◌++◌, codes, decimal, if◌then◌else◌, nat_lt, slice_index_or}
 use Rattle.pb_core.specs.MoneyText.{money_text}
 use Rattle.pb_page.specs.Amount.{shown}
-use Rattle.pb_page.specs.Content.{Part, amount, attribute, element, isolated, nameless, noun_at, number, said, text}
+use Rattle.pb_page.specs.Content.{Part, amount, attribute, element, isolated, nameless, noun_at, number, own, said, text}
 use Rattle.pb_page.specs.Page.{width}
 use Rattle.pb_page.specs.Words.{sentence}
 use Rattle.pb_page.specs.Inner.Nouns.{noun}
+use Rattle.pb_page.specs.declared.keys.TheConstants as key
 use Rattle.pb_page.specs.declared.language.Language.{Language}
 use Rattle.pb_page.specs.declared.markup.value.Value.{Value}
 use Rattle.pb_page.specs.declared.markup.value.Value.TheVariants as value
@@ -24,7 +25,11 @@ text_of w (value.Width a whole) = decimal (width a whole)
 text_of w (value.Amount h) = money_text h
 text_of w (value.Shown h form) = shown form h
 
--- what stands at a place of a sentence
+-- the link to what is published; and what stands at a place of a sentence
+abbrev pub files_link : Language → (address : List ℕ) → List Part
+files_link l address =
+    element (codes "a") (own (codes " class='files'") ++ attribute (codes "href") (text address)) (said l key.FILES_LINK)
+
 abbrev pub at_place : Language → Place → List Part
 at_place l (place.Text t) = text t.now
 at_place l (place.Digits n) = text (decimal n)
@@ -34,6 +39,11 @@ at_place l (place.Number name n) = number name.now n
 at_place l (place.Amount name h form) = amount form name.now h
 at_place l (place.Nameless h form) = nameless (money_text h) (text (shown form h))
 at_place l (place.Called t) = isolated t.now
+at_place l (place.Said k) = said l k
+at_place l (place.Code t) = element (codes "code") [] (text t.now)
+at_place l (place.Project n name) =
+    element (codes "a") (attribute (codes "href") (own (codes "#p-") ++ text (decimal n))) (isolated name.now)
+at_place l (place.Files address) = files_link l address.now
 at_place l (place.Link address k) =
     element (codes "a") (attribute (codes "href") (text address.now)) (said l k)
 

@@ -9,11 +9,13 @@ returns c =
     (then_put _ _ _ _ _ _ c.in_ok-put_file.ensures
     (then_put _ _ _ _ _ _ c.in_ok-put_journal.ensures
     (then_put _ _ _ _ _ _ c.in_ok-put_own.ensures
+    (then_put _ _ _ _ _ _ c.in_ok-put_files.ensures
     (then_put _ _ _ _ _ _ c.in_ok-put_link.ensures
     (then_put _ _ _ _ _ _ c.in_ok-put_own-2.ensures
     (then_put _ _ _ _ _ _ c.in_ok-put_command.ensures
     (then_put _ _ _ _ _ _ c.in_ok-put_own-3.ensures
     (then_put _ _ _ _ _ _ c.in_ok-say_options.ensures
+    (then_put _ _ _ _ _ _ c.in_ok-put_name.ensures
     (then_put _ _ _ _ _ _ c.in_ok-say_made_by.ensures
-    c.put_own-4.ensures))))))))))
+    c.put_own-4.ensures))))))))))))
     (check_is c.args.facts.now c.args.rule.now)

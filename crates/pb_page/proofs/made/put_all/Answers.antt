@@ -11,7 +11,8 @@ returns c =
     (then_put _ _ _ _ _ _ c.in_ok-put_own-2.ensures
     (then_put _ _ _ _ _ _ c.in_ok-put-3.ensures
     (then_put _ _ _ _ _ _ c.in_ok-put_summary.ensures
+    (then_put _ _ _ _ _ _ c.in_ok-put_contents.ensures
     (then_put _ _ _ _ _ _ c.in_ok-put_own-3.ensures
     (then_put _ _ _ _ _ _ c.in_ok-put_sections.ensures
-    c.put_own-4.ensures))))))))
+    c.put_own-4.ensures)))))))))
     (page_is c.args.facts.now c.args.count.now c.args.end.now _ _ c.text.ensures c.text-2.ensures)

@@ -1,6 +1,8 @@
 use Rattle.std.proofs.Common.{◌≡◌, ◌∙◌, ap}
 use Rattle.pb_core.specs.Election.{ElectionView}
+use Rattle.pb_reasons.specs.CountedElection.{CountedElectionView}
 use Rattle.pb_reasons.specs.declared.project_reason.ProjectReason.{ProjectReason}
+use Rattle.pb_page.specs.Inner.Counted.{told_of}
 use Rattle.pb_page.specs.Page.{project_at, row_at}
 use Rattle.pb_page.proofs.Grown.{alike_put, then_put}
 use Rattle.pb_page.proofs.Blocks.{project_read}
@@ -12,12 +14,13 @@ returns c =
     let x = c.args.count.now in let p = c.index-projects-place.result in let reason = c.project-reason.ensures in
     let projects = c.projects-projects.ensures.projects ∙ ap (λ (e : ElectionView). e.projects) c.election-election.ensures.election in
     let project : p ≡ project_at x.election c.args.place =
-    project_read x.election _ c.args.place p c.requires projects c.index-projects-place.is in
+    project_read x.election _ c.args.place p c.requires.known projects c.index-projects-place.is in
     alike_put _ _ (row_at c.args.facts.now x c.args.place) _ _ (then_put _ _ _ _ _ _ c.in_ok-put.ensures
     (then_put _ _ _ _ _ _ c.in_ok-put_ended.ensures
     (then_put _ _ _ _ _ _ c.in_ok-put_category.ensures
     c.put_own.ensures)))
-    (row_is c.args.facts.now x c.args.place p _ _ _ _ _ _ _ project c.id.ensures.id c.name.ensures c.cost.ensures.cost
+    (row_is c.args.facts.now x c.args.place p _ _ _ _ _ _ _ _ _ c.election-election.ensures.election
+    (c.in_ok-paid.ensures ∙ ap (λ (m : CountedElectionView). told_of m c.args.place c.project-reason.result.votes c.project-reason.result.ending) c.requires.same) project c.id.ensures.id c.name.ensures c.cost.ensures.cost
     (rw c.rule.ensures at c.short_key.ensures)
     (c.budget.ensures.budget ∙ ap (λ (e : ElectionView). e.budget) c.election-election.ensures.election)
     (ap (λ (r : ProjectReason). r.votes) reason) (ap (λ (r : ProjectReason). r.ending) reason))

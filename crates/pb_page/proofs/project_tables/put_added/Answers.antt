@@ -7,8 +7,8 @@ use Rattle.pb_page.proofs.Grown.{alike_put, then_put}
 use Rattle.pb_page.proofs.Tables.{added_are}
 use Rattle.pb_page.proofs.project_tables.put_added.Goals as goal
 
-pub put_added_rows-requires : goal.put_added_rows-requires
-put_added_rows-requires c =
+pub put_added_rows-requires-clause-known : goal.put_added_rows-requires-clause-known
+put_added_rows-requires-clause-known c =
     let x = c.args.count.now in
     rw c.added-places.ensures ((result_is_added x.election x.counted c.election-election.ensures.is_counted.is_election (counted_is_result x c.election-election.ensures.is_counted)).known)
 

@@ -15,7 +15,7 @@ loop-winner-preserved c =
     row_more (λ (w : ElectedView). row_at c.args.facts.now c.args.count.now w.place) _ _ _ _ _ _ c.loop-winner-test.true c.winner-item.is
     c.loop-winner.invariant (subst Puts place c.in_ok-put_row.ensures)
 
-pub put_row-requires : goal.put_row-requires
-put_row-requires c =
+pub put_row-requires-clause-known : goal.put_row-requires-clause-known
+put_row-requires-clause-known c =
     let place = ap (λ (w : ElectedView). w.place) c.winner.view_is in
-    rw (place, c.winner-item.is) (c.requires c.loop-winner.winner-index _ c.loop-winner-test.true)
+    rw (place, c.winner-item.is) (c.requires.known c.loop-winner.winner-index _ c.loop-winner-test.true)

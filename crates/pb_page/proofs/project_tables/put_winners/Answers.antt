@@ -9,8 +9,8 @@ use Rattle.pb_page.proofs.Grown.{alike_put, then_put}
 use Rattle.pb_page.proofs.Tables.{no_winners, winners_are}
 use Rattle.pb_page.proofs.project_tables.put_winners.Goals as goal
 
-pub put_elected_rows-requires : goal.put_elected_rows-requires
-put_elected_rows-requires c =
+pub put_elected_rows-requires-clause-known : goal.put_elected_rows-requires-clause-known
+put_elected_rows-requires-clause-known c =
     rw (c.elected_of-elected.ensures, c.outcome.ensures.outcome)
     ((counted_can_be_told c.args.count.now c.outcome.ensures.is_counted).known)
 

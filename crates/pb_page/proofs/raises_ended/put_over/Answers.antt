@@ -4,10 +4,11 @@ use Rattle.pb_page.proofs.Grown.{alike_put, then_put}
 use Rattle.pb_page.proofs.Parts.{over_is}
 use Rattle.pb_page.proofs.raises_ended.put_over.Goals as goal
 
+pub put_then-requires : goal.put_then-requires
+put_then-requires c = rw (c.as_slice-places.ensures.value, c.election.ensures.election) c.requires
+
 pub returns : goal.returns
 returns c =
-    alike_put _ _ (raises_ended c.args.language.now c.args.election.now (Over c.args.next.now)) _ _ (then_put _ _ _ _ _ _ c.in_ok-say_item.ensures
-    (then_put _ _ _ _ _ _ c.in_ok-put.ensures
-    (then_put _ _ _ _ _ _ c.in_ok-put_projects.ensures
-    c.put_own.ensures)))
-    (over_is c.args.language.now c.args.election.now c.args.next.now _ c.as_slice.ensures.value)
+    alike_put _ _ (raises_ended c.args.language.now c.args.count.now (Over c.args.next.now)) _ _
+    (then_put _ _ _ _ _ _ c.in_ok-say_item.ensures c.put_then.ensures)
+    (over_is c.args.language.now c.args.count.now c.args.next.now _ _ _ c.election.ensures.election c.winners.ensures c.as_slice-places.ensures.value)

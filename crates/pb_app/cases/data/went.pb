@@ -1,0 +1,17 @@
+META
+key;value
+budget;120
+vote_type;approval
+PROJECTS
+project_id;cost;name
+a;30;Benches
+b;45;Trees
+c;90;Playground
+VOTES
+voter_id;vote
+v1;a,b,c
+v2;a,b,c
+v3;a,b,c
+v4;a,c
+v5;a,c
+v6;a

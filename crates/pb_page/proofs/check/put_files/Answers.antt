@@ -1,0 +1,8 @@
+use Rattle.pb_page.proofs.Grown.{none}
+use Rattle.pb_page.proofs.check.put_files.Goals as goal
+
+pub returns-in-Some : goal.returns-in-Some
+returns-in-Some c = rw c.in-Some.is c.say_paragraph.ensures
+
+pub returns-in-None : goal.returns-in-None
+returns-in-None c = rw c.in-None.is (none c.args.page.now.items)

@@ -1,0 +1,111 @@
+//! The projects that one rule elects and another does not.
+
+ghost use Rattle.std.specs.Prelude.{◌≡◌, ◌<◌, All, IfOk, OnOk, flat_map, length};
+ghost use Rattle.pb_page.specs.Inner.Counted.{links};
+ghost use Rattle.pb_page.specs.Inner.Grown.{Grows};
+ghost use Rattle.pb_page.specs.Page.{beside, linked};
+
+use crate::language::Language;
+use crate::markup::Value;
+use crate::put::{put, put_own};
+use crate::templates::{LINKED, LINKS_CLOSING, LINKS_OPENING};
+use crate::ties::called_at;
+use pb_core::election::Election;
+use pb_core::no_memory::NoMemory;
+use pb_reasons::Winners;
+use std::alloc::Global;
+
+/// What is told of a rule beside another: by places, whom each elects.
+#[derive(Clone, Copy)]
+pub(crate) struct OnlyBy<'a> {
+    /// The key of what stands above those that only this rule elects.
+    pub said: u16,
+    pub winners: &'a [u32],
+    pub other: &'a [u32],
+}
+
+/// Those that only this rule elects, each a link to its row; nothing where there are none.
+pub(crate) fn put_only(
+    page: &mut Vec<u8>,
+    language: &Language,
+    election: &Election,
+    rule: OnlyBy<'_>,
+) -> Result<(), NoMemory>
+    requires { All (λ place. place < length election.now.projects) rule.winners.now }
+    ensures { OnOk result (Grows page.old.items page.new.items (links language.now election.now
+        rule.entry.said (beside rule.entry.other.now rule.entry.winners.now))) }
+{
+    let other = Winners::of(*page.allocator(), election, rule.other)?;
+    let places = beside(*page.allocator(), &other, rule.winners);
+    drop(other);
+    let places = places?;
+    let put = put_links(page, language, election, rule.said, places.as_slice());
+    drop(places);
+    put
+}
+
+/// Those of these places that are none of the winners.
+pub(crate) fn beside(alloc: Global, winners: &Winners, places: &[u32]) -> Result<Vec<u32>, NoMemory>
+    requires { All (λ place. place < length winners.now.0.projects) places.now }
+    ensures { IfOk result (λ others. others.items ≡ beside winners.now.1 places.now) }
+{
+    let mut others = Vec::new(alloc);
+    for place in places {
+        if !winners.has(*place) {
+            others.push(*place)?;
+        }
+    }
+    Ok(others)
+}
+
+/// Links to the rows of these places below what is said of them; nothing where there are none.
+#[tactic(auto, using(crate::proofs::Grown::none))]
+fn put_links(
+    page: &mut Vec<u8>,
+    language: &Language,
+    election: &Election,
+    said: u16,
+    places: &[u32],
+) -> Result<(), NoMemory>
+    ensures { OnOk result (Grows page.old.items page.new.items (links language.now election.now said places.now)) }
+{
+    if places.is_empty() {
+        return Ok(());
+    }
+    put(page, language, LINKS_OPENING, &[Value::Said(said)])?;
+    put_each(page, language, election, places)?;
+    put_own(page, LINKS_CLOSING)
+}
+
+/// A link to each of these places.
+fn put_each(
+    page: &mut Vec<u8>,
+    language: &Language,
+    election: &Election,
+    places: &[u32],
+) -> Result<(), NoMemory>
+    ensures { OnOk result (Grows page.old.items page.new.items (flat_map (linked election.now) places.now)) }
+{
+    for place in places {
+        put_link(page, language, election, *place)?;
+    }
+    Ok(())
+}
+
+/// A link to the row of the project at this place.
+fn put_link(
+    page: &mut Vec<u8>,
+    language: &Language,
+    election: &Election,
+    place: u32,
+) -> Result<(), NoMemory>
+    ensures { OnOk result (Grows page.old.items page.new.items (linked election.now place)) }
+{
+    let name = called_at(election, place);
+    put(
+        page,
+        language,
+        LINKED,
+        &[Value::Small(place), Value::Text(name)],
+    )
+}
