@@ -76,6 +76,14 @@ STARTS = [
     ("<h2 id='budget'>", "<h2 id='p-3'>", '<h2> with the id “p-3”, which is no project\'s row'),
     ("<h2 id='others'>", "<h2 id='winners'>", 'a second <h2> with the id “winners”'),
 ]
+STARTS += [(text, link + text, '<a> that is no link to the files or to a recount') for text, link in [
+    # A link in a sentence of another section, and in the last one an address that the program refuses, and a second link.
+    ('These projects win by this count', "<a href='https://example.org/'>The true result</a> "),
+    ('These projects win by this count', "<a href='#p-3'>Tree has won</a> "),
+    ('The name of this rule is', "<a href='javascript:alert(1)'>here</a> "),
+    ('The name of this rule is', "<a href='data:,x'>here</a> "),
+    ('The name of this rule is', "<a href='a.html'>here</a> <a href='b.html'>there</a> "),
+]]
 # Links to rows of the projects that only one rule elects, and to sections.
 ONLY, ONLY_TREE = 'the projects that only one of both rules elects', "<li><a href='#p-3'><bdi dir='auto'>Tree</bdi></a></li>"
 WINNERS, ADDED, OTHERS = ["<li><a href='#winners'>The winners</a></li>\n", "<li><a href='#added'>Added by votes</a></li>\n",

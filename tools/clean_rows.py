@@ -68,7 +68,8 @@ WORDS = {
     'BadMoney': 'an amount is digits, with at most one point or comma: no currency, no letters, no footnotes; if it is '
         'below 0, find out the right one, and do not just delete the sign; write it in full (`12k` may be 12000, '
         '`12$50` may be 12.50, `25%` is a part of another amount); if a word such as `net`, `each` or `a year` is beside it, ask for the whole cost',
-    'MoneyTooFine': 'more than two decimals: if that is meant, name `--round half-up`, `down` or `up`',
+    'MoneyTooFine': 'more than two decimals: if amounts are in thousands or millions, write all in full; if decimals '
+        'are meant, name `--round half-up`, `down` or `up`',
     'MoneyTooLarge': 'the amount has too many digits',
     'ZeroCost': 'the cost is 0: write it, or drop the project and the votes for it by `--drop-zero-cost`',
     'EmptyId': 'the id is empty: fill it in (that of the voter above, if the row is part of that ballot); if the '
@@ -343,7 +344,8 @@ class Cleaner:
         for row in section.above if section.names else section.above[:1]:
             if not section.names:
                 found = [it for it in map(seen, re.split('[;,\t]', ';'.join(row.fields))) if it]
-                is_each = len({seen(it.fields[0]) for it in self.projects.rows()} & {*found}) > 1
+                parts = {*(map(seen, row.fields) if len(row.fields) > 1 else found)}
+                is_each = len({seen(it.fields[0]) for it in self.projects.rows()} & parts) > 1
                 self.refuse(row, 'a column each' if is_each else 'MissingColumn', shown(', '.join(found)),
                             ' in one field' * (len(row.fields) == 1))
             elif sum(map(bool, map(seen, row.fields))) > 1:
@@ -466,6 +468,8 @@ class Cleaner:
         # Beside the vote, columns without a name, or named as those of votes are, hold no ids.
         bare = {at for at, it in enumerate(names) if not self.is_cut and (
             at > vote and not it or at != vote and it in ('vote', 'project_id'))}
+        # Where a vote is a list with commas, other signs in votes may say something else.
+        self.has_lists = any(self.is_list(row.fields[vote]) for row in rows)
         # The first row of each voter, all rows of those who have several, and the votes that are judged.
         voters, repeated, odd = {}, {}, {}
         for row in rows:
@@ -492,14 +496,27 @@ class Cleaner:
             if len({*map(trimmed, row.fields[vote].split(','))}) > 1:
                 self.refuse(row, 'not choose-1')
 
-    def pieces_of(self, text):
-        """The ids that a vote names, what had to be mended to read them, and those that no project has."""
+    def is_list(self, text):
+        """Whether a vote names several projects, with nothing to be mended."""
+        pieces = {*filter(None, (it.strip(WHITE_SPACE) for it in text.split(',')))} if ',' in text else ()
+        return len(pieces) > 1 and self.ids.keys() >= pieces
+
+    def repairs_of(self, text):
+        """What is mended in a vote. Beside commas a bar may be an `or`, and beside votes that are lists without
+        brackets, these may say that one does not count, unless a program wrote them, as quotation marks show."""
+        is_program = not {*text}.isdisjoint('\'"') or not text.strip('c[](){} ')
+        doubted = {'bars': self.has_lists or ',' in text, 'brackets': self.has_lists and not is_program}
+        return [it for it in self.repairs if not doubted.get(it[1])]
+
+    def pieces_of(self, text, is_own=True):
+        """The ids that a vote names, what had to be mended to read them, and those that no project has; or
+        those of a field beside the vote."""
         pieces = [*filter(None, [it.strip(WHITE_SPACE) for it in text.split(',')])]
         if self.ids.keys() >= {*pieces}:
             return pieces, (), ()
         text = ','.join(map(seen, pieces))
         kinds = {UNSEEN: 1} if text != ','.join(pieces) else {}
-        text, more = mended(text, self.repairs)
+        text, more = mended(text, self.repairs_of(text) if is_own else self.repairs)
         found = [*filter(None, text.split(','))]
         pieces = [it if it in self.ids else self.floats.get(it, it) for it in found]
         kinds |= more | ({'point and zero': 1} if pieces != found else {})
@@ -557,7 +574,7 @@ class Cleaner:
 
     def is_vote(self, text, is_sure):
         """Whether a field beside the vote is a list of ids, or (if this is sure) the id of a project."""
-        pieces = self.pieces_of(text)[0]
+        pieces = self.pieces_of(text, False)[0]
         forms, wanted = ({re.sub('[0-9]+', '0', it) for it in them} for them in (self.forms, pieces))
         return (is_sure or len(pieces) > 1) and not self.ids.keys().isdisjoint(pieces) and forms >= wanted
 

@@ -12,7 +12,7 @@ const OTHERS: &str = "voter_id|comment|remark|remarks|note|notes|against|rejecte
 const OF_VOTERS: &str =
     "age|age_group|sex|gender|voting_method|channel|station|polling_station|ward|district|\
     subdistrict|neighborhood|unit|subunit|education|votes|class|school_class|klasa|form|group|\
-    year_group|team|house|building";
+    year_group|team|house|building|room|table|desk|urn";
 
 /// Words in the name of a column that holds votes.
 const OF_VOTES: &str = "vote|choice|second|third|preference|project|option|selection";

@@ -27,6 +27,9 @@ pub enum Cause {
     NamesAgain,
     /// It is several ids with this between them, or with nothing.
     OnLines,
+    /// It is several ids with a line end between them, and votes have commas: a line may be another vote, or
+    /// the rest of an id.
+    TwoLines,
     Blanks,
     Bars,
     Marks,
@@ -34,8 +37,9 @@ pub enum Cause {
     /// It is an id with this around it.
     Brackets,
     Quotes,
-    /// It is an id in brackets, and not the whole vote is.
+    /// It is an id in brackets, and not the whole vote is; or the vote is, but not all lists are.
     OneInBrackets,
+    SomeInBrackets,
     /// It is an id, or several, that a program or a spreadsheet changed.
     PointZero,
     Decimal,
@@ -50,8 +54,9 @@ pub enum Cause {
     Tick,
     /// It is alike the id of a project, in the vote or (where true) in PROJECTS.
     Alike(Difference, bool),
-    /// It is alike the ids of several projects.
+    /// It is alike the ids of several projects; or that of one begins with it.
     Several,
+    Begun,
     /// It is a project's name, or stands in one; or is an id and more: a range, several with a word between,
     /// or another.
     Name,
@@ -125,6 +130,12 @@ const BETWEEN: [(char, Cause); 9] = [
     ('&', Cause::Marks),
 ];
 
+/// What is around ids in a list that a program wrote.
+const LIST_QUOTES: &str = "'\"";
+
+/// What is a comma in other scripts.
+const OTHER_COMMAS: &str = "\u{ff0c}\u{3001}\u{60c}";
+
 /// Why a vote names this id, which no project has, and the place of the project that it is about. The file
 /// has a column for each project, or not.
 pub(crate) fn cause_of(
@@ -140,6 +151,7 @@ pub(crate) fn cause_of(
         Some(Cause::Nothing) if unknown.is_beside && id == "0" => Some(Cause::Places),
         Some(Cause::Nothing) if unknown.is_beside => Some(Cause::Beside),
         Some(Cause::Brackets) if !unknown.is_in_brackets => Some(Cause::OneInBrackets),
+        Some(cause) if witness.rows.have_commas() => Some(beside_lists(cause, id, witness)),
         plain => plain,
     };
     if let Some(cause) = plain {
@@ -155,6 +167,9 @@ pub(crate) fn cause_of(
             return Ok((cause, project));
         }
     }
+    if let Some(place) = projects.begun(id) {
+        return Ok((Cause::Begun, Some(place)));
+    }
     match last_cause(id, witness, projects) {
         (Cause::Unknown, _)
             if (unknown.is_beside || has_digit(id)) && projects.has_form(id, true)? => {
@@ -163,6 +178,20 @@ pub(crate) fn cause_of(
         (Cause::Unknown, _) if projects.has_form(id, false)? => Ok((Cause::Near, None)),
         (Cause::Unknown, _) => Ok((Cause::OtherForm, None)),
         other => Ok(other),
+    }
+}
+
+/// What this cause of an id is where other votes are lists with commas: there another sign between ids, or
+/// brackets around some votes, may say more.
+fn beside_lists(cause: Cause, id: &str, witness: &Witness) -> Cause {
+    let is_quoted = id.contains(|c: char| LIST_QUOTES.contains(c));
+    let has_comma = id.contains(|c: char| OTHER_COMMAS.contains(c));
+    match cause {
+        Cause::OnLines => Cause::TwoLines,
+        Cause::Blanks | Cause::Bars => Cause::Range,
+        Cause::Marks if !has_comma => Cause::Range,
+        Cause::Brackets if witness.rows.has_list && !is_quoted => Cause::SomeInBrackets,
+        cause => cause,
     }
 }
 

@@ -17,7 +17,11 @@ const VALID: &str =
     "valid|is_valid|invalid|accepted|status|withdrawn|cancelled|deleted|duplicate|counted|finished|\
     completed|round|wazny|ważny|gueltig|gültig|platny|platný|geldig|valide";
 
-const BEGINNINGS: &str = "withdrawn|cancelled|invalid|removed|rejected_";
+const BEGINNINGS: &str = "withdrawn|cancelled|invalid|removed|rejected_|deleted_|revoked|voided";
+
+/// What columns of votes are called that say of some rows that they are trials, or no longer true.
+const MARKED: &str =
+    "environment|env|sys_end|sysend|sys_end_time|system_end|row_end|valid_to|effective_to|end_date";
 
 /// Those of them that may have something else, and others that may.
 const VALID_OR_MORE: &str = "status|accepted|finished|completed|voted|has_voted";
@@ -75,6 +79,8 @@ pub(crate) enum Has {
     Cards,
     /// Rounds of votes.
     Rounds,
+    /// A mark of rows that are trials, or true for ever.
+    Marked,
     /// The ids of other rows of the section.
     Others,
 }
@@ -120,6 +126,7 @@ impl Has {
         match self {
             Has::Valid if is_one_of(NOTES, name) => is_votes.then_some(Has::Remarks),
             Has::Valid if name.eq_ignore_ascii_case("round") => is_votes.then_some(Has::Rounds),
+            Has::Valid if is_one_of(MARKED, name) => is_votes.then_some(Has::Marked),
             Has::Valid if is_one_of(VALID_OR_MORE, name) => Some(Has::ValidOrMore),
             Has::Valid if is_of_validity(name) => Some(Has::Valid),
             Has::Valid => (!is_votes && is_one_of(CURRENCIES, name)).then_some(Has::Currencies),

@@ -1,6 +1,6 @@
 //! Columns of PROJECTS and VOTES that no count reads, and that may say what should count.
 
-use crate::changed::{has_digit, has_part, is_digits, is_one_of};
+use crate::changed::{begins, has_digit, has_part, is_digits, is_one_of};
 use crate::column_kinds::{Has, NUMBERS, POINTS};
 use crate::meta_oddities::whole_number;
 use crate::oddities::Subject;
@@ -11,6 +11,11 @@ const STATES: &str =
     "valid|invalid|yes|no|1|0|true|false|accepted|rejected|refused|approved|withdrawn|cancelled|\
     canceled|deleted|removed|counted|not counted|void|ok|eligible|ineligible|disqualified|duplicate|\
     blank|spoiled|spoilt|tak|nie|ja|nein|oui|non|si|ano|ne|nee|y|n|t|f|x";
+
+/// What a mark says of votes that are trials, and how it begins where they are true for ever.
+const TRIALS: &str = "test|testing|tests|staging|stage|demo|training|trial|sandbox|dev|development";
+
+const FOR_EVER: &str = "9999-12-31|infinity|31.12.9999|12/31/9999|31/12/9999";
 
 /// What a remark says of a vote that should not count, and how many of a column are looked at: more are no
 /// exceptions.
@@ -177,7 +182,7 @@ impl FurtherColumn {
             }
             Has::Points | Has::Ballots => {}
             Has::Remarks | Has::Currencies if value.is_empty() => {}
-            Has::Valid | Has::ValidOrMore | Has::Rounds | Has::Currencies => {
+            Has::Valid | Has::ValidOrMore | Has::Rounds | Has::Marked | Has::Currencies => {
                 return self.take_state(value, odd, found);
             }
             Has::Remarks if has_part(REMARKS, value) => self.tell(odd, found),
@@ -230,8 +235,11 @@ impl FurtherColumn {
         let is_number = |text: &str| is_digits(text) && !is_one_of("0|1", text);
         let is_state = is_one_of(STATES, value) || is_one_of(STATES, first);
         let differs = !value.eq_ignore_ascii_case(first);
+        let is_mark = |text: &str| is_one_of(TRIALS, text)
+            || FOR_EVER.split('|').any(|it| begins(text, it));
         match self.has {
             Has::Currencies => differs,
+            Has::Marked => differs && (is_mark(value) || is_mark(first)),
             Has::ValidOrMore => differs && is_state && !is_number(value) && !is_number(first),
             _ => differs && (is_state || value.is_empty() != first.is_empty()),
         }

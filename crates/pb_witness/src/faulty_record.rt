@@ -17,6 +17,9 @@ use std::str;
 /// The longest id at the end of a text that is looked for, in bytes.
 const LONGEST_END: usize = 20;
 
+/// Characters that end a line elsewhere.
+const OTHER_LINE_ENDS: &str = "\u{85}\u{2028}\u{2029}";
+
 /// A record that the reader refused.
 #[derive(Drop)]
 pub struct FaultyRecord {
@@ -118,6 +121,11 @@ impl FaultyRecord {
         if is_broken { span.escaped } else { None }
     }
 
+    /// Whether a field has a line end that the reader does not take for one.
+    pub fn has_other_line_end(&self) -> bool {
+        self.has(|field| field.contains(|c: char| OTHER_LINE_ENDS.contains(c)))
+    }
+
     /// Whether the name of a needed column is there, but for characters beside it that can't be seen.
     pub fn has_hidden_column(&self) -> bool {
         self.has(|name| {
@@ -126,10 +134,16 @@ impl FaultyRecord {
         })
     }
 
-    /// The place of the first column name that has this one in it, but for spaces and punctuation.
-    pub fn nearly(&self, alloc: Global, column: &str) -> Result<Option<usize>, AllocError> {
+    /// The place of the first column name from this place on that has this one in it, but for spaces and
+    /// punctuation.
+    pub fn nearly(
+        &self,
+        alloc: Global,
+        column: &str,
+        from: usize,
+    ) -> Result<Option<usize>, AllocError> {
         let column = letters_of(alloc, column)?;
-        for place in 0..self.record.len() {
+        for place in from..self.record.len() {
             let name = text_at(&self.record, place);
             let is_other = is_column(name);
             let name = letters_of(alloc, name)?;
@@ -169,16 +183,9 @@ impl FaultyRecord {
         !self.value().is_empty() && ids.are_all(self.value())
     }
 
-    /// Whether it is a vote without a voter in the last row of VOTES, and the first row has a voter without a
-    /// vote, as where the column `vote` has slid down by one cell.
-    pub fn is_slid<R: Files>(&self, text: &Text<'_, R>) -> bool {
-        let (id, vote) = self.places();
-        let is_kind = self.kind() == ReadKind::EmptyId && self.is_of_votes();
-        if !is_kind || !text.is_last(self.mark) {
-            return false;
-        }
-        let first = text.row_behind(self.seen.names);
-        first.is_some_and(|row| !text_at(&row, id).is_empty() && text_at(&row, vote).is_empty())
+    /// Whether it is the first row below the column names.
+    pub fn is_first_row(&self) -> bool {
+        self.seen.last.at == self.seen.names.at
     }
 
     /// Whether it is META's head with commas behind it, and the row below ends in commas too, but has `;`.
@@ -215,7 +222,7 @@ impl FaultyRecord {
 
     /// Whether it is the first row of VOTES, and all its fields are texts without a digit, as titles are.
     pub fn has_titles(&self) -> bool {
-        let is_first = self.record.len() > 1 && self.seen.last.at == self.seen.names.at;
+        let is_first = self.record.len() > 1 && self.is_first_row();
         let has_other = self.has(|field| field.is_empty() || has_digit(field));
         is_first && !has_other && !is_nothing(self.value()) && self.is_of_votes()
     }
@@ -247,6 +254,8 @@ impl FaultyRecord {
 
     /// What stands between a voter and a vote, if it is a row of VOTES with one of two fields that has both:
     /// before the first comma an id like the first voter's and that of a project, behind it ids of projects.
+    /// Of the first row it is the voter behind it; and where that row is one field too, what stands there
+    /// before the same sign.
     pub fn joined_vote<R: Files>(&self, text: &Text<'_, R>, ids: &Ids) -> Option<&str> {
         let field = self.at(0);
         let (first, rest) = field.split_once(',').unwrap_or((field, ""));
@@ -254,17 +263,26 @@ impl FaultyRecord {
         if !is_kind || self.record.len() != 1 || self.seen.columns != 2 || !ids.are_all(rest) {
             return None;
         }
-        let row = text.row_behind(self.seen.names)?;
-        let form = form_of(text.alloc, text_at(&row, self.places().0), false).ok()?;
+        let is_first = self.is_first_row();
+        let row = text.row_behind(if is_first { self.mark } else { self.seen.names })?;
+        let other = text_at(&row, self.places().0);
         let begin = first.len().saturating_sub(LONGEST_END).max(1);
         for place in begin..first.len() {
             let tail = first.as_bytes().get(place..).unwrap_or(b"");
             let tail = str::from_utf8(tail).unwrap_or("");
             let front = first.strip_suffix(tail).unwrap_or("");
             let voter = front.trim_end_matches(|c: char| !c.is_alphanumeric());
+            if !ids.projects.has(tail) {
+                continue;
+            }
             let own = form_of(text.alloc, voter, false).ok()?;
-            if ids.projects.has(tail) && own.as_str() == form.as_str() {
-                return front.strip_prefix(voter);
+            let sign = front.strip_prefix(voter)?;
+            let other = match before_votes(other, sign, ids) {
+                Some(before) if row.len() == 1 => form_of(text.alloc, before, false).ok()?,
+                _ => form_of(text.alloc, other, false).ok()?,
+            };
+            if own.as_str() == other.as_str() {
+                return Some(sign);
             }
         }
         None
@@ -425,6 +443,12 @@ impl FaultyRecord {
             .filter(|_| self.kind() == ReadKind::MissingColumn);
         joined?.separators()
     }
+}
+
+/// What stands before this sign in a field, if ids of projects stand behind it.
+fn before_votes<'f>(field: &'f str, sign: &str, ids: &Ids) -> Option<&'f str> {
+    let (voter, vote) = field.split_once(sign).filter(|_| !sign.is_empty())?;
+    (ids.have_one(vote) && ids.are_all(vote)).then_some(voter)
 }
 
 /// Whether the last field of a row ends with `=` behind something else.

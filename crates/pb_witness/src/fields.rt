@@ -64,6 +64,7 @@ pub enum JoinedBy {
     /// It has no `;`, and these seem to separate its fields.
     Tabs,
     Commas,
+    Bars,
 }
 
 impl JoinedBy {
@@ -73,6 +74,7 @@ impl JoinedBy {
             JoinedBy::Quotes => None,
             JoinedBy::Tabs => Some("tabs"),
             JoinedBy::Commas => Some("commas"),
+            JoinedBy::Bars => Some("bars (`|`)"),
         }
     }
 }
@@ -90,6 +92,9 @@ pub fn joined(record: &ByteRecord) -> Option<JoinedBy> {
         return None;
     }
     let field = bytes_at(record, 0);
+    if field.starts_with(b"|") {
+        return Some(JoinedBy::Bars);
+    }
     let (_, joined) = MARKS.iter().find(|(mark, _)| field.contains(mark))?;
     Some(*joined)
 }

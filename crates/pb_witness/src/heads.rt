@@ -90,12 +90,14 @@ pub fn odd_head_of(record: &ByteRecord, mark: Mark) -> Option<OddHead> {
     })
 }
 
-/// Where META's head stands behind the record with this mark.
-pub fn late_meta<R: Files>(text: &Text<'_, R>, first: Mark) -> Option<Mark> {
+/// Where META's head stands behind the record with this mark, and whether another head is before it.
+pub fn late_meta<R: Files>(text: &Text<'_, R>, first: Mark) -> Option<(Mark, bool)> {
     let mut records = text.record_at(first)?;
     let is_meta = |row: &ByteRecord| text_at(row, 0).eq_ignore_ascii_case("META");
-    let is_found = records.find(MOST_BEFORE_META, is_meta);
+    let _ = records.find(MOST_BEFORE_META, |row| is_head(text_at(row, 0)));
+    let is_behind = !is_meta(&records.last);
+    let is_found = !is_behind || records.find(MOST_BEFORE_META, is_meta);
     let mark = records.mark();
     drop(records);
-    if is_found { Some(mark) } else { None }
+    is_found.then_some((mark, is_behind))
 }

@@ -6,6 +6,7 @@ use crate::meta_oddities::whole_number;
 use crate::prelude::*;
 use crate::project_oddities::has_total;
 use crate::vote_oddities::has_space;
+use pb_read::MetaKey;
 
 /// The fewest voters above a row that is no voter.
 const FEWEST: usize = 2;
@@ -57,7 +58,9 @@ impl LastVote {
         };
         let id = last.id.text();
         let (is_total, is_spaced, is_word) = (has_total(id), has_space(id), !has_digit(id));
-        let may_be = !id.is_empty() && (is_total || is_spaced || is_word);
+        let may_be = !id.is_empty()
+            && MetaKey::of(id).is_none()
+            && (is_total || is_spaced || is_word);
         if above.len() < FEWEST || last.ballot.places().is_empty() || !may_be {
             return false;
         }

@@ -27,6 +27,7 @@ pub mod last_rows;
 mod last_vote;
 pub mod mark;
 mod meta_oddities;
+mod moved_cells;
 pub mod oddities;
 pub mod page_notes;
 mod prelude;

@@ -93,6 +93,9 @@ impl ProjectOddities {
         if has_thousands_mark(row.value()) {
             found.take(row.odd(Oddity::ThousandsMark));
         }
+        if row.has_key() {
+            found.take(row.odd(Oddity::FooterRow).in_form(5));
+        }
         self.take_cut(row, found);
         let name = row.at(self.name.unwrap_or(usize::MAX));
         self.twins.take(row, name, found)?;

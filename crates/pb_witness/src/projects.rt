@@ -176,6 +176,17 @@ impl Projects {
         self.rows.get(place as usize)
     }
 
+    /// The place of the first project whose id is this one and more, of which the next is no digit.
+    pub(crate) fn begun(&self, id: &str) -> Option<u32> {
+        let is_more = |rest: &str| rest.starts_with(|c: char| !c.is_ascii_digit());
+        let place = self.rows.iter().position(|row| row
+            .id
+            .as_str()
+            .strip_prefix(id)
+            .is_some_and(is_more))?;
+        u32::try_from(place).ok().filter(|_| has_digit(id))
+    }
+
     /// Whether no id has this character.
     pub(crate) fn lacks(&self, c: char) -> bool {
         !self.rows.iter().any(|row| row.id.contains(c))

@@ -1,6 +1,7 @@
 //! A row of PROJECTS or VOTES that is accepted.
 
 use crate::prelude::*;
+use pb_read::MetaKey;
 
 /// What META asks of ballots, beside the most projects that one may name.
 #[derive(Clone, Copy, Default)]
@@ -50,6 +51,11 @@ impl<'a> Row<'a> {
     /// Its id.
     pub(crate) fn id(&self) -> &'a str {
         self.at(self.places().0)
+    }
+
+    /// Whether its id is a key of META that the count uses, as where a row of META stands in this section.
+    pub(crate) fn has_key(&self) -> bool {
+        MetaKey::of(self.id()).is_some()
     }
 
     /// Its cost or its vote.

@@ -34,6 +34,10 @@ pub struct VoteRows {
     pub voters_repeated: u64,
     /// Whether a row names several projects.
     has_long: bool,
+    /// Whether a vote that is accepted names several projects, where some are refused for an unknown id; and
+    /// whether one of these has a comma.
+    pub(crate) has_list: bool,
+    pub(crate) has_comma: bool,
     /// Of each project up to the last one that a vote names whether a vote names it.
     named: Vec<bool>,
 }
@@ -54,6 +58,8 @@ impl VoteRows {
             rows_repeated: 0,
             voters_repeated: 0,
             has_long: false,
+            has_list: false,
+            has_comma: false,
             named: Vec::new(alloc),
         }
     }
@@ -112,9 +118,15 @@ impl VoteRows {
         self.named.get(place as usize) == Some(&true)
     }
 
+    /// Whether a vote has commas between its ids, so that another sign there may not stand for one.
+    pub(crate) fn have_commas(&self) -> bool {
+        self.has_list || self.has_comma
+    }
+
     /// Takes the projects that these ballots name.
     pub(crate) fn name_all(&mut self, election: &Election) -> Result<(), AllocError> {
         for voter in election.voters() {
+            self.has_list |= voter.ballot.places().len() > 1;
             for place in voter.ballot.places() {
                 self.name(*place)?;
             }

@@ -1,7 +1,7 @@
 //! What is odd in VOTES.
 
-use crate::behind_vote::BehindVote;
-use crate::changed::{form_of, has_one_of, is_one_of, without_hidden};
+use crate::behind_vote::{BehindVote, names_other};
+use crate::changed::{form_of, has_digit, has_one_of, is_decimal, is_one_of, without_hidden};
 use crate::columns::FurtherColumns;
 use crate::last_vote::LastVote;
 use crate::meta_oddities::whole_number;
@@ -17,7 +17,7 @@ const SIGNED: &str = "signed|signature|podpis|unterschrift";
 const NOTHING: &str = "na|n/a|nan|nil|none|null";
 
 /// The fewest rows whose number a last row has.
-const FEWEST_ROWS: u64 = 3;
+const FEWEST_ROWS: u64 = 5;
 
 /// What is odd in VOTES, as its rows are read.
 #[derive(Drop)]
@@ -41,6 +41,8 @@ pub(crate) struct VoteOddities {
     /// Whether it has a text beside its id.
     first_has_more: bool,
     first_note: Option<Odd>,
+    /// How many rows have a field more than there are column names, and their own number as their id.
+    numbered: u64,
     /// The first row whose id begins as what programs leave out, measured by how many there are.
     left_out: Option<Odd>,
     rankings: Rankings,
@@ -68,6 +70,7 @@ impl VoteOddities {
             first_empty: None,
             first_has_more: false,
             first_note: None,
+            numbered: 0,
             left_out: None,
             rankings: Rankings::new(alloc),
             last: LastVote::default(),
@@ -79,6 +82,9 @@ impl VoteOddities {
         let (id_place, vote_place) = row.places();
         let length = row.ballot().len();
         self.take_length(row, length as u64, found);
+        if row.has_key() {
+            found.take(row.odd(Oddity::FooterRow).in_form(5));
+        }
         self.last.take(row);
         if self.rankings.asks(length, row.election.projects().len()) {
             self.rankings.take(row.value())?;
@@ -94,14 +100,16 @@ impl VoteOddities {
             let place = u32::try_from(voters).unwrap_or(u32::MAX);
             self.marked.push((place, row.mark))?;
         }
+        if id.contains(&b'\n') && !id.contains(&b';') {
+            found.take(row.odd(Oddity::HiddenCharacter).in_form(2));
+        }
         if id.starts_with(b"#") || id.starts_with(b"//") {
             let odd = row.odd(Oddity::NoteRows).in_form(2);
             self.left_out = Some(odd.behind(self.left_out));
         }
         let is_long = row.record.len() > self.names;
         if is_long {
-            let odd = row.odd(Oddity::SurplusFields).named_in(self.header);
-            found.take(odd.by(self.names as u64));
+            self.take_surplus(row, found);
         }
         if is_long || self.behind.is_open {
             self.behind.take(row);
@@ -110,6 +118,21 @@ impl VoteOddities {
             self.further.take(row, found)?;
         }
         Ok(())
+    }
+
+    /// Takes a row with more fields than there are column names: with ids of projects, or with other texts.
+    fn take_surplus(&mut self, row: &Row<'_>, found: &mut Oddities) {
+        let is_next = row.record.len() == self.names.saturating_add(1);
+        let number = whole_number(row.id()).filter(|_| is_next);
+        let is_numbered = number == Some(row.election.voters().len() as u64);
+        self.numbered = self.numbered.saturating_add(u64::from(is_numbered));
+        let is_vote = |place: usize| names_other(row.at(place), &[], row.projects).is_some();
+        let is_text = |place: usize| !row.at(place).is_empty();
+        let has_vote = (self.names..row.record.len()).any(is_vote);
+        let has_text = (self.names..row.record.len()).any(is_text);
+        let form = if has_text && !has_vote { 2 } else { 0 };
+        let odd = row.odd(Oddity::SurplusFields).named_in(self.header);
+        found.take(odd.by(self.names as u64).in_form(form));
     }
 
     /// Takes a ballot of this length, which may be none, more than META allows, or less than it asks for.
@@ -169,6 +192,7 @@ impl VoteOddities {
         found: &mut Oddities,
     ) -> Result<(), AllocError> {
         let voters = election.voters().len() as u64;
+        found.are_numbered = voters > 1 && self.numbered == voters;
         found.has_nothing = self.empty > 0 && has_nothing(election);
         found.are_grouped = self.empty.saturating_mul(2) > voters && are_grouped(election);
         if let Some(odd) = self.left_out {
@@ -230,22 +254,27 @@ impl VoteOddities {
         Ok(true)
     }
 
-    /// Takes the rows of voters who are there twice but for a character that can't be seen.
+    /// Takes the rows of voters who are there twice but for a character that can't be seen, or for `.0`, if
+    /// no id has another number behind a point.
     fn take_marked(&self, election: &Election, found: &mut Oddities) -> Result<(), AllocError> {
         if self.marked.is_empty() {
             return Ok(());
         }
-        let mut ids = IdTable::new(self.alloc);
+        let (mut ids, mut has_points) = (IdTable::new(self.alloc), false);
         for voter in election.voters() {
             let id = voter.id.text();
             if !is_marked(id) && !ends_in_zero(id.as_bytes()) {
-                let _ = ids.insert(self.alloc, voter.id.text(), 0)?;
+                let _ = ids.insert(self.alloc, id, 0)?;
+                has_points |= is_decimal(id);
             }
         }
         for (place, mark) in &self.marked {
             let voter = election.voters().get(*place as usize);
             let id = voter.map_or("", |voter| voter.id.text());
             let is_hidden = is_marked(id);
+            if has_points && !is_hidden {
+                continue;
+            }
             let bare = without_hidden(id);
             let bare = if is_hidden {
                 bare
@@ -328,9 +357,9 @@ pub(crate) fn has_space(text: &str) -> bool {
     text.contains(|c: char| c.is_whitespace())
 }
 
-/// Whether an id has white space in it, or a word for a total or a signature.
+/// Whether an id has white space in it, or a word for a total, or one for a signature and no digit.
 fn is_note_id(id: &str) -> bool {
-    has_space(id) || has_total(id) || has_one_of(SIGNED, id)
+    has_space(id) || has_total(id) || (has_one_of(SIGNED, id) && !has_digit(id))
 }
 
 /// Whether the id of the last row is how many there are above, and they are not numbered up to it: no id of

@@ -115,6 +115,7 @@ impl Witness {
         match (refusal.fault.kind, refusal.piece, refusal.earlier) {
             (ReadKind::UnknownProject, Some(piece), _) => {
                 let (mut is_kept, mut is_none) = (false, true);
+                self.rows.has_comma |= vote.contains(',');
                 for piece in vote.split(',') {
                     let piece = piece.trim();
                     is_none &= piece.is_empty() || is_nothing(piece);

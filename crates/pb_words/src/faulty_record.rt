@@ -1,7 +1,7 @@
 //! What is wrong with a record of a .pb file, in words.
 
 use crate::prelude::*;
-use crate::read_rules::{amount_remedy, put_broken, words_of};
+use crate::read_rules::{amount_remedy, fine_remedy, put_broken, words_of};
 use crate::section::{NO_NAMES, Names, missing, names_of, wrong_head};
 use pb_read::{Section, Stage};
 use pb_witness::fields::{column_of, place_of_no_text};
@@ -10,6 +10,35 @@ use pb_witness::heads::{head_of, section_of};
 /// What to do where VOTES has a column for each project.
 pub(crate) const BY_COLUMN: &str =
     "VOTES has a column for each project. Make one column `vote` of them, with the ids of the projects that the voter approves, and `,` between them.\n";
+
+/// What to do where a column seems to have moved by one cell.
+const VOTES_DOWN: &str =
+    "The first voter has no vote, and the last vote no voter: the column `vote` may have slid down by one cell. Compare a few rows with the ballots before you write an id. If they agree, and the row is a total, delete it.\n";
+
+const COSTS_DOWN: &str =
+    "The first project has no cost, and the last cost no project: the column `cost` may have slid down by one cell. Compare a few costs with the list that they come from before you change a row. If they agree, find out the first project's cost. If the last row is a total, delete it.\n";
+
+const COLUMN_UP: &str =
+    "A value stands among the column names, and the last row has none in this column, which may have moved up by one cell. If so, move its values down again, and write the column's name above them.\n";
+
+/// What to do about a ballot without an id: where the first row has none, and where it has.
+const FIRST_EMPTY: &str =
+    "The first row of VOTES has no id, so ids may stand in the middle of their rows or below them, as where merged cells were taken apart. Look at the ballots, or get the votes again, before you write an id. If the row is a ballot of its own, write any id that no other row has. If it is a total, delete it.\n";
+
+const LATER_EMPTY: &str =
+    "If the row is a ballot of the voter above, write that voter's id. If it is another voter's ballot, write any id that no other row has. If it is a total, delete it.\n";
+
+const NAMES_TWICE: &str =
+    "This row has ids of projects, one in each field, as a row of column names has. If it is one, delete it. If not, look at the voter's ballot.\n";
+
+const NAMES_AND_ROW: &str =
+    "The first row may stand behind the column names, on the same line. If so, begin a new line where it begins.\n";
+
+const NAMES_BELOW: &str =
+    "The row of column names stands further below. Move it up, to the line below the heading.\n";
+
+const LINE_ENDS: &str =
+    "The line ends are characters that the program does not read as such. Save the file again with those of Unix or Windows.\n";
 
 /// So many column names are shown.
 const MOST_NAMES: usize = 12;
@@ -38,21 +67,35 @@ impl<R: Files> Case<'_, R> {
                 "Delete one of the two lines.\n",
             (ReadKind::NoHeader, _) => self.names().add_header,
             (ReadKind::MissingColumn, _) => self.column_remedy(),
-            (ReadKind::EmptyId, Stage::InVotes(_))
-                if self.faulty.is_ballot(ids) && self.faulty.is_slid(self.text) =>
-                "The first voter has no vote, and the last vote no voter: the column `vote` may have slid down by one cell. Compare a few rows with the ballots before you write an id. If they agree, and the row is a total, delete it.\n",
-            (ReadKind::EmptyId, Stage::InVotes(_)) if self.faulty.is_ballot(ids) =>
-                "If the row is a ballot of the voter above, write that voter's id. If it is another voter's ballot, write any id that no other row has. If it is a total, delete it.\n",
+            (ReadKind::EmptyId, Stage::InVotes(_)) if self.faulty.is_names_again(ids) =>
+                NAMES_TWICE,
+            (ReadKind::EmptyId, Stage::InVotes(_)) if self.faulty.is_ballot(ids) => {
+                self.ballot_remedy()
+            }
+            (ReadKind::EmptyId | ReadKind::BadMoney, Stage::InProjects(_))
+                if self.faulty.is_slid(self.text) => COSTS_DOWN,
             (ReadKind::MissingField, _) if self.faulty.is_invisible() =>
                 "Delete the line. (Some programs put such a character at the end of a file.)\n",
             (ReadKind::BadMoney, _) if self.faulty.is_id_alone() =>
                 "Write the amount with digits only, like `1200` or `1200.50`. If the row is a heading or a note, and no project, delete it.\n",
             (ReadKind::BadMoney, _) => amount_remedy(self.faulty.value()),
+            (ReadKind::MoneyTooFine, _) => fine_remedy(self.faulty.value()),
             (ReadKind::MissingField, Stage::InProjects(_)) if is_one =>
                 "If it is the heading of the votes, write VOTES. If it is the end of a text on the line above, join the two lines. If it is a note, delete it.\n",
             (ReadKind::MissingField, Stage::InProjects(_)) =>
                 "Complete the row, or delete it if it does not belong here.\n",
             (kind, _) => words_of(kind).1,
+        }
+    }
+
+    /// What to do about a ballot without an id.
+    fn ballot_remedy(&self) -> &'static str {
+        if self.faulty.is_slid(self.text) {
+            VOTES_DOWN
+        } else if self.faulty.begins_without_id(self.text) {
+            FIRST_EMPTY
+        } else {
+            LATER_EMPTY
         }
     }
 
@@ -63,8 +106,8 @@ impl<R: Files> Case<'_, R> {
             "Save the file again with the encoding UTF-8, without a byte order mark.\n"
         } else if is_hidden {
             "Delete the invisible character before META, or type META anew.\n"
-        } else if first.contains(|c: char| c == '\u{85}' || c == '\u{2028}') {
-            "The line ends are characters that the program does not read as such. Save the file again with those of Unix or Windows.\n"
+        } else if self.faulty.has_other_line_end() {
+            LINE_ENDS
         } else if first.starts_with('>') {
             "E-mail programs write `> ` before each line of a reply. Get the file again, as an attachment.\n"
         } else {
@@ -76,10 +119,21 @@ impl<R: Files> Case<'_, R> {
     fn column_remedy(&self) -> &'static str {
         let is_of_votes = matches!(self.faulty.stage, Stage::Header(Section::Votes));
         let ids = &self.known.witness.ids;
-        if self.faulty.has_hidden_column() {
+        if self.faulty.has_other_line_end() {
+            LINE_ENDS
+        } else if self.faulty.has_hidden_column() {
             "An invisible character is beside the name of a column. Delete it, or type the name anew.\n"
-        } else if is_of_votes && ids.are_columns(&self.faulty.record) {
+        } else if is_of_votes
+            && (ids.are_columns(&self.faulty.record)
+                || self.faulty.has_names_below(self.text, ids))
+        {
             BY_COLUMN
+        } else if self.has_row_behind() {
+            NAMES_AND_ROW
+        } else if self.has_names_below() {
+            NAMES_BELOW
+        } else if self.faulty.is_slid_up(self.text, ids) {
+            COLUMN_UP
         } else if is_of_votes && self.faulty.is_by_project() {
             "There is `project_id` in place of `vote`. Look at a ballot before you change anything.\n"
         } else if self.is_turned() {
@@ -89,6 +143,28 @@ impl<R: Files> Case<'_, R> {
         } else {
             self.names().add_column
         }
+    }
+
+    /// Whether these column names have as many fields as two rows of which the last field of the first and
+    /// the first of the second are one.
+    fn has_row_behind(&self) -> bool {
+        let below = self.text.row_behind(self.faulty.mark);
+        let fields = self.faulty.record.len().saturating_add(1);
+        below.is_some_and(|row| row.len() > 1 && row.len().saturating_mul(2) == fields)
+    }
+
+    /// Whether a row below these column names has both needed ones.
+    fn has_names_below(&self) -> bool {
+        let section = section_of(&self.faulty.stage);
+        let has = |row: &ByteRecord, is_other: bool| {
+            column_of(row, missing(section, is_other)).is_some()
+        };
+        let Some(mut records) = self.text.record_at(self.faulty.mark) else {
+            return false;
+        };
+        let is_found = records.find(u64::MAX, |row| has(row, false) && has(row, true));
+        drop(records);
+        is_found
     }
 
     /// Whether the row below these column names begins with the needed one that they lack.
@@ -182,11 +258,31 @@ impl<R: Files> Case<'_, R> {
         }
         let is_cut = self.faulty.record.len() > MOST_NAMES;
         out.put(if is_cut { ", and others.\n" } else { ".\n" });
-        match self.faulty.nearly(self.text.alloc, column) {
-            Ok(Some(place)) => out.fill(
-                "If {} is this column, write `{}` in its place.\n",
-                &[Quoted(self.faulty.at(place)), Own(column)],
-            ),
+        // Behind an odd line end the name would take the first row's field with it.
+        if !self.faulty.has_other_line_end() && !self.has_row_behind() {
+            self.put_nearly(out, column);
+        }
+    }
+
+    /// Puts which name seems to be that of this column, or that several do.
+    fn put_nearly(&self, out: &mut WordsWriter, column: &'static str) {
+        let nearly = |from: usize| self.faulty.nearly(self.text.alloc, column, from);
+        match nearly(0) {
+            Ok(Some(place)) => match nearly(place.saturating_add(1)) {
+                Ok(Some(other)) => out.fill(
+                    "Find out which of {} and {} is this column, and write `{}` in its place.\n",
+                    &[
+                        Quoted(self.faulty.at(place)),
+                        Quoted(self.faulty.at(other)),
+                        Own(column),
+                    ],
+                ),
+                Ok(None) => out.fill(
+                    "If {} is this column, write `{}` in its place.\n",
+                    &[Quoted(self.faulty.at(place)), Own(column)],
+                ),
+                Err(_) => out.fail(),
+            },
             Ok(None) => {}
             Err(_) => out.fail(),
         }

@@ -28,6 +28,7 @@ pub mod read_words;
 mod record_words;
 pub mod refused_words;
 mod repeated_words;
+mod row_causes;
 mod row_words;
 pub mod same_words;
 mod saying;

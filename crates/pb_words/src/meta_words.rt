@@ -1,7 +1,9 @@
 //! Words for META: its values, which are judged at the head of PROJECTS, and its head.
 
 use crate::prelude::*;
-use crate::read_rules::{amount_remedy, clean_options, put_broken, words_of};
+use crate::read_rules::{
+    amount_remedy, clean_options, fine_remedy, is_below_1, put_broken, words_of,
+};
 use crate::unknown_words::put_clean;
 use pb_read::{Column, MetaKey};
 use pb_witness::changed::{has_thousandths, without_hidden};
@@ -123,6 +125,7 @@ fn value_remedy(kind: ReadKind, value: &str) -> &'static str {
         (ReadKind::VoteType, _) if value.eq_ignore_ascii_case(ONE_CHOICE) =>
             "If each voter picks one project, the votes can be counted as approval votes: write `vote_type;approval`.\n",
         (ReadKind::BadMoney, _) => amount_remedy(value),
+        (ReadKind::MoneyTooFine, _) => fine_remedy(value),
         _ => words_of(kind).1,
     }
 }
@@ -130,6 +133,8 @@ fn value_remedy(kind: ReadKind, value: &str) -> &'static str {
 /// Puts which command mends a value of this fault, if one does.
 pub(crate) fn put_cleaning<R>(out: &mut WordsWriter, text: &Text<R>, kind: ReadKind, value: &str) {
     match kind {
+        // It may be in millions: then to round it loses it.
+        ReadKind::MoneyTooFine if is_below_1(value) => {}
         ReadKind::MoneyTooFine if has_thousandths(value) => out.fill(
             "`pb_clean {} -o NEW.pb --marks thousands` does the first, and `--marks decimals --round half-up` the second.\n",
             &[Name(text.path)],
@@ -212,7 +217,7 @@ pub(crate) fn put_separate<R>(out: &mut WordsWriter, text: &Text<R>, joined: Joi
             "If texts and votes with commas are in quotation marks, `pb_clean {} -o NEW.pb` does this.\n",
             &[Name(text.path)],
         ),
-        JoinedBy::Quotes => {}
+        JoinedBy::Quotes | JoinedBy::Bars => {}
     }
 }
 
@@ -250,12 +255,35 @@ pub(crate) fn put_odd_head<R: Files>(out: &mut WordsWriter, text: &Text<R>, odd:
 
 /// Puts what to do where META's head stands behind the record with this mark, and answers whether it does.
 pub(crate) fn put_late_meta<R: Files>(out: &mut WordsWriter, text: &Text<R>, first: Mark) -> bool {
-    let Some(mark) = late_meta(text, first) else {
+    let Some((mark, is_behind)) = late_meta(text, first) else {
         return false;
     };
-    out.fill(
-        "META is on line {}: delete everything above it.\n",
-        &[Number(line_of(text, mark))],
-    );
+    let line = Number(line_of(text, mark));
+    if is_behind {
+        out.fill(
+            "META is on line {}, below another heading. If all lines are in reverse order, reverse them again. If not, put the sections in this order: META, PROJECTS, VOTES.\n",
+            &[line],
+        );
+    } else if has_keys(text, first, mark) {
+        out.fill(
+            "META is on line {}, below a row with a key of META: the lines may have been sorted. Get the file again, with its lines in their order.\n",
+            &[line],
+        );
+    } else {
+        out.fill("META is on line {}: delete everything above it.\n", &[line]);
+        put_clean(out, text, "");
+    }
     true
+}
+
+/// Whether a record from the one with this mark on has a key of META, before the one with the other mark.
+fn has_keys<R: Files>(text: &Text<R>, first: Mark, meta: Mark) -> bool {
+    let is_key = |row: &ByteRecord| MetaKey::of(text_at(row, 0)).is_some();
+    let is_first = text.row_at(first).is_some_and(|row| is_key(&row));
+    let Some(mut records) = text.record_at(first) else {
+        return false;
+    };
+    let is_found = records.find(u64::MAX, is_key) && records.mark().at < meta.at;
+    drop(records);
+    is_first || is_found
 }

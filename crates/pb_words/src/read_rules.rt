@@ -58,6 +58,15 @@ fn is_below_0(value: &str) -> bool {
     is_amount && (is_signed || is_in_brackets)
 }
 
+/// Whether a value has digits, and letters that look like some directly beside them, as scanners write.
+fn has_letters(value: &str) -> bool {
+    let is_like = |c: char| "OoIlS".contains(c);
+    let is_other = |c: char| !(c.is_ascii_digit() || is_like(c) || c == '.' || c == ',');
+    value.contains(is_like)
+        && value.contains(|c: char| c.is_ascii_digit())
+        && !value.contains(is_other)
+}
+
 /// Whether a text is letters alone, if a point at its end is left out.
 fn is_word(text: &str) -> bool {
     let word = text.trim_end_matches('.');
@@ -84,6 +93,8 @@ pub(crate) fn amount_remedy(value: &str) -> &'static str {
         "This is a part of another amount. Ask of which one, work it out, and write the result with digits only, like `1200` or `1200.50`.\n"
     } else if is_one_of(SHORT_WORDS, unit) {
         "If this stands for thousands or millions, write the amount in full, with digits only, like `1200` or `1200.50`.\n"
+    } else if has_letters(value) {
+        "Letters such as O and l may be digits that were misread. Find out the amount, and write it with digits only, like `1200` or `1200.50`.\n"
     } else if has_one_of(PARTS, value) && !has_one_of(WHOLES, value) {
         "A word beside the amount may say that it is not the whole cost, but one without tax, for a year or a piece, or a limit. Ask for the whole cost, with tax, and write it with digits only, like `1200` or `1200.50`.\n"
     } else if !is_one_of(CURRENCIES, unit.trim_end_matches('.'))
@@ -95,6 +106,20 @@ pub(crate) fn amount_remedy(value: &str) -> &'static str {
         "If a mark of a footnote is behind the amount, leave it out. Write the amount with digits only, like `1200` or `1200.50`.\n"
     } else {
         words_of(ReadKind::BadMoney).1
+    }
+}
+
+/// Whether an amount is less than 1.
+pub(crate) fn is_below_1(value: &str) -> bool {
+    value.starts_with("0.") || value.starts_with("0,")
+}
+
+/// What to do about an amount with more than two decimals.
+pub(crate) fn fine_remedy(value: &str) -> &'static str {
+    if is_below_1(value) {
+        "If the amounts are in thousands or millions, write all of them in full, the budget too. If not, round the amount to two decimals.\n"
+    } else {
+        words_of(ReadKind::MoneyTooFine).1
     }
 }
 

@@ -10,6 +10,7 @@ use crate::section::{due_at_end, end_remedy};
 use crate::unknown_words::{LATE_PROJECT, is_cut_code, put_clean};
 use pb_read::Stage;
 use pb_witness::cause::Cause;
+use pb_witness::changed::has_one_of;
 use pb_witness::fields::JoinedBy;
 use pb_witness::heads::{head_of, section_of};
 use pb_witness::quote::{Span, span_of};
@@ -88,12 +89,21 @@ impl<R: Files> Case<'_, R> {
             ": this is a mark of a merge conflict: the file has two versions of the rows between `<<<<<<<` and `>>>>>>>`.\nAsk whoever made the file which version is right. Keep that one, and delete the other and the marks.\n"
         } else if self.faulty.is_of_mail(self.text) {
             ": this line, or the one above it, ends with `=`, as e-mail programs break long lines.\nGet the file again, as an attachment.\n"
+        } else if self.has_nul() {
+            ": bytes of 0 stand here, as where a program did not write a file to its end.\nGet the whole file again.\n"
         } else {
             return false;
         };
         let _ = put_mark(out, self.text, self.faulty.mark);
         out.put(words);
         true
+    }
+
+    /// Whether a field of a row of PROJECTS or VOTES ends in bytes of 0.
+    fn has_nul(&self) -> bool {
+        let is_row = self.faulty.is_of_projects() || self.faulty.is_of_votes();
+        let has_it = |place: usize| self.faulty.at(place).ends_with('\u{0}');
+        is_row && (0..self.faulty.record.len()).any(has_it)
     }
 
     /// Puts which quotation mark is wrong in a record whose line was put, and what to do; answers whether one
@@ -150,7 +160,7 @@ impl<R: Files> Case<'_, R> {
             self.put_unknown(out);
         }
         let is_list =
-            matches!(self.known.cause_of(self.faulty.piece()), Some(found) if found.cause == Cause::OnLines);
+            matches!(self.known.cause_of(self.faulty.piece()), Some(found) if matches!(found.cause, Cause::OnLines | Cause::TwoLines));
         if !is_list {
             let _ = put_over(out, span, true);
         }
@@ -169,7 +179,7 @@ impl<R: Files> Case<'_, R> {
         }
         let is_before_meta = self.faulty.kind() == ReadKind::NoSection && self.faulty.is_first();
         if is_before_meta && put_late_meta(out, self.text, self.faulty.mark) {
-            return put_clean(out, self.text, "");
+            return;
         }
         if self.faulty.is_split() {
             return self.put_split(out);
@@ -232,25 +242,53 @@ impl<R: Files> Case<'_, R> {
                 "This row and the one on line {} may be one row, cut by a line break in a text. If so, join them.\n",
                 &[Number(line_of(self.text, half))],
             )
-        } else if let Some(marks) = self.faulty.marks() {
-            let is_tabs = matches!(marks, JoinedBy::Tabs);
-            out.put(if is_tabs {
-                "Tabs separate the fields of this row. Write `;` in place of each.\n"
-            } else {
-                "Check whether the first comma stands for `;`. If so, commas separate the fields of this row: write `;` between them, but keep the commas between the ids of a vote.\n"
-            })
-        } else if self.faulty.is_line_of_words() {
-            out.put(
-                "If it is a heading or a note, delete it. If it says that rows are left out, get the whole file. If it is a vote, write all of its fields.\n",
-            )
-        } else if self.faulty.kind() == ReadKind::MissingField
-            && self.faulty.is_like_project(self.text)
-        {
-            out.put(LATE_PROJECT)
+        } else if let Some(words) = self.short_words() {
+            out.put(words)
         } else {
             return false;
         }
         true
+    }
+
+    /// What to do about a short row, by what it seems to be.
+    fn short_words(&self) -> Option<&'static str> {
+        let marks = self.faulty.marks();
+        let is_short = self.faulty.kind() == ReadKind::MissingField;
+        let words = if self.is_vote_alone() {
+            "This row has ids of projects alone. If the first is a voter's id, write `;` in place of the first comma. If the row above has no vote, a line end may stand between the two: then join them. If neither, find out whose vote it is.\n"
+        } else if let Some(marks) = marks {
+            match marks {
+                JoinedBy::Tabs =>
+                    "Tabs separate the fields of this row. Write `;` in place of each.\n",
+                JoinedBy::Bars =>
+                    "Bars (`|`) are around the fields of this row. Write `;` between the fields, and no bars.\n",
+                _ =>
+                    "Check whether the first comma stands for `;`. If so, commas separate the fields of this row: write `;` between them, but keep the commas between the ids of a vote.\n",
+            }
+        } else if self.is_message() {
+            "This may be a message of the program that wrote the file, which failed here. Then get the whole file again. If it is a heading or a note, delete it.\n"
+        } else if self.faulty.is_line_of_words() {
+            "If it is a heading or a note, delete it. If it says that rows are left out, get the whole file. If it is a vote, write all of its fields.\n"
+        } else if is_short && self.faulty.is_like_project(self.text) {
+            LATE_PROJECT
+        } else {
+            return None;
+        };
+        Some(words)
+    }
+
+    /// Whether it is a row of VOTES that has one field, with ids of several projects.
+    fn is_vote_alone(&self) -> bool {
+        let (vote, ids) = (self.faulty.at(0), &self.known.witness.ids);
+        let is_one = self.faulty.record.len() == 1 && self.faulty.is_of_votes();
+        is_one && vote.contains(',') && ids.are_all(vote)
+    }
+
+    /// Whether it is a row of VOTES with one field, in which a program seems to say that it failed.
+    fn is_message(&self) -> bool {
+        let text = self.faulty.at(0);
+        let is_one = self.faulty.record.len() == 1 && self.faulty.is_of_votes();
+        is_one && (has_one_of(MESSAGES, text) || text.starts_with('<'))
     }
 
     /// What stands between a voter and a vote that are one field, if it is neither `;` nor a tab.
@@ -307,6 +345,9 @@ impl<R: Files> Case<'_, R> {
         true
     }
 }
+
+/// Words by which programs say that they failed.
+const MESSAGES: &str = "error|exception|warning|notice|fatal|traceback|timeout|timed|ora|deadlock";
 
 /// Signs that look like `;`, with their numbers.
 const LIKE_SEMICOLON: [(&str, &str); 3] = [

@@ -9,6 +9,10 @@ use pb_witness::known::Repeat;
 const BY_PROJECT: &str =
     "Each row names one project, and ids repeat. Look at a ballot before you change anything. If each voter has a row for each project, `pb_clean {} -o NEW.pb --repeated-voters merge` makes one ballot of a voter's rows. If each row is a person (two lists put together; a ward, or a part of the id, in place of the id), `distinct` makes different voters.\n";
 
+/// What to do about ids that a spreadsheet did not show.
+const NARROW: &str =
+    "A spreadsheet writes this where a column is too narrow. Get the ids again, from a wider column.\n";
+
 impl<R: Files> Case<'_, R> {
     /// Puts on which line the id of a row is already, and what to do about it.
     pub(crate) fn put_repeated(&self, out: &mut WordsWriter) {
@@ -70,6 +74,9 @@ impl<R: Files> Case<'_, R> {
     /// Puts what to do about a row with the id of an earlier one, for this reason.
     fn put_repeated_remedy(&self, out: &mut WordsWriter, repeat: Repeat, kind: ReadKind) {
         let is_voter = kind == ReadKind::RepeatedVoter;
+        if self.faulty.id().starts_with("###") {
+            return out.put(NARROW);
+        }
         match repeat {
             Repeat::Apart => return self.put_apart(out),
             Repeat::Copy if self.repeats_otherwise() => out.put(

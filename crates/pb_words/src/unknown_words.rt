@@ -7,7 +7,6 @@ use pb_read::Column;
 use pb_witness::cause::{Cause, odd_letter};
 use pb_witness::changed::Difference::{Hidden, Zeros};
 use pb_witness::changed::{Difference, without_hidden};
-use pb_witness::faulty_record::FaultyRecord;
 use pb_witness::known::FoundCause;
 use pb_witness::unknown::Votes;
 
@@ -80,6 +79,8 @@ fn remedy_of(cause: Cause) -> &'static str {
         Cause::ChangedProject => "Get the projects again, with their ids as text.\n",
         Cause::Several =>
             "Several projects have almost this id, or this name. Ask whoever made the file which of them is meant.\n",
+        Cause::Begun =>
+            "The id {} on line {} begins with this one, and others may. Ask whoever made the file which project is meant.\n",
         Cause::Word =>
             "This seems to be a word in place of ids. Ask whoever made the file what it means.\n",
         Cause::Unknown | Cause::Near => words_of(ReadKind::UnknownProject).1,
@@ -116,16 +117,27 @@ fn list_remedy(cause: Cause) -> &'static str {
             "This ends with `=`, as e-mail programs break long lines. Get the file again, as an attachment.\n",
         Cause::NamesAgain => "If this line has the column names again, delete it.\n",
         Cause::OnLines => "The ids are on lines of their own: write `,` between them.\n",
+        Cause::TwoLines =>
+            "A line end stands in the vote. It may part two ballots, or an old vote and a new one, or break an id. Look at the voter's ballot, and write all ids that are meant, with `,` between them.\n",
         Cause::Blanks => "The vote has spaces between the ids: write `,` instead.\n",
         Cause::Bars => "The vote has `|` between the ids: write `,` instead.\n",
         Cause::Marks => "The vote has another character between the ids: write `,` instead.\n",
         Cause::Together =>
-            "This seems to be ids of projects without commas between them, which a spreadsheet may have taken away. Get the votes again, as text.\n",
+            "This seems to be ids of projects without commas between them. A spreadsheet may have taken these away: then get the votes again, as text. Or one id was struck out for another: look at the voter's ballot.\n",
+        Cause::Quotes => "Delete all quotation marks in the vote.\n",
+        cause => bracket_remedy(cause),
+    }
+}
+
+/// What to do about brackets around ids.
+fn bracket_remedy(cause: Cause) -> &'static str {
+    match cause {
         Cause::Brackets =>
             "Brackets are around the ids, as programs write lists. Write only the ids, with `,` between them.\n",
+        Cause::SomeInBrackets =>
+            "Brackets are around the vote, but not around all votes of several ids, so they may mean that it does not count. Look at the ballot, or ask whoever made the file. If it counts, write only the ids. If not, delete the row.\n",
         Cause::OneInBrackets =>
             "Brackets are around an id, but not around the whole vote. Ask whoever made the file whether the voter approves the project.\n",
-        Cause::Quotes => "Delete all quotation marks in the vote.\n",
         _ => "",
     }
 }
@@ -221,6 +233,7 @@ impl<R: Files> Case<'_, R> {
                     | Cause::Word
                     | Cause::OtherElection
                     | Cause::Nothing
+                    | Cause::Alike(Difference::Front, _)
             );
         if is_open && self.put_row_cause(out) {
             return;
@@ -261,9 +274,9 @@ impl<R: Files> Case<'_, R> {
                 "The row on line {} may be this project. Correct that line first.\n",
                 &[Number(place.line)],
             ),
-            Cause::Alike(how, false) if how != Hidden => put_alike(out, &place, how),
+            Cause::Alike(how, false) if how != Hidden => self.put_alike(out, &place, how),
             Cause::Kept if place.id.contains(|c: char| !c.is_ascii_digit()) => {
-                put_alike(out, &place, Zeros)
+                self.put_alike(out, &place, Zeros)
             }
             _ => out.fill(remedy, &[Quoted(place.project), Number(place.line)]),
         }
@@ -278,6 +291,33 @@ impl<R: Files> Case<'_, R> {
         }
     }
 
+    /// Puts which project has an id that is alike, how it differs, and what to do.
+    fn put_alike(&self, out: &mut WordsWriter, place: &UnknownPiece, how: Difference) {
+        out.fill(
+            "The project {} on line {} {}. If it is meant, write its id in the vote.\n",
+            &[
+                Quoted(place.project),
+                Number(place.line),
+                Own(difference(how)),
+            ],
+        );
+        if how == Zeros && self.loses_zeros(place.id) {
+            out.put("Without zeros another project's id is the same. Look at a ballot first.\n")
+        }
+    }
+
+    /// Whether an id with a letter is that of another project too, if that one's last 0 is taken away.
+    fn loses_zeros(&self, id: &str) -> bool {
+        let is_other = |project: &str| project.strip_suffix('0') == Some(id);
+        let projects = &self.known.again.projects;
+        let mut places = 0..u32::try_from(self.known.witness.ids.projects.len()).unwrap_or(0);
+        let has_letter = id.contains(|c: char| !c.is_ascii_digit());
+        has_letter
+            && places.any(|place| projects
+                .row(place)
+                .is_some_and(|row| is_other(row.id.as_str())))
+    }
+
     /// Whether `pb_clean` mends all votes that are refused for an unknown id, without an option.
     fn mends_all(&self) -> bool {
         let mut refused = self.known.witness.refused.iter();
@@ -285,83 +325,6 @@ impl<R: Files> Case<'_, R> {
             Some(found) => is_mended(found.cause),
             None => true,
         })
-    }
-
-    /// Puts what the row of a vote shows of why its ids are unknown, and what to do; answers whether it shows
-    /// something.
-    fn put_row_cause(&self, out: &mut WordsWriter) -> bool {
-        if is_cut_code(self.faulty.piece()) {
-            out.put(
-                "This ends in a code of a web page, such as `&amp;`, whose `;` has cut the row. Get the file again, as text.\n",
-            )
-        } else if self.faulty.has_titles() {
-            out.put(
-                "If this row has titles or types of the columns, and is no vote, delete it. If not, ask whoever made the file what is meant.\n",
-            )
-        } else if self.faulty.is_like_project(self.text) {
-            out.put(LATE_PROJECT)
-        } else if let Some(mark) = self.late_row(self.faulty.piece()) {
-            out.fill(
-                "The row on line {}, below the heading VOTES, looks like this project. Correct that line first.\n",
-                &[Number(line_of(self.text, mark))],
-            )
-        } else if let Some(mark) = self.in_project(self.faulty.piece()) {
-            out.fill(
-                "The row of PROJECTS on line {}, which has a fault, has this id in another column: its fields may be in another order. Correct that line first.\n",
-                &[Number(line_of(self.text, mark))],
-            )
-        } else if let Some((moved, place)) = self.moved_of() {
-            self.put_moved(out, moved, place)
-        } else {
-            return false;
-        }
-        true
-    }
-
-    /// Where a row of VOTES was refused that seems to be the project with this id.
-    fn late_row(&self, id: &str) -> Option<Mark> {
-        let mut refused = self.known.witness.refused.iter();
-        let found = refused.find(|it| it.id() == id && it.is_like_project(self.text))?;
-        Some(found.mark)
-    }
-
-    /// Where a row of PROJECTS was refused that has this id in one of its fields.
-    fn in_project(&self, id: &str) -> Option<Mark> {
-        let mut refused = self.known.witness.refused.iter();
-        let has_it = |it: &FaultyRecord| (0..it.record.len()).any(|place| it.at(place) == id);
-        let found = refused.find(|it| it.is_of_projects() && has_it(it))?;
-        Some(found.mark)
-    }
-
-    /// The vote, or else another one that is refused for the same cause, in whose row another field names
-    /// projects, and the place of that field.
-    fn moved_of(&self) -> Option<(&FaultyRecord, usize)> {
-        let ids = &self.known.witness.ids;
-        if let Some(place) = self.faulty.moved(ids) {
-            return Some((self.faulty, place));
-        }
-        let cause = self.known.cause_of(self.faulty.piece())?.cause;
-        let mut refused = self.known.witness.refused.iter();
-        let other = refused.find(|it| {
-            let found = self.known.cause_of(it.piece());
-            let is_same = found.is_some_and(|found| found.cause == cause && cause.is_shared());
-            is_same && it.kind() == ReadKind::UnknownProject && it.moved(ids).is_some()
-        })?;
-        Some((other, other.moved(ids)?))
-    }
-
-    /// Puts which field of a row, the one at this place, names projects.
-    fn put_moved(&self, out: &mut WordsWriter, moved: &FaultyRecord, place: usize) {
-        out.fill("{}", &[Quoted(moved.at(place))]);
-        if let Some(names) = self.text.row_at(moved.seen.names) {
-            out.fill(" in column {}", &[Quoted(text_at(&names, place))]);
-        }
-        let is_same = moved.mark.at == self.faulty.mark.at;
-        let rows = if is_same { "this row" } else { "these rows" };
-        out.fill(
-            " names projects: the fields of {} may be in another order. If so, put them below their column names. If not, ask whoever made the file.\n",
-            &[Own(rows)],
-        )
     }
 
     /// Puts which character of this id no project's id has, and what to do.
@@ -442,18 +405,6 @@ impl<R: Files> Case<'_, R> {
         }
         out.put("\n");
     }
-}
-
-/// Puts which project has an id that is alike, how it differs, and what to do.
-fn put_alike(out: &mut WordsWriter, place: &UnknownPiece, how: Difference) {
-    out.fill(
-        "The project {} on line {} {}. If it is meant, write its id in the vote.\n",
-        &[
-            Quoted(place.project),
-            Number(place.line),
-            Own(difference(how)),
-        ],
-    )
 }
 
 /// Puts the lines of several rows, or of the first.

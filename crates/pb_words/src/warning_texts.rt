@@ -17,6 +17,11 @@ pub(crate) const AS_ABOVE: &str =
     "Most ballots are empty. If equal votes were written once, an empty field means the vote above: get the table again. \
     Don't delete the row before that.\n";
 
+/// What to do about fields behind the vote where the rows are numbered before it.
+pub(crate) const ROW_NUMBERS: &str =
+    "Each row has a field too many, and the first fields are 1, 2, 3 and so on. If these number the rows, delete them, \
+    with the `;` behind them. If not:\n";
+
 /// What is said of a row without a vote in which another field seems to be it.
 const STRAY_VOTE: &str = "the vote is empty, but {value} stands in column {column}
 the vote is empty, but another field of the row names projects
@@ -73,6 +78,9 @@ If `;` is between the ids of the vote, write `,` instead: only the ids before th
         "the row has a third field, {value}, which is ignored
 a row of META has a third field, which is ignored
 If a `;` has cut the amount, write it in one field. If the amount there is the right one, write it into the second field, and delete the third.",
+        "only {value} is counted. The row has {fields} fields, but the number of column names is {number}
+the row has too many fields: the number of column names is {number}
+If the last field says that the vote is not valid, take the row out. If `;` is between the ids of the vote, write `,` instead.",
     ],
     &[TOO_LONG, TOO_COSTLY],
     &[TOO_SHORT, STRAY_VOTE, TOO_CHEAP],
@@ -135,6 +143,9 @@ It is counted as a voter. If it is a total or a note, delete the row.",
         "its id looks like a total, and no vote names it
 the id in the last row of PROJECTS looks like a total, and no vote names it
 It is counted as a project. If it is a total, delete the row. If not, give it another id.",
+        "its id is a key of META, which is not read here: the row is counted as any other
+the id of a row is a key of META, which is not read here: the row is counted as any other
+If the row is meant for META, move it there. If not, give it another id.",
     ],
     &[
         "the column `votes` says {value}, but the number of vote rows that name the project is {number}
@@ -257,7 +268,8 @@ If each district or category has a budget of its own, make a file for each: its 
         "the row has {fields} fields, but the number of column names is {number}
 the row has too many fields: the number of column names is {number}
 If a `;` in the name has cut it, put the name in quotation marks: `\"Park; north\"`. If the decimal comma \
-    of an amount has become `;`, write the amount in one field, like `12000,50`. Then check the cost.",
+    of an amount has become `;`, write the amount in one field, like `12000,50`. Then check the cost. If the last \
+    field says that the project was withdrawn, take its row out, and its id out of the votes.",
         "the row has {value} in it, like a vote
 the row has several ids of projects in it, like a vote
 If it is a vote, move it below VOTES.",
@@ -269,6 +281,9 @@ Delete it, or type the id anew.",
         "this id ends in `.0`, as programs write numbers. Without it, the id is another row's, so the voter may be counted twice
 a voter's id ends in `.0`, as programs write numbers. Without it, the id is another row's, so the voter may be counted twice
 If it is the same voter, keep the row that your rules count. If not, give the voter another id.",
+        "this id has a line end in it, so it may be the ids of several voters, and they are counted as one
+a voter's id has a line end in it, so it may be the ids of several voters, and they are counted as one
+If so, look at the ballots, and write a row for each voter. If not, delete the line end.",
     ],
     &[
         "all projects together cost {sum}, which is less than a hundredth of it

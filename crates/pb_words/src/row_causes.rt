@@ -1,0 +1,129 @@
+//! What the row of a vote, or one of PROJECTS, shows of why ids of the vote are unknown.
+
+use crate::prelude::*;
+use crate::unknown_words::{LATE_PROJECT, is_cut_code};
+use pb_core::money::Money;
+use pb_witness::cause::Cause;
+use pb_witness::faulty_record::FaultyRecord;
+
+impl<R: Files> Case<'_, R> {
+    /// Puts what the row of a vote shows of why its ids are unknown, and what to do; answers whether it shows
+    /// something.
+    pub(crate) fn put_row_cause(&self, out: &mut WordsWriter) -> bool {
+        if is_cut_code(self.faulty.piece()) {
+            out.put(
+                "This ends in a code of a web page, such as `&amp;`, whose `;` has cut the row. Get the file again, as text.\n",
+            )
+        } else if self.faulty.has_titles() {
+            out.put(
+                "If this row has titles or types of the columns, and is no vote, delete it. If not, ask whoever made the file what is meant.\n",
+            )
+        } else if self.faulty.is_like_project(self.text) {
+            out.put(LATE_PROJECT)
+        } else if let Some(mark) = self.late_row(self.faulty.piece()) {
+            out.fill(
+                "The row on line {}, below the heading VOTES, looks like this project. Correct that line first.\n",
+                &[Number(line_of(self.text, mark))],
+            )
+        } else if let Some(mark) = self.in_project(self.faulty.piece()) {
+            out.fill(
+                "The row of PROJECTS on line {}, which has a fault, has this id in another column: its fields may be in another order. Correct that line first.\n",
+                &[Number(line_of(self.text, mark))],
+            )
+        } else if let Some((moved, place)) = self.moved_of() {
+            self.put_moved(out, moved, place)
+        } else if let Some(mark) = self.joined_project(self.faulty.piece()) {
+            out.fill(
+                "The row on line {} has too many fields, and one of them ends with this id: two rows may stand on one line. If so, begin a new line before the id.\n",
+                &[Number(line_of(self.text, mark))],
+            )
+        } else if let Some(mark) = self.broken_project() {
+            out.fill(
+                "The row of PROJECTS on line {} has a fault, and may be this project's. Correct that line first.\n",
+                &[Number(line_of(self.text, mark))],
+            )
+        } else {
+            return false;
+        }
+        true
+    }
+
+    /// Where a row of VOTES was refused that seems to be the project with this id.
+    fn late_row(&self, id: &str) -> Option<Mark> {
+        let mut refused = self.known.witness.refused.iter();
+        let found = refused.find(|it| it.id() == id && it.is_like_project(self.text))?;
+        Some(found.mark)
+    }
+
+    /// Where a row of PROJECTS was refused that has this id in one of its fields.
+    fn in_project(&self, id: &str) -> Option<Mark> {
+        let mut refused = self.known.witness.refused.iter();
+        let has_it = |it: &FaultyRecord| (0..it.record.len()).any(|place| it.at(place) == id);
+        let found = refused.find(|it| it.is_of_projects() && has_it(it))?;
+        Some(found.mark)
+    }
+
+    /// Where a row of PROJECTS, or its column names, has more fields than the row below, and one that ends
+    /// with this id.
+    fn joined_project(&self, id: &str) -> Option<Mark> {
+        let mut records = self.text.record_at(self.faulty.seen.project_names)?;
+        let is_end = |field: &str| field.len() > id.len() && field.ends_with(id);
+        let ends = |row: &ByteRecord| (1..row.len()).any(|place| is_end(text_at(row, place)));
+        let columns = records.last.len();
+        let is_long = |row: &ByteRecord| row.len() > columns && ends(row);
+        let is_found = ends(&records.last) || records.find(u64::MAX, is_long);
+        let mark = records.mark();
+        let fields = records.last.len();
+        drop(records);
+        let below = self.text.row_behind(mark)?;
+        let is_before = mark.at < self.faulty.seen.names.at;
+        (is_found && is_before && below.len() < fields).then_some(mark)
+    }
+
+    /// Where a row of PROJECTS was refused whose id is missing, an amount, or this one and more, if no other
+    /// cause is known.
+    fn broken_project(&self) -> Option<Mark> {
+        let piece = self.faulty.piece();
+        let cause = self.known.cause_of(piece)?.cause;
+        if !matches!(cause, Cause::Unknown | Cause::Near | Cause::OtherForm) {
+            return None;
+        }
+        let is_moved = |id: &str| {
+            id.is_empty() || id.starts_with(piece) || Money::read(id).is_ok()
+        };
+        let mut refused = self.known.witness.refused.iter();
+        let found = refused.find(|it| it.is_of_projects() && is_moved(it.id()))?;
+        Some(found.mark)
+    }
+
+    /// The vote, or else another one that is refused for the same cause, in whose row another field names
+    /// projects, and the place of that field.
+    fn moved_of(&self) -> Option<(&FaultyRecord, usize)> {
+        let ids = &self.known.witness.ids;
+        if let Some(place) = self.faulty.moved(ids) {
+            return Some((self.faulty, place));
+        }
+        let cause = self.known.cause_of(self.faulty.piece())?.cause;
+        let mut refused = self.known.witness.refused.iter();
+        let other = refused.find(|it| {
+            let found = self.known.cause_of(it.piece());
+            let is_same = found.is_some_and(|found| found.cause == cause && cause.is_shared());
+            is_same && it.kind() == ReadKind::UnknownProject && it.moved(ids).is_some()
+        })?;
+        Some((other, other.moved(ids)?))
+    }
+
+    /// Puts which field of a row, the one at this place, names projects.
+    fn put_moved(&self, out: &mut WordsWriter, moved: &FaultyRecord, place: usize) {
+        out.fill("{}", &[Quoted(moved.at(place))]);
+        if let Some(names) = self.text.row_at(moved.seen.names) {
+            out.fill(" in column {}", &[Quoted(text_at(&names, place))]);
+        }
+        let is_same = moved.mark.at == self.faulty.mark.at;
+        let rows = if is_same { "this row" } else { "these rows" };
+        out.fill(
+            " names projects: the fields of {} may be in another order. If so, put them below their column names. If not, ask whoever made the file.\n",
+            &[Own(rows)],
+        )
+    }
+}
