@@ -104,9 +104,8 @@ impl<R: Eprint + Clock + Sync> Gate for ProgressLine<'_, R> {
 }
 
 impl<R> ProjectGate for ProgressLine<'_, R> {
-    fn begins(&self, searched: usize, projects: usize) {
-        self.project
-            .store((searched as u64).saturating_add(1), Relaxed);
+    fn begins(&self, projects: usize) {
+        self.project.fetch_add(1, Relaxed);
         self.projects.store(projects as u64, Relaxed);
     }
 }

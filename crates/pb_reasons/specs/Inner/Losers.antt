@@ -1,14 +1,15 @@
 -- What the parts of the search for losers know.
-use Rattle.std.specs.Prelude.{◌≡◌, ℕ, ◌-◌, ◌<◌, All, List, filter, length, min, not, slice_index, take}
+use Rattle.std.specs.Prelude.{◌≡◌, ℕ, ◌-◌, ◌<◌, All, IfErr, IfOk, List, Result, filter, length, min, not, slice_index, slice_index_or, take}
 use Rattle.std.specs.List.{range_with_len}
 use Rattle.std.specs.List.Sorted.{IsPermutation, IsSorted}
 use Rattle.std.specs.Ordering.{flip_args, nat_cmp, on, then_cmp}
 use Rattle.pb_core.specs.Election.{ElectionView, most_voters}
 use Rattle.pb_price.specs.Supporters.{SupportView, support_of}
 use Rattle.pb_rounds.specs.MostVotes.{is_taken, votes_at}
+use Rattle.pb_rounds.specs.declared.count_fault.CountFault.{CountFault}
 use Rattle.pb_rounds.specs.declared.rule.Rule.{Rule}
 use Rattle.pb_reasons.specs.Counted.{CountedView, IsCountBy, is_selected}
-use Rattle.pb_reasons.specs.Inner.Searching.{AreKnown}
+use Rattle.pb_reasons.specs.Inner.Searching.{AreKnown, IsStop}
 use Rattle.pb_reasons.specs.WhatIf.{IsFound, Says, Seen, seen}
 use Rattle.pb_reasons.specs.Inner.Doubling.{NoneWins}
 use Rattle.pb_reasons.specs.declared.changes.change.Change.TheVariants.{Cost, Voters}
@@ -59,3 +60,15 @@ pub record IsSearched (s : Seen) (rule : Rule) (l : Loser) : Type 0 where
   pub voters : IsFound s (about rule l.place) Voters 0 (min (length s.ballots) (most_voters - length s.ballots))
       l.found.voters.first l.found.voters.second
   pub doubled : NoneWins s (about rule l.place) l.found.voters.second.value
+
+-- what the search of the loser at this place answers
+pub record IsAnswer (s : Seen) (rule : Rule) (place : ℕ) (answer : Result Loser CountFault) : Type 0 where
+  pub about_it : IfOk answer (λ l. l.place ≡ place)
+  pub searched : IfOk answer (IsSearched s rule)
+  pub stopped : IfErr answer (IsStop (about rule 0))
+
+-- the answers for these losers, each at its place
+pub record AreAnswers (s : Seen) (rule : Rule) (places : List ℕ) (answers : List (Result Loser CountFault)) : Type 0 where
+  pub one_each : length answers ≡ length places
+  pub each : (i : ℕ) (d : Result Loser CountFault) → i < length answers
+      → IsAnswer s rule (slice_index places i) (slice_index_or answers i d)

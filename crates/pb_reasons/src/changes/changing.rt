@@ -9,7 +9,7 @@ ghost use Rattle.pb_reasons.specs.Inner.Searching.{IsLent, IsStop, further_of};
 
 use crate::changes::change::{Change, Row};
 use crate::changes::frame::changed_frame;
-use crate::changes::numbered::{add_further, with_number_ids};
+use crate::changes::numbered::{add_further, copied, with_number_ids};
 use crate::changes::recount::{Recount, verdict_of};
 use pb_core::election::Election;
 use pb_core::gate::Gate;
@@ -58,6 +58,16 @@ impl Changing {
         let projects = frame.projects().len();
         let voters = frame.replace_voters(Vec::new(alloc));
         let voters = with_number_ids(alloc, voters, projects)?;
+        Ok(Changing { frame, voters })
+    }
+
+    /// A copy, to be changed about the project at this place.
+    pub(crate) fn copy_about(&self, alloc: Global, place: u32) -> Result<Changing, NoMemory>
+        requires { place < length self.now.costs }
+        ensures { IfOk result (λ own. own ≡ self.now) }
+    {
+        let voters = copied(alloc, self.voters.as_slice())?;
+        let frame = changed_frame(alloc, &self.frame, Change::Voters, place, 0)?;
         Ok(Changing { frame, voters })
     }
 

@@ -1,12 +1,13 @@
 //! What would have made the losers with most votes win.
 
-ghost use Rattle.std.specs.Prelude.{◌≡◌, ◌≢◌, ◌++◌, ◌∷◌, [], All, IfErr, IfOk, OnOk, map};
+ghost use Rattle.std.specs.Prelude.{◌≡◌, ◌≢◌, ◌++◌, ◌∷◌, [], All, ◌<◌, IfErr, IfOk, OnOk, length, map, slice_index};
 ghost use Rattle.pb_price.specs.Supporters.{cost_at, support_of};
 ghost use Rattle.pb_rounds.specs.Counted.{IsCountFault, IsCountOf};
 ghost use Rattle.pb_reasons.specs.Counted.{counted};
 ghost use Rattle.pb_reasons.specs.Losers.{AreFound};
 ghost use Rattle.pb_reasons.specs.WhatIf.{IsWhatIf};
-ghost use Rattle.pb_reasons.specs.Inner.Losers.{AreAsked, AreFirst, HasLost, IsLoser, IsSearched, about};
+ghost use Rattle.pb_reasons.specs.Inner.Losers.{AreAnswers, AreAsked, AreFirst, HasLost, IsAnswer, IsLoser};
+ghost use Rattle.pb_reasons.specs.Inner.Losers.{IsSearched, about};
 ghost use Rattle.pb_reasons.specs.Inner.Searching.{IsStop};
 
 use crate::changes::answer::loser;
@@ -24,7 +25,10 @@ use pb_rounds::count_fault::CountFault;
 use pb_rounds::outcome::Outcome;
 use pb_rounds::rule::Rule;
 use std::alloc::Global;
-use std::thread::Threads;
+use std::thread::{self, Threads};
+
+/// What the search of a loser answers.
+type Answer = Result<Loser, CountFault>;
 
 /// Searches what would have made each of the losers with most votes win, at most this many: as `what_if` does
 /// it for one.
@@ -96,29 +100,30 @@ fn searched<T: Threads + Sync, G: Gate + ProjectGate>(
     ensures places { IfOk result (λ found. map (λ l. l.place) found.items ≡ places.now) }
     ensures fault { IfErr result (IsStop (about recounts.now.rule 0)) }
 {
-    let mut changing = Changing::of(recounts.alloc, election)?;
-    let found = search_each(recounts, &mut changing, places);
+    let changing = Changing::of(recounts.alloc, election)?;
+    let found = search_each(recounts, &changing, places);
     drop(changing);
     found
 }
 
-/// Searches one of these losers after the other; each search leaves the election as it was.
+/// Searches these losers, and lists what is found of them.
 fn search_each<T: Threads + Sync, G: Gate + ProjectGate>(
     recounts: &Recounts<T, G>,
-    changing: &mut Changing,
+    changing: &Changing,
     places: &[u32],
 ) -> Result<Vec<Loser>, CountFault>
-    requires { All (IsLoser changing.old recounts.now.rule) places.now }
-    ensures each { IfOk result (λ found. All (IsSearched changing.old recounts.now.rule) found.items) }
+    requires { All (IsLoser changing.now recounts.now.rule) places.now }
+    ensures each { IfOk result (λ found. All (IsSearched changing.now recounts.now.rule) found.items) }
     ensures places { IfOk result (λ found. map (λ l. l.place) found.items ≡ places.now) }
     ensures fault { IfErr result (IsStop (about recounts.now.rule 0)) }
 {
+    let answers = answers_of(recounts, changing, places)?;
     let mut found = Vec::new(recounts.alloc);
-    for place in places {
-        recounts.gate.begins(found.len(), places.len());
-        let loser = search_one(recounts, changing, *place)?;
+    for answer in answers.as_slice() {
+        let loser = (*answer)?;
         keep(&mut found, loser)?;
     }
+    drop(answers);
     Ok(found)
 }
 
@@ -130,20 +135,70 @@ fn keep(found: &mut Vec<Loser>, loser: Loser) -> Result<(), NoMemory>
     Ok(())
 }
 
-/// Searches what would have made the loser at this place win.
-fn search_one<T: Threads + Sync, G: Gate>(
+/// What the searches of these losers answer, each at its place.
+fn answers_of<T: Threads + Sync, G: Gate + ProjectGate>(
     recounts: &Recounts<T, G>,
-    changing: &mut Changing,
-    place: u32,
-) -> Result<Loser, CountFault>
-    requires { IsLoser changing.old recounts.now.rule place }
-    ensures place { IfOk result (λ l. l.place ≡ place) }
-    ensures searched { IfOk result (IsSearched changing.old recounts.now.rule) }
-    ensures kept { IfOk result (λ _. changing.new ≡ changing.old) }
-    ensures fault { IfErr result (IsStop (about recounts.now.rule 0)) }
+    changing: &Changing,
+    places: &[u32],
+) -> Result<Vec<Answer>, NoMemory>
+    requires { All (IsLoser changing.now recounts.now.rule) places.now }
+    ensures { IfOk result (λ answers. AreAnswers changing.now recounts.now.rule places.now answers.items) }
 {
+    let mut answers = Vec::new(recounts.alloc);
+    answers.resize(places.len(), Err(CountFault::NoMemory))?;
+    search_beside(recounts, changing, places, answers.as_mut_slice());
+    Ok(answers)
+}
+
+/// Searches these losers side by side.
+fn search_beside<T: Threads + Sync, G: Gate + ProjectGate>(
+    recounts: &Recounts<T, G>,
+    changing: &Changing,
+    places: &[u32],
+    answers: &mut [Answer],
+)
+    requires losers { All (IsLoser changing.now recounts.now.rule) places.now }
+    requires one_each { length answers.old ≡ length places.now }
+    ensures { AreAnswers changing.now recounts.now.rule places.now answers.new }
+{
+    let search = |i: usize, answer: &mut Answer|
+        requires { (i < length places.now) × All (IsLoser changing.now recounts.now.rule) places.now }
+        ensures { IsAnswer changing.entry.now recounts.entry.now.rule
+            (slice_index places.entry.now i) answer.exit.now }
+    { *answer = search_copy(recounts, changing, places, i) };
+    let threads = searchers(recounts.rt, recounts.rule.options.workers);
+    thread::for_each_mut(recounts.rt, answers, threads, &search);
+}
+
+/// How many losers are searched side by side: one for each worker, but at most one for each processor, since
+/// each search has a copy of the ballots.
+fn searchers(rt: &impl Threads, workers: u32) -> usize
+    ensures { 0 < result }
+{
+    let most = match thread::available_parallelism(rt) {
+        Ok(processors) => processors.get(),
+        Err(_) => 1,
+    };
+    most.min(workers as usize).max(1)
+}
+
+/// Searches what would have made one of these losers win, in a copy of the election.
+fn search_copy<T: Threads + Sync, G: Gate + ProjectGate>(
+    recounts: &Recounts<T, G>,
+    changing: &Changing,
+    places: &[u32],
+    number: usize,
+) -> Answer
+    requires known { number < length places.now }
+    requires losers { All (IsLoser changing.now recounts.now.rule) places.now }
+    ensures { IsAnswer changing.now recounts.now.rule (slice_index places.now number) result }
+{
+    recounts.gate.begins(places.len());
+    let place = places[number];
     let recount = recounts.about(place);
-    let cost = changing.cost(place);
-    let found = loser(&recount, changing, cost)?;
+    let mut own = changing.copy_about(recounts.alloc, place)?;
+    let cost = own.cost(place);
+    let found = loser(&recount, &mut own, cost)?;
+    drop(own);
     Ok(Loser { place, found })
 }

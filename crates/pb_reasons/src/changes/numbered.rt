@@ -32,6 +32,33 @@ pub(crate) fn with_number_ids(
     Ok(own)
 }
 
+/// Voters with the same ids and ballots, in memory of their own.
+pub(crate) fn copied(alloc: Global, voters: &[Voter]) -> Result<Vec<Voter>, NoMemory>
+    ensures { IfOk result (λ own. own.items ≡ voters.now) }
+{
+    let mut own = Vec::with_capacity(alloc, voters.len())?;
+    for voter in voters {
+        let id = voter.id.copy(alloc)?;
+        add_copy(alloc, &mut own, id, &voter.ballot)?;
+    }
+    Ok(own)
+}
+
+/// Adds a voter with this id and a copy of a ballot.
+fn add_copy(
+    alloc: Global,
+    voters: &mut Vec<Voter>,
+    id: VoterId,
+    ballot: &Ballot,
+) -> Result<(), NoMemory>
+    ensures { OnOk result (voters.new.items ≡ voters.old.items
+        ++ record { id = id; ballot = ballot.now } ∷ []) }
+{
+    let ballot = ballot.copy(alloc)?;
+    voters.push(Voter { id, ballot })?;
+    Ok(())
+}
+
 /// Adds so many further voters, who approve the project at this place alone.
 pub(crate) fn add_further(
     alloc: Global,

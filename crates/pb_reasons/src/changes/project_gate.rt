@@ -2,10 +2,10 @@
 
 use pb_core::gate::NoGate;
 
-/// Told which of several projects is asked about, while one is after the other.
+/// Told of several projects when the search of each begins.
 pub trait ProjectGate {
-    /// The search for a project begins; this many were searched before, of so many.
-    fn begins(&self, _searched: usize, _projects: usize) {}
+    /// The search for one more of so many projects begins.
+    fn begins(&self, _projects: usize) {}
 }
 
 impl ProjectGate for NoGate {}

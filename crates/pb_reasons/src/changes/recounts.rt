@@ -8,7 +8,7 @@ use crate::changes::recount::Recount;
 use pb_rounds::rule::Rule;
 use std::alloc::Global;
 
-/// How changed elections are counted for one project after the other: by which threads, in which memory, by
+/// How changed elections are counted for several projects: by which threads, in which memory, by
 /// which rule, and who is told of raises.
 #[derive(Drop)]
 pub struct Recounts<'a, T, G> {
