@@ -5,7 +5,7 @@ The election is worked by hand. Four voters share 100.00, at first 25.00 each. a
 left and v3 37.00, 1.00 too little. At 38.00 they have 61.00, but then a, b, c and e cost 130.00. So the share is 37.00, after 12
 raises, and 30.00 are left: b does not fit, and d, which costs 25.00, is added. v3 has no winner. By most votes first a and b win."""
 
-import re
+import pathlib, re
 
 FILE = '''META
 key;value
@@ -46,6 +46,11 @@ HIDING = [
     ("<svg class='bar'><foreignObject>", '</foreignObject></svg>', '<svg> within <section>'),
     ("<div class='budget'>", '</div>', '<div> within <section>'),
 ]
+# Lists of projects: those that only one rule elects, and the last of these.
+ONLY, ONLY_TREE = ('the projects that only one of both rules elects',
+                   "<li><a href='#p-3'><span class='id' dir='auto'>d</span> <bdi dir='auto'>Tree</bdi></a> (<data value='25.00'>25 zł</data>)</li>")
+# Those that one raise more elects besides the winners, up to where the first link leads.
+THEN, THEN_PARK = 'the projects that one raise more elects, or no more', "with that raise:\n<ul>\n<li><a href='#p-1"
 # What stands in place of the beginning of a tag, and the foreign part.
 STARTS = [
     ("<section class='won' aria-labelledby='winners'>", "<section class='won' aria-labelledby='winners' hidden>", '<section> with the attribute hidden'),
@@ -55,6 +60,7 @@ STARTS = [
     ('</head>', '<style>[data-project] { display: none }</style></head>', 'a second <style>'),
     ("<li><a href='#winners'>The winners</a></li>", "<li><a href='#winners'>Palace has won</a></li>",
      '<a> that leads elsewhere than its text says under “Participatory budgeting”: “Palace has won”'),
+    (THEN_PARK, THEN_PARK.replace('p-1', 'p-3'), '<a> that leads elsewhere than its text says under “How it was counted”: “b Park”'),
     ("<li><a href='#winners'>", "<li><a href='https://example.org/winners'>", '<a> that leads elsewhere than its text says under “Participatory budgeting”: “The winners”'),
     ('</main>', '<script>document.body.textContent = "Palace"</script></main>', '<script> within <main>'),
     ('</main>', '<p style="position: fixed">Palace</p></main>', '<p> within <main>'),
@@ -84,8 +90,7 @@ STARTS += [(text, link + text, '<a> that is no link to the files or to a recount
     ('The name of this rule is', "<a href='data:,x'>here</a> "),
     ('The name of this rule is', "<a href='a.html'>here</a> <a href='b.html'>there</a> "),
 ]]
-# Links to rows of the projects that only one rule elects, and to sections.
-ONLY, ONLY_TREE = 'the projects that only one of both rules elects', "<li><a href='#p-3'><bdi dir='auto'>Tree</bdi></a></li>"
+# Links to sections.
 WINNERS, ADDED, OTHERS = ["<li><a href='#winners'>The winners</a></li>\n", "<li><a href='#added'>Added by votes</a></li>\n",
                           "<li><a href='#others'>The other projects</a></li>\n"]
 BEFORE = '#budget Where the budget goes, #winners The winners, #added Added by votes'
@@ -106,7 +111,9 @@ FIGURES = [
     ("class='limit' value='1000000'>1000000", "class='limit' value='20'>20", 'the limit of raises|20|1000000'),
     ("class='next_share' value='38.00'>38", "class='next_share' value='39.00'>39", 'the share after one raise more|39.00|38.00'),
     ("class='next_cost' value='130.00'>130", "class='next_cost' value='131.00'>131", 'what one raise more would cost|131.00|130.00'),
-    ("<data value='60.00'>60", "<data value='61.00'>61", 'the cost of Park (id b), which one raise more would elect|61.00|60.00'),
+    ("<data value='60.00'>60", "<data value='61.00'>61", f'{ONLY}|#p-1 b Park 61.00|#p-1 b Park 60.00'),
+    (THEN_PARK, THEN_PARK.replace('p-1', 'p-3'), f'{THEN}|#p-3 b Park 60.00|#p-1 b Park 60.00'),
+    (THEN_PARK, THEN_PARK.replace('<li>', '<li>Palace</li>\n<li>'), f'{THEN}|Palace (no link), #p-1 b Park|#p-1 b Park'),
     ("class='round' value='1'>1", "class='round' value='2'>2", 'the round of Library (id a)|2|1'),
     ("class='price' value='15.00'>15", "class='price' value='14.00'>14", 'the price of Library (id a)|14.00|15.00'),
     ("class='in_full' value='2'>2", "class='in_full' value='1'>1", 'how many paid in full of Library (id a)|1|2'),
@@ -123,14 +130,14 @@ FIGURES = [
      'the voters with 0 winners|0|1'),
     ("class='rule_projects' value='2'>2", "class='rule_projects' value='1'>1", 'the winners by most votes|1|2'),
     ("class='rule_cost' value='90.00'>90", "class='rule_cost' value='80.00'>80", 'the cost of the winners by most votes|80.00|90.00'),
-    ("<li><a href='#p-1'>", "<li><a href='#p-0'>", 'the projects that only one of both rules elects|#p-0 Park|#p-1 Park'),
-    ("<li><a href='#p-3'><bdi dir='auto'>Tree</bdi></a></li>\n", '', 'the projects that only one of both rules elects|#p-2 Well, #p-4 Clock|#p-2 Well, #p-4 Clock, #p-3 Tree'),
-    (ONLY_TREE, f'{ONLY_TREE}\n<li>Palace</li>', f'{ONLY}|#p-2 Well, #p-4 Clock, #p-3 Tree, Palace|#p-2 Well, #p-4 Clock, #p-3 Tree'),
-    (ONLY_TREE, f"{ONLY_TREE}\n<li><bdi dir='auto'>Palace</bdi></li>", f'{ONLY}|#p-3 Tree, Palace|#p-3 Tree'),
-    (ONLY_TREE, ONLY_TREE.replace('<a', 'Palace, <a'), f'{ONLY}|Palace, Tree|#p-3 Tree'),
-    (ONLY_TREE, ONLY_TREE.replace('</a>', '</a> and Palace'), f'{ONLY}|Tree and Palace|#p-3 Tree'),
-    (ONLY_TREE, '<li>#p-3 Tree</li>', f'{ONLY}|#p-3 Tree (no link)|#p-3 Tree'),
-    (ONLY_TREE, f'{ONLY_TREE}\nPalace', f'{ONLY}|Well Clock Tree Palace|#p-3 Tree'),
+    ("<li><a href='#p-1'>", "<li><a href='#p-0'>", f'{ONLY}|#p-0 b Park 60.00|#p-1 b Park 60.00'),
+    (f'{ONLY_TREE}\n', '', f'{ONLY}|#p-2 c Well 20.00, #p-4 e Clock 20.00|#p-4 e Clock 20.00, #p-3 d Tree 25.00'),
+    (ONLY_TREE, f'{ONLY_TREE}\n<li>Palace</li>', f'{ONLY}|#p-3 d Tree 25.00, Palace|#p-3 d Tree 25.00'),
+    (ONLY_TREE, f"{ONLY_TREE}\n<li><bdi dir='auto'>Palace</bdi></li>", f'{ONLY}|#p-3 d Tree 25.00, Palace|#p-3 d Tree 25.00'),
+    (ONLY_TREE, ONLY_TREE.replace('<a', 'Palace, <a'), f'{ONLY}|Palace, d Tree (25 zł)|#p-3 d Tree 25.00'),
+    (ONLY_TREE, ONLY_TREE.replace('</a>', '</a> and Palace'), f'{ONLY}|d Tree and Palace (25 zł)|#p-3 d Tree 25.00'),
+    (ONLY_TREE, '<li>#p-3 d Tree 25.00</li>', f'{ONLY}|#p-3 d Tree 25.00 (no link)|#p-3 d Tree 25.00'),
+    (ONLY_TREE, f'{ONLY_TREE}\nPalace', f'{ONLY}|e Clock (20 zł) d Tree (25 zł) Palace|#p-3 d Tree 25.00'),
     (OTHERS, '', f'the contents|{BEFORE}, #categories|{BEFORE}, #others The other projects'),
     (OTHERS, '<li>Palace has won</li>\n', f'the contents|{BEFORE}, Palace has won (no link), #categories|{BEFORE}, #others The other projects'),
     (OTHERS, '<li><bdi>Palace has won</bdi></li>\n', f'the contents|{BEFORE}, Palace has won (no link), #categories|{BEFORE}, #others The other projects'),
@@ -179,8 +186,29 @@ PICTURE, PICTURE_END = "<svg class='shares'", '</svg>\n'
 UNRAISED = re.compile(r"<rect class='(?:share|raise)' x='\d+' y='15' .*\n")
 GROWN = 'of shares that have grown'
 
+# An election with a tie of filling up, and with a project that one raise more elects in place of another, which
+# crates/pb_app/cases/page.txt works by hand; and what of its page is changed, as above.
+TWINS = pathlib.Path(__file__).resolve().parent.parent / 'crates' / 'pb_app' / 'cases' / 'data' / 'twins.pb'
+TWINS_OPTIONS = ['--completion', 'add1u', '--step', '2500', '--compare']
+TIE, TIED = 'a tie of filling up', 'Park (id d) before Park (id e)'
+PARK = "<a href='#p-3'><span class='id' dir='auto'>d</span> <bdi dir='auto'>Park</bdi></a> was"
+NO_MORE = "would not be with that raise:\n<ul>\n<li><a href='#p-1'><span class='id' dir='auto'>b</span> <bdi dir='auto'>Fountain</bdi></a> (<data value='30.00'>"
+OF_TWINS = [
+    (PARK, PARK.replace('p-3', 'p-2'), f'{TIE}|d Park was|{TIED}'),
+    (PARK, PARK.replace('p-3', 'p-2'), '<a> that leads elsewhere than its text says under “How it was counted”: “d Park”'),
+    (PARK, PARK.replace('Park', 'Pool'), '<a> that leads elsewhere than its text says under “How it was counted”: “d Pool”'),
+    (PARK, f'{PARK}</li>\n<li>{PARK}', f'{TIE}|d Park was|{TIED}'),
+    ("<ul class='ties'>", "<ul class='ties'>\n<li>Palace</li>", f'{TIE}|Palace|{TIED}'),
+    ("<ul class='ties'>", "<ul class='ties'>\n<li><data value='1.00'>1</data> Palace won by a tie</li>", f'{TIE}|1 Palace won by a tie|{TIED}'),
+    ("<ul class='ties'>", "<ul class='ties'>\n<li><data value='1.00'>1</data> Palace won by a tie</li>", 'a figure of a tie|1.00|'),
+    (PARK, PARK.replace('p-3', 'p-4').replace('>d<', '>e<'), f'{TIE}|e Park was|{TIED}'),
+    (NO_MORE, NO_MORE.replace('p-1', 'p-0'), f'{THEN}|#p-0 b Fountain 30.00|#p-1 b Fountain 30.00'),
+    (NO_MORE, NO_MORE.replace("value='30", "value='31"), f'{THEN}|#p-1 b Fountain 31.00|#p-1 b Fountain 30.00'),
+    (NO_MORE, NO_MORE.replace('<li>', '<li>Palace</li>\n<li>'), f'{THEN}|Palace (no link), #p-1 b Fountain|#p-1 b Fountain 30.00'),
+]
+
 # How many pages these make.
-COUNT = len(HIDING) + len(STARTS) + len(FIGURES) + len(TEXTS) + 17
+COUNT = len(HIDING) + len(STARTS) + len(FIGURES) + len(TEXTS) + len(OF_TWINS) + 18
 
 
 def between(text, opening, closing):
@@ -214,6 +242,15 @@ def changed_pages(page, other):
     yield page.replace(digest, f'<dd><code>{digest[10:18]}</code></dd>'), f'the digest of the file|{digest[10:18]}|{digest[10:74]}'
     yield other, 'the budget|120.00|100.00'
     yield from changed_parts(page)
+
+
+def changed_twins(page):
+    """Each change of the page of the other election, with what has to be named."""
+    for old, new, told in OF_TWINS:
+        assert old in page, old
+        yield page.replace(old, new, 1), told
+    lists = between(page, "<li>Ties that", '</ul>\n</li>\n')
+    yield page.replace(lists, ''), f'{TIE}||{TIED}'
 
 
 def unraised(picture):

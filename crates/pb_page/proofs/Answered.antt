@@ -1,12 +1,13 @@
 -- What the parts of a page are where the code has told its cases apart.
-use Rattle.std.proofs.Common.{◌≡◌, ◌∙◌, ℕ, List, [], ap, length, refl}
-use Rattle.std.specs.Prelude.{◌∷◌, ◌++◌, codes, decimal}
+use Rattle.std.proofs.Common.{◌≡◌, ◌∙◌, ℕ, List, [], ap, length, refl, sym}
+use Rattle.std.specs.Prelude.{◌∷◌, ◌++◌, Option, None, Some, codes, decimal}
+use Rattle.std.specs.Option.{option_map_or}
 use Rattle.pb_core.specs.Election.{ElectionView, ProjectView}
 use Rattle.pb_page.specs.Amount.{shown}
-use Rattle.pb_page.specs.Content.{Part, attribute, isolated, item, line, number, own, said, say, text}
+use Rattle.pb_page.specs.Content.{Part, attribute, element, isolated, item, line, number, own, said, say, text}
 use Rattle.pb_page.specs.Inner.Filling.{cut}
 use Rattle.pb_page.specs.Inner.Counted.{options_put, options_said, share_said, works_said}
-use Rattle.pb_page.specs.Page.{blocks, by_raises, called, project_at, tie, width}
+use Rattle.pb_page.specs.Page.{blocks, by_raises, called, linked, project_at, tie, titled, width}
 use Rattle.pb_page.specs.declared.keys.TheConstants as key
 use Rattle.pb_page.specs.declared.language.Language.{Language}
 use Rattle.pb_page.specs.declared.templates.TheConstants.{BUDGET_PART}
@@ -58,19 +59,44 @@ works_put l k budget voters opening e budget_is voters_is opening_is rest =
     ∙ ap (λ (n : ℕ). before (works_said l k e.budget n opening) rest) voters_is
     ∙ ap (λ (n : ℕ). before (works_said l k e.budget (length e.voters) n) rest) opening_is
 
--- what is said of a tie
-abbrev tied : Language → (k round : ℕ) → (winner other : List ℕ) → List Part
-tied l k round winner other = item (say l k (number (codes "round") round ∷ isolated winner ∷ isolated other ∷ []))
+-- a link to the row of a project, of this id and this name
+abbrev link_shown : (place : ℕ) → (id name : List ℕ) → List Part
+link_shown place id name = element (codes "a") (attribute (codes "href") (own (codes "#p-") ++ text (decimal place))) (titled (record {
+  id = id;
+  name = name;
+  cost = 0;
+}))
 
-pub tie_is : (l : Language) (x : CountedElectionView) (t : Tie) (k : ℕ) (winner other : List ℕ)
-    → k ≡ by_measure x.rule.options.measure key.TIE_BY_VOTES key.TIE_BY_COST → winner ≡ called (project_at x.election t.winner)
-    → other ≡ called (project_at x.election t.other) → (rest : List ℕ)
-    → before (item (say l k (number (codes "round") t.round ∷ isolated winner ∷ isolated other ∷ []))) rest ≡ before (tie l x t) rest
-tie_is l x t k winner other k_is winner_is other_is rest =
-    ap (λ (n : ℕ). before (tied l n t.round winner other) rest) k_is
-    ∙ ap (λ (w : List ℕ). before (tied l (by_measure x.rule.options.measure key.TIE_BY_VOTES key.TIE_BY_COST) t.round w other) rest) winner_is
-    ∙ ap (λ (w : List ℕ). before (tied l (by_measure x.rule.options.measure key.TIE_BY_VOTES key.TIE_BY_COST) t.round
-    (called (project_at x.election t.winner)) w) rest) other_is
+pub link_is : (e : ElectionView) (place : ℕ) (id name : List ℕ) → id ≡ (project_at e place).id → name ≡ (project_at e place).name
+    → link_shown place id name ≡ linked e place
+link_is e place id name id_is name_is =
+    ap (λ (t : List ℕ). link_shown place t name) id_is ∙ ap (λ (t : List ℕ). link_shown place (project_at e place).id t) name_is
+
+-- what is said of a tie
+abbrev tie_in : Language → CountedElectionView → (winner other : List Part) → Option ℕ → List Part
+tie_in l x winner other at = item (option_map_or (λ round. say l (by_measure x.rule.options.measure key.TIE_BY_VOTES key.TIE_BY_COST)
+    (number (codes "round") round ∷ winner ∷ other ∷ [])) at (say l key.TIE_ADDED (winner ∷ other ∷ [])))
+
+tie_as : (l : Language) (x : CountedElectionView) (t : Tie) (at : Option ℕ) (winner other : List Part) → at ≡ t.round
+    → winner ≡ linked x.election t.winner → other ≡ linked x.election t.other → (rest : List ℕ)
+    → before (tie_in l x winner other at) rest ≡ before (tie l x t) rest
+tie_as l x t at winner other at_is winner_is other_is rest =
+    ap (λ (r : Option ℕ). before (tie_in l x winner other r) rest) at_is
+    ∙ ap (λ (w : List Part). before (tie_in l x w other t.round) rest) winner_is
+    ∙ ap (λ (o : List Part). before (tie_in l x (linked x.election t.winner) o t.round) rest) other_is
+
+pub tie_is : (l : Language) (x : CountedElectionView) (t : Tie) (k round : ℕ) (winner other : List Part)
+    → k ≡ by_measure x.rule.options.measure key.TIE_BY_VOTES key.TIE_BY_COST → t.round ≡ Some round
+    → winner ≡ linked x.election t.winner → other ≡ linked x.election t.other → (rest : List ℕ)
+    → before (item (say l k (number (codes "round") round ∷ winner ∷ other ∷ []))) rest ≡ before (tie l x t) rest
+tie_is l x t k round winner other k_is at_is winner_is other_is rest =
+    ap (λ (n : ℕ). before (item (say l n (number (codes "round") round ∷ winner ∷ other ∷ []))) rest) k_is
+    ∙ tie_as l x t (Some round) winner other (sym at_is) winner_is other_is rest
+
+pub added_tie_is : (l : Language) (x : CountedElectionView) (t : Tie) (winner other : List Part) → t.round ≡ None
+    → winner ≡ linked x.election t.winner → other ≡ linked x.election t.other → (rest : List ℕ)
+    → before (item (say l key.TIE_ADDED (winner ∷ other ∷ []))) rest ≡ before (tie l x t) rest
+added_tie_is l x t winner other at_is winner_is other_is rest = tie_as l x t None winner other (sym at_is) winner_is other_is rest
 
 -- a winner's part of the budget
 abbrev block_shown : Language → (from wide : ℕ) → (name id : List ℕ) → (cost : ℕ) → List Part

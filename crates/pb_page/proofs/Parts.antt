@@ -5,9 +5,9 @@ use Rattle.std.proofs.lemmas.Bool.{eq-eqb}
 use Rattle.pb_core.specs.Election.{ElectionView}
 use Rattle.pb_core.specs.MoneyText.{money_text}
 use Rattle.pb_page.specs.Content.{Part, amount, attribute, block, element, figure, item, line, listed, own, paragraph, said, say, section, text}
-use Rattle.pb_page.specs.Inner.Counted.{begun, figures_of, files_said, filled_up, journal_source, link_said, made_by, name_said, only_then, options_said, picture_said, recount_said, result_said, sections, share_said, spent_said, then_listed, voted_said, works_said}
+use Rattle.pb_page.specs.Inner.Counted.{begun, figures_of, files_said, filled_up, journal_source, link_said, made_by, name_said, options_said, picture_said, recount_said, result_said, sections, share_said, spent_said, voted_said, works_said}
 use Rattle.pb_page.specs.Inner.Filling.{cut}
-use Rattle.pb_page.specs.Page.{beside, blocks, budget, by_raises, check, command, contents, link_to, parts, raises_ended, rule, source, summary, tie, ties, works}
+use Rattle.pb_page.specs.Page.{beside, blocks, budget, by_raises, check, command, contents, entry, link_to, parts, raises_ended, rule, source, summary, those_said, tie, ties, works}
 use Rattle.pb_page.specs.Words.{sentence}
 use Rattle.pb_page.specs.declared.facts.Facts.{Facts}
 use Rattle.pb_page.specs.declared.figures.Figures.{Figures}
@@ -15,7 +15,7 @@ use Rattle.pb_page.specs.declared.keys.TheConstants as key
 use Rattle.pb_page.specs.declared.language.Language.{Language}
 use Rattle.pb_page.specs.declared.picture.TheConstants.{GROWN_SHARES, OPENING_SHARES}
 use Rattle.pb_page.specs.declared.style.TheConstants.{META, STYLE}
-use Rattle.pb_page.specs.declared.templates.TheConstants.{BLOCKS_CLOSING, BLOCKS_OPENING, BUDGET_CLOSING, BUDGET_OPENING, CHECK_CLOSING, CHECK_OPENING, CLOSING, COMMAND_CLOSING, COMMAND_OPENING, CONTENTS_CLOSING, CONTENTS_OPENING, FIGURE_CLOSING, FIGURE_OPENING, HEAD_OPENING, LEAD, LEAD_CLOSING, LEAD_NEXT, LIST_CLOSING, LIST_OPENING, MAIN, NOTHING, ONLY_THEN_OPENING, OPTIONS, PARAGRAPH, RULE_CLOSING, RULE_OPENING, SOURCES_CLOSING, TIES_OPENING, TITLE, TOP}
+use Rattle.pb_page.specs.declared.templates.TheConstants.{BLOCKS_CLOSING, BLOCKS_OPENING, BUDGET_CLOSING, BUDGET_OPENING, CHECK_CLOSING, CHECK_OPENING, CLOSING, COMMAND_CLOSING, COMMAND_OPENING, CONTENTS_CLOSING, CONTENTS_OPENING, FIGURE_CLOSING, FIGURE_OPENING, HEAD_OPENING, LEAD, LEAD_CLOSING, LEAD_NEXT, LIST_CLOSING, LIST_OPENING, MAIN, NOTHING, OPTIONS, PARAGRAPH, RULE_CLOSING, RULE_OPENING, SOURCES_CLOSING, THOSE_OPENING, TIES_OPENING, TITLE, TOP}
 use Rattle.pb_page.proofs.Grown.{before, before_more, heads}
 use Rattle.pb_reasons.specs.Counted.{winners_of}
 use Rattle.pb_reasons.specs.CountedElection.{CountedElectionView}
@@ -41,11 +41,10 @@ budget_as : (l : Language) (says blocks spent : List Part) (rest : List ℕ)
 unfolding cut
 budget_as l says those spent rest = simp (append_assoc, before_more)
 
-then_as : (l : Language) (items : List Part) (rest : List ℕ)
-    → before (heads l ONLY_THEN_OPENING.now (key.ONLY_THEN ∷ []) ++ (items ++ own LIST_CLOSING.now)) rest
-    ≡ before (listed l key.ONLY_THEN [] items) rest
+those_as : (l : Language) (k : ℕ) (items : List Part) (rest : List ℕ)
+    → before (heads l THOSE_OPENING.now (k ∷ []) ++ (items ++ own LIST_CLOSING.now)) rest ≡ before (listed l k [] items) rest
 unfolding cut
-then_as l items rest = simp before_more
+those_as l k items rest = simp before_more
 
 ties_as : (l : Language) (items : List Part) (rest : List ℕ)
     → before (heads l TIES_OPENING.now (key.TIES ∷ []) ++ (items ++ own LIST_CLOSING.now)) rest
@@ -197,35 +196,40 @@ budget_is l x f is rest =
     ≡ before (budget l x) rest in
     subst Same (sym is) (budget_as l (picture_said l (figures_of x)) (blocks l.costs x.election 0 (winners_of x.counted)) (spent_said l (figures_of x)) rest)
 
-pub then_is : (l : Language) (e : ElectionView) (new : List ℕ) → length new == 0 ≡ false → (rest : List ℕ)
-    → before (heads l ONLY_THEN_OPENING.now (key.ONLY_THEN ∷ []) ++ (flat_map (only_then l e) new ++ own LIST_CLOSING.now)) rest
-    ≡ before (then_listed l e new) rest
-then_is l e new some rest =
-    let all = listed l key.ONLY_THEN [] (flat_map (only_then l e) new) in
-    then_as l (flat_map (only_then l e) new) rest ∙ ap (λ (b : Bool). before (if b then [] else all) rest) (sym some)
+pub those_are : (l : Language) (e : ElectionView) (k : ℕ) (places : List ℕ) → length places == 0 ≡ false → (rest : List ℕ)
+    → before (heads l THOSE_OPENING.now (k ∷ []) ++ (flat_map (entry l e) places ++ own LIST_CLOSING.now)) rest
+    ≡ before (those_said l e k places) rest
+those_are l e k places some rest =
+    let all = listed l k [] (flat_map (entry l e) places) in
+    those_as l k (flat_map (entry l e) places) rest ∙ ap (λ (b : Bool). before (if b then [] else all) rest) (sym some)
 
-pub none_then : (l : Language) (e : ElectionView) (new : List ℕ) → length new == 0 ≡ true → [] ≡ then_listed l e new
-none_then l e new none =
-    let all = listed l key.ONLY_THEN [] (flat_map (only_then l e) new) in ap (λ (b : Bool). if b then [] else all) (sym none)
+pub none_of_those : (l : Language) (e : ElectionView) (k : ℕ) (places : List ℕ) → length places == 0 ≡ true → [] ≡ those_said l e k places
+none_of_those l e k places none =
+    let all = listed l k [] (flat_map (entry l e) places) in ap (λ (b : Bool). if b then [] else all) (sym none)
 
-pub over_is : (l : Language) (x : CountedElectionView) (next : NextRaise) (e : ElectionView) (winners places : List ℕ) → e ≡ x.election
-    → winners ≡ winners_of x.counted → places ≡ next.only_then.items → (rest : List ℕ)
+abbrev over_said : Language → NextRaise → ElectionView → (new gone : List ℕ) → List Part
+over_said l next e new gone = item (say l key.OVER (amount l.amounts (codes "next_share") next.share ∷ amount l.costs (codes "next_cost") next.cost ∷ []))
+    ++ (those_said l e key.ONLY_THEN new ++ those_said l e key.NO_MORE gone)
+
+pub over_is : (l : Language) (x : CountedElectionView) (next : NextRaise) (e : ElectionView) (winners places gone : List ℕ) → e ≡ x.election
+    → winners ≡ winners_of x.counted → places ≡ next.only_then.items → gone ≡ next.no_more.items → (rest : List ℕ)
     → before (item (say l key.OVER (amount l.amounts (codes "next_share") next.share ∷ amount l.costs (codes "next_cost") next.cost ∷ []))
-    ++ then_listed l e (beside winners places)) rest
+    ++ (those_said l e key.ONLY_THEN (beside winners places) ++ those_said l e key.NO_MORE gone)) rest
     ≡ before (raises_ended l x (Over next)) rest
-over_is l x next e winners places e_is winners_is places_is rest =
-    let first = item (say l key.OVER (amount l.amounts (codes "next_share") next.share ∷ amount l.costs (codes "next_cost") next.cost ∷ [])) in
-    ap (λ (w : List ℕ). before (first ++ then_listed l e (beside w places)) rest) winners_is
-    ∙ ap (λ (p : List ℕ). before (first ++ then_listed l e (beside (winners_of x.counted) p)) rest) places_is
-    ∙ ap (λ (f : ElectionView). before (first ++ then_listed l f (beside (winners_of x.counted) next.only_then.items)) rest) e_is
+over_is l x next e winners places gone e_is winners_is places_is gone_is rest =
+    let new = beside (winners_of x.counted) next.only_then.items in
+    ap (λ (w : List ℕ). before (over_said l next e (beside w places) gone) rest) winners_is
+    ∙ ap (λ (p : List ℕ). before (over_said l next e (beside (winners_of x.counted) p) gone) rest) places_is
+    ∙ ap (λ (g : List ℕ). before (over_said l next e new g) rest) gone_is
+    ∙ ap (λ (f : ElectionView). before (over_said l next f new next.no_more.items) rest) e_is
 
-pub ties_are : (l : Language) (x : CountedElectionView) (all : List Tie) → all ≡ ties_of x.rule.options.measure x.election x.counted.outcome
+pub ties_are : (l : Language) (x : CountedElectionView) (all : List Tie) → all ≡ ties_of x.rule.options.measure x.election x.counted
     → length all == 0 ≡ false → (rest : List ℕ)
     → before (heads l TIES_OPENING.now (key.TIES ∷ []) ++ (flat_map (tie l x) all ++ own LIST_CLOSING.now)) rest ≡ before (ties l x) rest
 unfolding ties
 ties_are l x all is some rest = rw (sym is, some) (ties_as l (flat_map (tie l x) all) rest)
 
-pub no_ties : (l : Language) (x : CountedElectionView) (all : List Tie) → all ≡ ties_of x.rule.options.measure x.election x.counted.outcome
+pub no_ties : (l : Language) (x : CountedElectionView) (all : List Tie) → all ≡ ties_of x.rule.options.measure x.election x.counted
     → length all == 0 ≡ true → [] ≡ ties l x
 unfolding ties
 no_ties l x all is none = rw (sym is, none) refl

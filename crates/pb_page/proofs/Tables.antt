@@ -8,16 +8,16 @@ use Rattle.pb_core.specs.Election.{ElectionView, ProjectView}
 use Rattle.pb_core.specs.MoneyText.{money_text}
 use Rattle.pb_page.specs.Amount.{shown}
 use Rattle.pb_page.specs.Content.{Part, amount, attribute, bar, block, cell, column, columns, element, figure, head, isolated, item, line, nameless, number, own, paragraph, row, said, say, section, table, text, under}
-use Rattle.pb_page.specs.Inner.Counted.{both_only, compared, exact_row, got_said, in_category, links, lost_row, only_then, more_told, nothing_told, payment_told, told_of, went_as}
+use Rattle.pb_page.specs.Inner.Counted.{both_only, compared, exact_row, got_said, in_category, links, lost_row, more_told, nothing_told, payment_told, told_of, went_as}
 use Rattle.pb_page.specs.Inner.Filling.{cut}
-use Rattle.pb_page.specs.Page.{added, at_least, ballots_row, beside, besides, called, categories, category_name, category_of, category_row, cells, choices_won, compared_row, ended_row, linked, others, project_at, projects, row_at, short_key, titled, width, winners, money_told, went}
+use Rattle.pb_page.specs.Page.{added, at_least, ballots_row, beside, besides, categories, category_name, category_of, category_row, cells, choices_won, compared_row, ended_row, entry, linked, others, project_at, projects, row_at, short_key, titled, width, winners, money_told, went}
 use Rattle.pb_page.specs.Words.{sentence}
 use Rattle.pb_page.specs.declared.categories.Categories.{Categories}
 use Rattle.pb_page.specs.declared.facts.Facts.{Facts}
 use Rattle.pb_page.specs.declared.in_category.InCategory.{InCategory}
 use Rattle.pb_page.specs.declared.keys.TheConstants as key
 use Rattle.pb_page.specs.declared.language.Language.{Language}
-use Rattle.pb_page.specs.declared.templates.TheConstants.{ADDED, ADDED_OPENING, CATEGORIES_OPENING, CATEGORY, COMPARED_OPENING, COMPARED_ROW, HEAD_CATEGORY, HEAD_CLOSING, LINKED, LINKS_CLOSING, LINKS_OPENING, NONE_LOST, NONE_WON, ONLY_THEN, OTHER, OTHERS_OPENING, OTHER_CLOSING, OTHER_OPENING, ROWS_CLOSING, ROW_CATEGORY, ROW_CLOSING, ROW_OPENING, SECTION_CLOSING, TABLE_CLOSING, VOTERS_OPENING, VOTERS_ROW, VOTERS_ROW_CLOSING, VOTERS_TABLE, WENT_CLOSING, WENT_OPENING, WINNER, WINNERS_OPENING}
+use Rattle.pb_page.specs.declared.templates.TheConstants.{ADDED, ADDED_OPENING, CATEGORIES_OPENING, CATEGORY, COMPARED_OPENING, COMPARED_ROW, ENTRY, HEAD_CATEGORY, HEAD_CLOSING, LINKS_CLOSING, LINKS_OPENING, NONE_LOST, NONE_WON, OTHER, OTHERS_OPENING, OTHER_CLOSING, OTHER_OPENING, ROWS_CLOSING, ROW_CATEGORY, ROW_CLOSING, ROW_OPENING, SECTION_CLOSING, TABLE_CLOSING, VOTERS_OPENING, VOTERS_ROW, VOTERS_ROW_CLOSING, VOTERS_TABLE, WENT_CLOSING, WENT_OPENING, WINNER, WINNERS_OPENING}
 use Rattle.pb_page.proofs.Grown.{before, before_more}
 use Rattle.pb_reasons.specs.BesideVotes.{beside_votes, elected_by_votes}
 use Rattle.pb_reasons.specs.Counted.{winners_of}
@@ -92,21 +92,15 @@ unfolding cut
 links_as l k items rest = simp before_more
 
 pub links_are : (l : Language) (e : ElectionView) (k : ℕ) (places : List ℕ) → length places == 0 ≡ false → (rest : List ℕ)
-    → before (heads l LINKS_OPENING.now (k ∷ []) ++ (flat_map (linked e) places ++ own LINKS_CLOSING.now)) rest ≡ before (links l e k places) rest
+    → before (heads l LINKS_OPENING.now (k ∷ []) ++ (flat_map (entry l e) places ++ own LINKS_CLOSING.now)) rest ≡ before (links l e k places) rest
 links_are l e k places some rest =
-    let all = paragraph (said l k) ++ block (codes "ul") [] (flat_map (linked e) places) in
-    links_as l k (flat_map (linked e) places) rest ∙ ap (λ (b : Bool). before (if b then [] else all) rest) (sym some)
+    let all = paragraph (said l k) ++ block (codes "ul") [] (flat_map (entry l e) places) in
+    links_as l k (flat_map (entry l e) places) rest ∙ ap (λ (b : Bool). before (if b then [] else all) rest) (sym some)
 
 pub no_links : (l : Language) (e : ElectionView) (k : ℕ) (places : List ℕ) → length places == 0 ≡ true → [] ≡ links l e k places
 no_links l e k places none =
-    let all = paragraph (said l k) ++ block (codes "ul") [] (flat_map (linked e) places) in
+    let all = paragraph (said l k) ++ block (codes "ul") [] (flat_map (entry l e) places) in
     ap (λ (b : Bool). if b then [] else all) (sym none)
-
-pub linked_is : (e : ElectionView) (place : ℕ) (name : List ℕ) → name ≡ called (project_at e place) → (rest : List ℕ)
-    → before (cut LINKED.now (decimal place ∷ name ∷ [])) rest ≡ before (linked e place) rest
-unfolding cut
-linked_is e place name is rest = ap (λ (t : List ℕ). before (item (element (codes "a") (attribute (codes "href") (own (codes "#p-") ++ text (decimal place)))
-    (isolated t))) rest) is
 
 -- the histogram
 voters_as : (l : Language) (says rows more : List Part) (rest : List ℕ)
@@ -418,24 +412,24 @@ money_is l e left m payments more is_empty payments_are more_is empty_is rest =
     ∙ money_as l (flat_map (payment_told l e) m.most) (more_told l m.others) (nothing_told l (length m.most == 0))
     (item (say l key.KEPT (amount l.amounts (codes "kept") left ∷ []))) rest))
 
-abbrev payment_put : Language → Payment → (name : List ℕ) → List Part
-payment_put l p name = item (say l key.PAID (amount l.amounts (codes "paid_for") p.amount ∷ element (codes "a")
-    (attribute (codes "href") (own (codes "#p-") ++ text (decimal p.place))) (isolated name) ∷ []))
+abbrev payment_put : Language → Payment → (project : List Part) → List Part
+payment_put l p project = item (say l key.PAID (amount l.amounts (codes "paid_for") p.amount ∷ project ∷ []))
 
-pub payment_is : (l : Language) (e : ElectionView) (p : Payment) (name : List ℕ) → name ≡ called (project_at e p.place) → (rest : List ℕ)
-    → before (payment_put l p name) rest ≡ before (payment_told l e p) rest
-payment_is l e p name is rest = ap (λ (n : List ℕ). before (payment_put l p n) rest) is
+pub payment_is : (l : Language) (e : ElectionView) (p : Payment) (project : List Part) → project ≡ linked e p.place → (rest : List ℕ)
+    → before (payment_put l p project) rest ≡ before (payment_told l e p) rest
+payment_is l e p project is rest = ap (λ (t : List Part). before (payment_put l p t) rest) is
 
--- a project of the next raise
-abbrev then_shown : Language → ProjectView → List Part
-then_shown l p = item (titled p ++ (own (codes " (") ++ (nameless (money_text p.cost) (text (shown l.costs p.cost)) ++ own (codes ")"))))
+-- an entry of a list of projects
+abbrev entry_shown : Language → (place : ℕ) → ProjectView → List Part
+entry_shown l place p = item (element (codes "a") (attribute (codes "href") (own (codes "#p-") ++ text (decimal place))) (titled p)
+    ++ (own (codes " (") ++ (nameless (money_text p.cost) (text (shown l.costs p.cost)) ++ own (codes ")"))))
 
-pub only_then_is : (l : Language) (e : ElectionView) (place : ℕ) (p : ProjectView) (id name : List ℕ) (cost : ℕ) → p ≡ project_at e place
+pub entry_is : (l : Language) (e : ElectionView) (place : ℕ) (p : ProjectView) (id name : List ℕ) (cost : ℕ) → p ≡ project_at e place
     → id ≡ p.id → name ≡ p.name → cost ≡ p.cost → (rest : List ℕ)
-    → before (cut ONLY_THEN.now (id ∷ name ∷ money_text cost ∷ shown l.costs cost ∷ [])) rest ≡ before (only_then l e place) rest
+    → before (cut ENTRY.now (decimal place ∷ id ∷ name ∷ money_text cost ∷ shown l.costs cost ∷ [])) rest ≡ before (entry l e place) rest
 unfolding cut
-only_then_is l e place p id name cost is id_is name_is cost_is rest =
-    ap (λ (t : List ℕ). before (then_shown l (record { id = t; name = name; cost = cost })) rest) id_is
-    ∙ ap (λ (t : List ℕ). before (then_shown l (record { id = p.id; name = t; cost = cost })) rest) name_is
-    ∙ ap (λ (n : ℕ). before (then_shown l (record { id = p.id; name = p.name; cost = n })) rest) cost_is
-    ∙ ap (λ (q : ProjectView). before (then_shown l q) rest) is
+entry_is l e place p id name cost is id_is name_is cost_is rest =
+    ap (λ (t : List ℕ). before (entry_shown l place (record { id = t; name = name; cost = cost })) rest) id_is
+    ∙ ap (λ (t : List ℕ). before (entry_shown l place (record { id = p.id; name = t; cost = cost })) rest) name_is
+    ∙ ap (λ (n : ℕ). before (entry_shown l place (record { id = p.id; name = p.name; cost = n })) rest) cost_is
+    ∙ ap (λ (q : ProjectView). before (entry_shown l place q) rest) is

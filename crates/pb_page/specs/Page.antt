@@ -98,6 +98,14 @@ abbrev pub cells : Language → ProjectView → (wide votes : ℕ) → (more : L
 cells l p wide votes more = head (titled p ++ (bar wide ++ more)) ++ (under l key.COST (amount l.costs (codes "cost") p.cost)
     ++ under l key.VOTES (number (codes "votes") votes))
 
+-- a link to the row of the project at this place; and an entry of a list: that link, and the project's cost
+abbrev pub linked : ElectionView → ℕ → List Part
+linked e place = element (codes "a") (attribute (codes "href") (own (codes "#p-") ++ text (decimal place))) (titled (project_at e place))
+
+abbrev pub entry : Language → ElectionView → ℕ → List Part
+entry l e place = let cost = (project_at e place).cost in item (linked e place ++ (own (codes " (")
+    ++ (nameless (money_text cost) (text (shown l.costs cost)) ++ own (codes ")"))))
+
 -- one of two things, by whether a rule raises shares; so what stands above what projects were short; and the row
 -- of a project up to its category, by how it ended
 abbrev pub by_raises : {A : Type 0} → Rule → (unraised raised : A) → A
@@ -106,8 +114,7 @@ by_raises r unraised raised = by_completion r.options.completion r.fill_up unrai
 -- where the money of a project's supporters went, and what they have left; it is told of five supporters or more
 abbrev pub money_told : Language → ElectionView → (left : ℕ) → MoneyView → List Part
 money_told l e left m = element (codes "details") [] (element (codes "summary") [] (said l key.WENT) ++ block (codes "ul") []
-    (flat_map (λ p. item (say l key.PAID (amount l.amounts (codes "paid_for") p.amount ∷ element (codes "a") (attribute (codes "href")
-    (own (codes "#p-") ++ text (decimal p.place))) (isolated (called (project_at e p.place))) ∷ []))) m.most
+    (flat_map (λ p. item (say l key.PAID (amount l.amounts (codes "paid_for") p.amount ∷ linked e p.place ∷ []))) m.most
     ++ ((if m.others == 0 then [] else item (say l key.PAID_MORE (amount l.amounts (codes "paid_more") m.others ∷ [])))
     ++ ((if length m.most == 0 then item (said l key.PAID_NOTHING) else [])
     ++ item (say l key.KEPT (amount l.amounts (codes "kept") left ∷ []))))))
@@ -209,8 +216,8 @@ abbrev pub voters : Language → CountedElectionView → List Part
 voters l x = choices_won l
     (map (λ voter. (voter_reason x.election x.counted voter).elected) (range_with_len 0 (length x.election.voters)))
 
--- those of these places that are not taken; the row of a rule; those that one rule elects and another does not, each
--- a link to its row, where there are any; and, where it is asked for, the count beside most votes first
+-- those of these places that are not taken; the row of a rule; those that one rule elects and another does not, where
+-- there are any; and, where it is asked for, the count beside most votes first
 abbrev pub beside : (taken places : List ℕ) → List ℕ
 beside taken places = filter (λ place. not (is_taken taken place)) places
 
@@ -219,13 +226,9 @@ compared_row l k r = row [] (head (said l k) ++ (under l key.COMPARED_WON (numbe
     ++ (under l key.COMPARED_COST (amount l.costs (codes "rule_cost") r.spent) ++ (under l key.WITHOUT (number (codes "without") r.without)
     ++ under l key.MORE (number (codes "more_choices") r.more_choices)))))
 
-abbrev pub linked : ElectionView → ℕ → List Part
-linked e place = item (element (codes "a") (attribute (codes "href") (own (codes "#p-") ++ text (decimal place)))
-    (isolated (called (project_at e place))))
-
 abbrev pub elected_only : Language → ElectionView → ℕ → (winners other : List ℕ) → List Part
 elected_only l e k winners other = let those = beside other winners in if length those == 0 then []
-    else paragraph (said l k) ++ block (codes "ul") [] (flat_map (linked e) those)
+    else paragraph (said l k) ++ block (codes "ul") [] (flat_map (entry l e) those)
 
 unfoldable pub besides : Facts → CountedElectionView → List Part
 besides facts x = let l = facts.language in let e = x.election in let rules = beside_votes e x.counted in
@@ -235,23 +238,27 @@ besides facts x = let l = facts.language in let e = x.election in let rules = be
     (compared_row l key.EQUAL_SHARES rules.own ++ compared_row l key.MOST_VOTES rules.other)
     ++ (elected_only l e key.ONLY_BY_SHARES own other ++ elected_only l e key.ONLY_BY_VOTES other own)) else []
 
--- why the raises ended: what would be elected with one more, and
--- which projects that have not won only then, where there are any
+-- projects below what is said of them, where there are any; and why the raises ended: what would be elected with one
+-- more, which projects that have not won only then, and which of the elected no more
+abbrev pub those_said : Language → ElectionView → (k : ℕ) → (places : List ℕ) → List Part
+those_said l e k places = if length places == 0 then [] else listed l k [] (flat_map (entry l e) places)
+
 abbrev pub raises_ended : Language → CountedElectionView → RaiseEnd → List Part
 raises_ended l x Plain = []
 raises_ended l x Exhausted = item (said l key.EXHAUSTED)
-raises_ended l x (Over next) = let new = beside (winners_of x.counted) next.only_then.items in item (say l key.OVER
+raises_ended l x (Over next) = item (say l key.OVER
     (amount l.amounts (codes "next_share") next.share ∷ amount l.costs (codes "next_cost") next.cost ∷ []))
-    ++ (if length new == 0 then [] else listed l key.ONLY_THEN [] (flat_map (λ place. let p = project_at x.election place in item
-    (titled p ++ (own (codes " (") ++ (nameless (money_text p.cost) (text (shown l.costs p.cost)) ++ own (codes ")"))))) new))
+    ++ (those_said l x.election key.ONLY_THEN (beside (winners_of x.counted) next.only_then.items)
+    ++ those_said l x.election key.NO_MORE next.no_more.items)
 
--- a tie: its round, the project that it elected, and the other; and the ties, where there are any
+-- a tie: its round, or that it was in filling up, the project that won, and the other; and the ties, where there are any
 abbrev pub tie : Language → CountedElectionView → Tie → List Part
-tie l x t = item (say l (by_measure x.rule.options.measure key.TIE_BY_VOTES key.TIE_BY_COST) (number (codes "round") t.round
-    ∷ isolated (called (project_at x.election t.winner)) ∷ isolated (called (project_at x.election t.other)) ∷ []))
+tie l x t = let both = linked x.election t.winner ∷ linked x.election t.other ∷ [] in
+    item (option_map_or (λ round. say l (by_measure x.rule.options.measure key.TIE_BY_VOTES key.TIE_BY_COST)
+    (number (codes "round") round ∷ both)) t.round (say l key.TIE_ADDED both))
 
 unfoldable pub ties : Language → CountedElectionView → List Part
-ties l x = let all = ties_of x.rule.options.measure x.election x.counted.outcome in if length all == 0 then []
+ties l x = let all = ties_of x.rule.options.measure x.election x.counted in if length all == 0 then []
     else listed l key.TIES (own (codes " class='ties'")) (flat_map (tie l x) all)
 
 -- what shares are, as this election has them, in words and in a picture

@@ -3,13 +3,12 @@
 ghost use Rattle.std.specs.Prelude.{◌≡◌, ◌<◌, All, IfOk, OnOk, flat_map, length};
 ghost use Rattle.pb_page.specs.Inner.Counted.{links};
 ghost use Rattle.pb_page.specs.Inner.Grown.{Grows};
-ghost use Rattle.pb_page.specs.Page.{beside, linked};
+ghost use Rattle.pb_page.specs.Page.{beside, entry};
 
 use crate::language::Language;
 use crate::markup::Value;
 use crate::put::{put, put_own};
-use crate::templates::{LINKED, LINKS_CLOSING, LINKS_OPENING};
-use crate::ties::called_at;
+use crate::templates::{ENTRY, LINKS_CLOSING, LINKS_OPENING};
 use pb_core::election::Election;
 use pb_core::no_memory::NoMemory;
 use pb_reasons::Winners;
@@ -58,7 +57,7 @@ pub(crate) fn beside(alloc: Global, winners: &Winners, places: &[u32]) -> Result
     Ok(others)
 }
 
-/// Links to the rows of these places below what is said of them; nothing where there are none.
+/// These projects below what is said of them; nothing where there are none.
 #[tactic(auto, using(crate::proofs::Grown::none))]
 fn put_links(
     page: &mut Vec<u8>,
@@ -67,45 +66,40 @@ fn put_links(
     said: u16,
     places: &[u32],
 ) -> Result<(), NoMemory>
+    requires { All (λ place. place < length election.now.projects) places.now }
     ensures { OnOk result (Grows page.old.items page.new.items (links language.now election.now said places.now)) }
 {
     if places.is_empty() {
         return Ok(());
     }
     put(page, language, LINKS_OPENING, &[Value::Said(said)])?;
-    put_each(page, language, election, places)?;
+    put_entries(page, language, election, places)?;
     put_own(page, LINKS_CLOSING)
 }
 
-/// A link to each of these places.
-fn put_each(
+/// The projects at these places, each a link to its row, with its cost.
+pub(crate) fn put_entries<'a>(
     page: &mut Vec<u8>,
-    language: &Language,
-    election: &Election,
+    language: &Language<'a>,
+    election: &'a Election,
     places: &[u32],
 ) -> Result<(), NoMemory>
-    ensures { OnOk result (Grows page.old.items page.new.items (flat_map (linked election.now) places.now)) }
+    requires { All (λ place. place < length election.now.projects) places.now }
+    ensures { OnOk result (Grows page.old.items page.new.items
+        (flat_map (entry language.now election.now) places.now)) }
 {
+    let projects = election.projects();
     for place in places {
-        put_link(page, language, election, *place)?;
+        let project = &projects[*place as usize];
+        let cost = project.cost();
+        let values = [
+            Value::Small(*place),
+            Value::Text(project.id()),
+            Value::Text(project.name()),
+            Value::Amount(cost),
+            Value::Shown(cost, language.costs),
+        ];
+        put(page, &*language, ENTRY, &values)?;
     }
     Ok(())
-}
-
-/// A link to the row of the project at this place.
-fn put_link(
-    page: &mut Vec<u8>,
-    language: &Language,
-    election: &Election,
-    place: u32,
-) -> Result<(), NoMemory>
-    ensures { OnOk result (Grows page.old.items page.new.items (linked election.now place)) }
-{
-    let name = called_at(election, place);
-    put(
-        page,
-        language,
-        LINKED,
-        &[Value::Small(place), Value::Text(name)],
-    )
 }

@@ -221,3 +221,7 @@ pub(crate) const PAID_MORE: u16 = 120;
 pub(crate) const PAID_NOTHING: u16 = 121;
 
 pub(crate) const KEPT: u16 = 122;
+
+pub(crate) const NO_MORE: u16 = 123;
+
+pub(crate) const TIE_ADDED: u16 = 124;

@@ -57,6 +57,8 @@ fn page_ended(
     requires { IsRaiseEnd count.now.election count.now.rule.options count.now.counted.outcome end.now }
     ensures { IfOk result (λ text. IsPage count.now facts.now text.items) }
 {
+    // What is true of every count is true of the places of the elected.
+    let _election = count.election();
     let money = MoneyTeller::of(alloc, count)?;
     let mut page = Vec::new(alloc);
     put_all(&mut page, facts, count, &money, end)?;

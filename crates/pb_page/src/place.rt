@@ -20,14 +20,12 @@ pub(crate) enum Place<'a> {
     Amount(&'static str, Money, Form<'a>),
     /// An amount for programs that has no name.
     Nameless(Money, Form<'a>),
-    /// What a project is called.
-    Called(&'a str),
     /// What the words of the page say at a key.
     Said(u16),
     /// A text of the program's, as code.
     Code(&'a str),
-    /// A link to the row of a project: its place in the file, and what it is called.
-    Project(u32, &'a str),
+    /// A link to the row of a project: its place in the file, its id and its name.
+    Project(u32, &'a str, &'a str),
     /// A link to what is published: its address.
     Files(&'a str),
     /// A link: its address, and the key of what it is called.

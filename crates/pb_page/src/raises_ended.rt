@@ -1,11 +1,12 @@
 //! Why the raises ended.
 
-ghost use Rattle.std.specs.Prelude.{◌<◌, All, OnOk, flat_map, length};
-ghost use Rattle.pb_page.specs.Inner.Counted.{KnowsPlaces, only_then, then_listed};
+ghost use Rattle.std.specs.Prelude.{◌<◌, All, OnOk, length};
+ghost use Rattle.pb_page.specs.Inner.Counted.{KnowsPlaces};
 ghost use Rattle.pb_page.specs.Inner.Grown.{Grows};
-ghost use Rattle.pb_page.specs.Page.{beside, raises_ended};
+ghost use Rattle.pb_page.specs.Page.{beside, raises_ended, those_said};
+ghost use Rattle.pb_page.specs.declared.keys.TheConstants as key;
 
-use crate::elected_only::beside;
+use crate::elected_only::{beside, put_entries};
 use crate::keys;
 use crate::language::Language;
 use crate::markup::Value;
@@ -13,7 +14,7 @@ use crate::place::Place;
 use crate::put::{put, put_own};
 use crate::rule::put_item;
 use crate::sentences::say_item;
-use crate::templates::{LIST_CLOSING, ONLY_THEN, ONLY_THEN_OPENING};
+use crate::templates::{LIST_CLOSING, THOSE_OPENING};
 use pb_core::election::Election;
 use pb_core::no_memory::NoMemory;
 use pb_reasons::{CountedElection, NextRaise, RaiseEnd, Winners};
@@ -36,15 +37,16 @@ pub(crate) fn put_end(
     }
 }
 
-/// What one raise more would elect: that it would cost more than the budget, and which projects that have not won only
-/// then.
+/// What one raise more would elect: that it would cost more than the budget, which projects that have not won only
+/// then, and which of the elected no more.
 fn put_over(
     page: &mut Vec<u8>,
     language: &Language,
     count: &CountedElection,
     next: &NextRaise,
 ) -> Result<(), NoMemory>
-    requires { All (λ place. place < length count.now.election.projects) next.now.only_then.items }
+    requires only_then { All (λ place. place < length count.now.election.projects) next.now.only_then.items }
+    requires no_more { All (λ place. place < length count.now.election.projects) next.now.no_more.items }
     ensures { OnOk result (Grows page.old.items page.new.items
         (raises_ended language.now count.now (RaiseEnd.Over next.now))) }
 {
@@ -53,8 +55,11 @@ fn put_over(
         Place::Amount("next_cost", next.cost, language.costs),
     ];
     say_item(page, language, keys::OVER, &places)?;
-    let places = next.only_then.as_slice();
-    put_then(page, language, count.election(), count.winners(), places)
+    let election = count.election();
+    let only_then = next.only_then.as_slice();
+    put_then(page, language, election, count.winners(), only_then)?;
+    let no_more = next.no_more.as_slice();
+    put_those(page, language, election, keys::NO_MORE, no_more)
 }
 
 /// The list of those of these places that are none of the winners.
@@ -67,59 +72,34 @@ fn put_then(
 ) -> Result<(), NoMemory>
     requires { All (λ place. place < length election.now.projects) places.now }
     ensures { OnOk result (Grows page.old.items page.new.items
-        (then_listed language.now election.now (beside winners.now places.now))) }
+        (those_said language.now election.now key.ONLY_THEN (beside winners.now places.now))) }
 {
     let winners = Winners::of(*page.allocator(), election, winners)?;
     let new = beside(*page.allocator(), &winners, places);
     drop(winners);
     let new = new?;
-    let put = put_new(page, language, election, new.as_slice());
+    let put = put_those(page, language, election, keys::ONLY_THEN, new.as_slice());
     drop(new);
     put
 }
 
-/// The list of those projects, which are at these places; nothing where there are none.
+/// Those projects, which are at these places, below what is said of them; nothing where there are none.
 #[tactic(auto, using(crate::proofs::Grown::none))]
-fn put_new(
+fn put_those(
     page: &mut Vec<u8>,
     language: &Language,
     election: &Election,
-    places: &[u32],
-) -> Result<(), NoMemory>
-    requires { All (λ place. place < length election.now.projects) places.now }
-    ensures { OnOk result (Grows page.old.items page.new.items (then_listed language.now election.now places.now)) }
-{
-    if places.is_empty() {
-        return Ok(());
-    }
-    let said = [Value::Said(keys::ONLY_THEN)];
-    put(page, language, ONLY_THEN_OPENING, &said)?;
-    put_projects(page, language, election, places)?;
-    put_own(page, LIST_CLOSING)
-}
-
-/// The projects at these places.
-fn put_projects<'a>(
-    page: &mut Vec<u8>,
-    language: &Language<'a>,
-    election: &'a Election,
+    said: u16,
     places: &[u32],
 ) -> Result<(), NoMemory>
     requires { All (λ place. place < length election.now.projects) places.now }
     ensures { OnOk result (Grows page.old.items page.new.items
-        (flat_map (only_then language.now election.now) places.now)) }
+        (those_said language.now election.now said places.now)) }
 {
-    let projects = election.projects();
-    for place in places {
-        let project = &projects[*place as usize];
-        let cost = project.cost();
-        let values = [
-            Value::Text(project.id()),
-            Value::Text(project.name()),
-            Value::Amount(cost),
-            Value::Shown(cost, language.costs),
-        ];
-        put(page, &*language, ONLY_THEN, &values)?;
+    if places.is_empty() {
+        return Ok(());
     }
-    Ok(())
+    put(page, language, THOSE_OPENING, &[Value::Said(said)])?;
+    put_entries(page, language, election, places)?;
+    put_own(page, LIST_CLOSING)
 }

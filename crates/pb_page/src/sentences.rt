@@ -11,7 +11,7 @@ use crate::markup::{Value, write_byte};
 use crate::place::Place;
 use crate::put::{put, put_own};
 use crate::templates::{
-    AMOUNT, CALLED, CODE, FILES_LINK, NAMELESS, NUMBER, PROJECT_LINK, RECOUNT_LINK, TEXT,
+    AMOUNT, CODE, FILES_LINK, NAMELESS, NUMBER, PROJECT_LINK, RECOUNT_LINK, TEXT,
 };
 use pb_core::no_memory::NoMemory;
 
@@ -112,11 +112,10 @@ fn put_place(page: &mut Vec<u8>, language: &Language, place: &Place) -> Result<(
             let values = [Value::Amount(amount), Value::Shown(amount, form)];
             put(page, language, NAMELESS, &values)
         }
-        Place::Called(name) => put(page, language, CALLED, &[Value::Text(name)]),
         Place::Said(key) => put(page, language, TEXT, &[Value::Said(key)]),
         Place::Code(text) => put(page, language, CODE, &[Value::Text(text)]),
-        Place::Project(place, name) => {
-            let values = [Value::Small(place), Value::Text(name)];
+        Place::Project(place, id, name) => {
+            let values = [Value::Small(place), Value::Text(id), Value::Text(name)];
             put(page, language, PROJECT_LINK, &values)
         }
         Place::Files(address) => {

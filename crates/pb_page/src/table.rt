@@ -130,7 +130,7 @@ const FIRST: &[SentenceEntry] = &[
     plain!("others.heading", "The other projects"),
     plain!(
         "others.caption",
-        "In the order of the file. What a project's supporters still have of their shares together, after the last round, and by how much that is less than its cost. The bar is what they have, as a part of its cost. The command pb_app whatif looks for what would have made a project win: under a rule that raises shares, even a cost lower by what was short might not be enough, since shares are only figures to count with, not money of the budget."
+        "In the order of the file. What a project's supporters still have of their shares together, after the last round, and by how much that is less than its cost. The bar is what they have, as a part of its cost. What a project was short does not say how close it came to winning. At a lower cost all rounds would be counted anew, so a smaller cut can be enough; under a rule that raises shares, even a cut by the whole amount may not be enough. The command pb_app whatif FILE --project ID looks for a cost at which the project would have won."
     ),
     plain!("others.none", "There are none."),
     plain!("column.left", "Its supporters still have"),
@@ -332,7 +332,7 @@ const LATER: &[SentenceEntry] = &[
         key: "rule.tie_by_cost",
         numbers: &["round", "winner", "other"],
         nouns: &[],
-        english: "Round {round}: {winner} was elected. {other} had the same price for its cost, but comes later in the file, and was not elected in a later round.",
+        english: "Round {round}: {winner} was elected. {other} had the same price in proportion to its cost, but comes later in the file, and was not elected in a later round.",
     },
     plain!("categories.heading", "The money by category"),
     plain!(
@@ -424,5 +424,15 @@ const LATER: &[SentenceEntry] = &[
         numbers: &["amount"],
         nouns: &[],
         english: "{amount} left",
+    },
+    plain!(
+        "rule.no_more",
+        "These projects are elected now, but would not be with that raise:"
+    ),
+    SentenceEntry {
+        key: "rule.tie_added",
+        numbers: &["winner", "other"],
+        nouns: &[],
+        english: "{winner} was added by votes. {other} had as many votes and the same cost, but comes later in the file, and did not win.",
     },
 ];

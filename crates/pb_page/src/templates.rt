@@ -162,8 +162,9 @@ pub(crate) const WENT_OPENING: &str = "<details><summary>~</summary><ul>
 pub(crate) const WENT_CLOSING: &str = "</ul>
 </details>";
 
-/// A link to the row of a project. Values: its place in the file, and what it is called.
-pub(crate) const PROJECT_LINK: &str = "<a href='#p-~'><bdi dir='auto'>~</bdi></a>";
+/// A link to the row of a project. Values: its place in the file, its id and its name.
+pub(crate) const PROJECT_LINK: &str =
+    "<a href='#p-~'><span class='id' dir='auto'>~</span> <bdi dir='auto'>~</bdi></a>";
 
 /// The cells behind that head, up to what is said of what is missing. Values: cost, votes and what its supporters
 /// have left, with their labels; the label of what is missing, and that for programs.
@@ -249,8 +250,10 @@ pub(crate) const LINKS_OPENING: &str = "<p>~</p>
 <ul>
 ";
 
-/// A link to the row of a project. Values: its place, and what it is called.
-pub(crate) const LINKED: &str = "<li><a href='#p-~'><bdi dir='auto'>~</bdi></a></li>
+/// A project of a list. Values: its place in the file, its id and its name, and its cost, for programs and as it is
+/// shown.
+pub(crate) const ENTRY: &str =
+    "<li><a href='#p-~'><span class='id' dir='auto'>~</span> <bdi dir='auto'>~</bdi></a> (<data value='~'>~</data>)</li>
 ";
 
 /// The end of that list.
@@ -284,9 +287,6 @@ pub(crate) const RULE_CLOSING: &str = "</ol>
 pub(crate) const ITEM: &str = "<li>~</li>
 ";
 
-/// What a project is called, within a sentence. Value: that.
-pub(crate) const CALLED: &str = "<bdi dir='auto'>~</bdi>";
-
 /// A text of the program's, within a sentence. Value: the text.
 pub(crate) const CODE: &str = "<code>~</code>";
 
@@ -301,13 +301,8 @@ pub(crate) const LIST_CLOSING: &str = "</ul>
 ";
 
 /// The head of a list of projects, itself an item of a list. Value: what is said of these.
-pub(crate) const ONLY_THEN_OPENING: &str = "<li>~
+pub(crate) const THOSE_OPENING: &str = "<li>~
 <ul>
-";
-
-/// A project of that list. Values: its id and its name, and its cost, for programs and as it is shown.
-pub(crate) const ONLY_THEN: &str =
-    "<li><span class='id' dir='auto'>~</span> <bdi dir='auto'>~</bdi> (<data value='~'>~</data>)</li>
 ";
 
 /// The head of what was counted. Values: the heading, and what is said of the bytes.

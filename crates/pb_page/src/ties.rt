@@ -2,12 +2,11 @@
 
 ghost use Rattle.std.specs.Prelude.{◌≡◌, OnOk, flat_map};
 ghost use Rattle.pb_page.specs.Inner.Grown.{Grows};
-ghost use Rattle.pb_page.specs.Page.{called, project_at, tie, ties};
+ghost use Rattle.pb_page.specs.Page.{project_at, tie, ties};
 ghost use Rattle.pb_page.specs.declared.keys.TheConstants as key;
 ghost use Rattle.pb_reasons.specs.Ties.{ties_of};
 ghost use Rattle.pb_rounds.specs.RuleNames.{by_measure};
 
-use crate::forms::called;
 use crate::keys;
 use crate::language::Language;
 use crate::markup::Value;
@@ -42,7 +41,7 @@ fn put_list(
     told: &[Tie],
 ) -> Result<(), NoMemory>
     requires { told.now
-        ≡ ties_of count.now.rule.options.measure count.now.election count.now.counted.outcome }
+        ≡ ties_of count.now.rule.options.measure count.now.election count.now.counted }
     ensures { OnOk result (Grows page.old.items page.new.items (ties language.now count.now)) }
 {
     if told.is_empty() {
@@ -69,7 +68,7 @@ fn put_each(
     Ok(())
 }
 
-/// A tie.
+/// A tie, of a round or of filling up.
 fn put_tie(
     page: &mut Vec<u8>,
     language: &Language,
@@ -79,19 +78,17 @@ fn put_tie(
     ensures { OnOk result (Grows page.old.items page.new.items (tie language.now count.now told.now)) }
 {
     let election = count.election();
-    let winner = called_at(election, told.winner);
-    let other = called_at(election, told.other);
-    let places = [
-        Place::Number("round", told.round as u64),
-        Place::Called(winner),
-        Place::Called(other),
-    ];
-    say_item(
-        page,
-        language,
-        key_of(count.rule().options.measure),
-        &places,
-    )
+    let (place, next) = (told.winner, told.other);
+    let winner = Place::Project(place, id_at(election, place), name_at(election, place));
+    let other = Place::Project(next, id_at(election, next), name_at(election, next));
+    match told.round {
+        Some(round) => {
+            let key = key_of(count.rule().options.measure);
+            let places = [Place::Number("round", round as u64), winner, other];
+            say_item(page, language, key, &places)
+        }
+        None => say_item(page, language, keys::TIE_ADDED, &[winner, other]),
+    }
 }
 
 /// The key of the sentence by a measure.
@@ -104,12 +101,22 @@ fn key_of(measure: Measure) -> u16
     }
 }
 
-/// What the project at this place is called; nothing where there is none.
-pub(crate) fn called_at(election: &Election, place: u32) -> &str
-    ensures { result.now ≡ called (project_at election.now place) }
+/// The id of the project at this place; nothing where there is none.
+pub(crate) fn id_at(election: &Election, place: u32) -> &str
+    ensures { result.now ≡ (project_at election.now place).id }
 {
     match election.projects().get(place as usize) {
-        Some(project) => called(project),
+        Some(project) => project.id(),
+        None => "",
+    }
+}
+
+/// The name of the project at this place; nothing where there is none.
+pub(crate) fn name_at(election: &Election, place: u32) -> &str
+    ensures { result.now ≡ (project_at election.now place).name }
+{
+    match election.projects().get(place as usize) {
+        Some(project) => project.name(),
         None => "",
     }
 }

@@ -13,7 +13,7 @@ use crate::put::{put, put_own};
 use crate::rule::put_item;
 use crate::sentences::say_item;
 use crate::templates::{WENT_CLOSING, WENT_OPENING};
-use crate::ties::called_at;
+use crate::ties::{id_at, name_at};
 use pb_core::election::Election;
 use pb_core::money::Money;
 use pb_core::no_memory::NoMemory;
@@ -107,10 +107,10 @@ fn put_payment<'a>(
     ensures { OnOk result (Grows page.old.items page.new.items
         (payment_told language.now election.now payment.now)) }
 {
-    let name = called_at(election, payment.place);
+    let place = payment.place;
     let places = [
         Place::Amount("paid_for", payment.amount, language.amounts),
-        Place::Project(payment.place, name),
+        Place::Project(place, id_at(election, place), name_at(election, place)),
     ];
     say_item(page, language, keys::PAID, &places)
 }

@@ -4,7 +4,7 @@ use Rattle.std.specs.Prelude.{All, flat_map}
 use Rattle.std.specs.List.{range_with_len}
 use Rattle.std.proofs.lemmas.Bool.{cases_lt}
 use Rattle.std.proofs.lemmas.Grind.{flat_map-append}
-use Rattle.std.proofs.lemmas.List.{append-nil, length-map, take_more}
+use Rattle.std.proofs.lemmas.List.{append-nil, append_assoc, length-map, take_more}
 use Rattle.std.proofs.lemmas.Option.{slice_get_read}
 use Rattle.std.proofs.Math.Nat.{mul-le-mul_left, mul-le-mul_right}
 use Rattle.pb_core.specs.Election.{ElectionView, IsElection}
@@ -94,3 +94,17 @@ module _ (m : Measure) (s : SupportView) (share : ℕ) (elected : List ElectedVi
       ∙ take_again 100 before (ties_with m s elected rests w (round + 1) (length s.costs))
       ∙ ap (λ (xs : List Tie). take 100 (before ++ xs)) (here_is round w below here rests is ∙ sym (append-nil (ties_in m s share elected round)))
       ∙ ap (λ (xs : List Tie). take 100 xs) (sym (ap (flat_map (ties_in m s share elected)) (range_with_len_more round) ∙ flat_map-append (ties_in m s share elected) (range_with_len 0 round) (round ∷ [])))
+
+-- ---- the ties of one added project more
+
+pub added_more : (told : ℕ → List Tie) (places : List ℕ) (i : ℕ) → i < length places → (old ties new : List Tie)
+    → ties ≡ take 100 (old ++ flat_map told (take i places)) → new ≡ take 100 (ties ++ told (get_or places i 0))
+    → new ≡ take 100 (old ++ flat_map told (take (i + 1) places))
+added_more told places i below old ties new so_far put =
+    let before = flat_map told (take i places) in
+    let here = get_or places i 0 in
+    let all : flat_map told (take (i + 1) places) ≡ before ++ told here =
+    ap (flat_map told) (take_more places i 0 below) ∙ flat_map-append told (take i places) (here ∷ [])
+    ∙ ap (λ (xs : List Tie). before ++ xs) (append-nil (told here)) in
+    put ∙ ap (λ (xs : List Tie). take 100 (xs ++ told here)) so_far ∙ take_again 100 (old ++ before) (told here)
+    ∙ ap (λ (xs : List Tie). take 100 xs) (append_assoc old before (told here) ∙ ap (λ (xs : List Tie). old ++ xs) (sym all))

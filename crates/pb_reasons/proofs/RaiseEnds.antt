@@ -130,8 +130,9 @@ module _ (e : ElectionView) (options : CountOptions) (o : OutcomeView) (h : IsCo
       → IsRun options.measure (support_of e) (o.share + options.step) next.elected next.rests
       → (raise : NextRaise) → raise.share ≡ o.share + options.step → raise.cost ≡ spent_on (support_of e) next.elected
       → raise.only_then.items ≡ map (λ w. w.place) (filter (λ w. not (is_elected o.elected w.place)) next.elected)
+      → raise.no_more.items ≡ map (λ w. w.place) (filter (λ w. not (is_elected next.elected w.place)) o.elected)
       → IsRaiseEnd e options o (Over raise)
-  over_is_told add1 not_yet next run raise share cost only_then =
+  over_is_told add1 not_yet next run raise share cost only_then no_more =
       let over = such_are (o.raised + 1) _ next (λ elected. e.budget < spent_on (support_of e) elected) next_share_is run (next_is_over add1 not_yet).1 in
       let here = subst (λ (n : ℕ). IsRun options.measure (support_of e) n next.elected next.rests) next_share_is run in
-      (add1, not_yet, share, omega (arith, over, cost), (next.elected, next.rests, here, (cost, only_then)))
+      (add1, not_yet, share, omega (arith, over, cost), (next.elected, next.rests, here, (cost, only_then, no_more)))

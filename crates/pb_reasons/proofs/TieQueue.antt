@@ -170,7 +170,7 @@ pub ties_are_due : (m : Measure) (s : SupportView) (elected : List ElectedView) 
     → AreQueued m s [] bounds queue → TakesDue (limit_of m s w) queue rest due → (round : ℕ)
     → ties_among m s elected rests w round due ≡ ties_with m s elected rests w round (length s.costs)
 ties_are_due m s elected rests w positive bounds are queue rest due queued takes round =
-    ap (map (λ place. record { round = round; winner = w.place; other = place }))
+    ap (map (λ place. record { round = Some round; winner = w.place; other = place }))
     (filter_listed (is_tied m s elected rests w) due 0 (length s.costs) (length s.costs) (omega arith)
     (rises_within due 0 (length s.costs) (λ some. omega arith) (due_known m s elected rests w positive bounds are queue rest due queued takes) takes.rise)
     (λ k a b out. untied m s elected rests w positive bounds are queue rest due queued takes k b out))

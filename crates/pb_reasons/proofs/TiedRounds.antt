@@ -132,27 +132,35 @@ take_again (suc n) (x ∷ xs) ys = ap (λ zs. x ∷ zs) (take_again n xs ys)
 pub short_take : {X : Type 0} (n : ℕ) (xs ys : List X) → xs ≡ take n ys → length xs ≤ n
 short_take n xs ys same = rw same (omega (arith, length-take n ys))
 
-module _ (m : Measure) (s : SupportView) (elected : List ElectedView) (rests : List ℕ) (w : ElectedView) (round : ℕ) (places : List ℕ) (place : ℕ) where
-  with_more : (b : Bool) → is_tied m s elected rests w place ≡ b → ties_among m s elected rests w round (places ++ place ∷ [])
-      ≡ ties_among m s elected rests w round places
-      ++ map (λ place. record { round = round; winner = w.place; other = place }) (cond b (place ∷ []) [])
+-- of what a test passes, each is told as a tie
+module _ (test : ℕ → Bool) (told : ℕ → Tie) (places : List ℕ) (place : ℕ) where
+  with_more : (b : Bool) → test place ≡ b
+      → map told (filter test (places ++ place ∷ [])) ≡ map told (filter test places) ++ map told (cond b (place ∷ []) [])
   with_more b is =
-      ap (map (λ place. record { round = round; winner = w.place; other = place })) (filter-append (is_tied m s elected rests w) places (place ∷ []) ∙ ap (λ b. filter (is_tied m s elected rests w) places ++ cond b (place ∷ []) []) is)
-      ∙ map-append (λ place. record { round = round; winner = w.place; other = place }) (filter (is_tied m s elected rests w) places) (cond b (place ∷ []) [])
+      ap (map told) (filter-append test places (place ∷ []) ∙ ap (λ b. filter test places ++ cond b (place ∷ []) []) is)
+      ∙ map-append told (filter test places) (cond b (place ∷ []) [])
 
+  pub told_more : (old ties new : List Tie) → test place ≡ true → ties ≡ take 100 (old ++ map told (filter test places))
+      → new ≡ take 100 (ties ++ told place ∷ []) → new ≡ take 100 (old ++ map told (filter test (places ++ place ∷ [])))
+  told_more old ties new is so_far put =
+      let before = map told (filter test places) in
+      put ∙ ap (λ (xs : List Tie). take 100 (xs ++ told place ∷ [])) so_far
+      ∙ take_again 100 (old ++ before) (told place ∷ [])
+      ∙ ap (λ (xs : List Tie). take 100 xs) (append_assoc old before (told place ∷ []) ∙ ap (λ (xs : List Tie). old ++ xs) (sym (with_more true is)))
+
+  pub not_told_more : (old ties : List Tie) → test place ≡ false → ties ≡ take 100 (old ++ map told (filter test places))
+      → ties ≡ take 100 (old ++ map told (filter test (places ++ place ∷ [])))
+  not_told_more old ties is so_far =
+      so_far ∙ ap (λ (xs : List Tie). take 100 (old ++ xs)) (sym (with_more false is ∙ append-nil (map told (filter test places))))
+
+module _ (m : Measure) (s : SupportView) (elected : List ElectedView) (rests : List ℕ) (w : ElectedView) (round : ℕ) (places : List ℕ) (place : ℕ) where
   pub tie_more : (old ties new : List Tie) → is_tied m s elected rests w place ≡ true
       → ties ≡ take 100 (old ++ ties_among m s elected rests w round places)
-      → new ≡ take 100 (ties ++ record { round = round; winner = w.place; other = place } ∷ [])
+      → new ≡ take 100 (ties ++ record { round = Some round; winner = w.place; other = place } ∷ [])
       → new ≡ take 100 (old ++ ties_among m s elected rests w round (places ++ place ∷ []))
-  tie_more old ties new is so_far put =
-      let tie : Tie = record { round = round; winner = w.place; other = place } in
-      let told = ties_among m s elected rests w round places in
-      put ∙ ap (λ (xs : List Tie). take 100 (xs ++ tie ∷ [])) so_far
-      ∙ take_again 100 (old ++ told) (tie ∷ [])
-      ∙ ap (λ (xs : List Tie). take 100 xs) (append_assoc old told (tie ∷ []) ∙ ap (λ (xs : List Tie). old ++ xs) (sym (with_more true is)))
+  tie_more = told_more (is_tied m s elected rests w) (λ place. record { round = Some round; winner = w.place; other = place }) places place
 
   pub no_tie_more : (old ties : List Tie) → is_tied m s elected rests w place ≡ false
       → ties ≡ take 100 (old ++ ties_among m s elected rests w round places)
       → ties ≡ take 100 (old ++ ties_among m s elected rests w round (places ++ place ∷ []))
-  no_tie_more old ties is so_far =
-      so_far ∙ ap (λ (xs : List Tie). take 100 (old ++ xs)) (sym (with_more false is ∙ append-nil (ties_among m s elected rests w round places)))
+  no_tie_more = not_told_more (is_tied m s elected rests w) (λ place. record { round = Some round; winner = w.place; other = place }) places place

@@ -13,11 +13,12 @@ use Rattle.pb_reasons.specs.declared.raise_end.RaiseEnd.TheVariants.{Plain, Exha
 
 -- Why the raises ended of a count by these options that has this outcome: a plain count has none; with Add1
 -- the outcome is exhausted; or it is not, and one raise more, to this share, elects projects that cost this
--- much together, more than the budget, of which the outcome does not elect these.
+-- much together, more than the budget: these only then, and these of the outcome's no more.
 abbrev pub IsRaiseEnd : ElectionView → CountOptions → OutcomeView → RaiseEnd → Type 0
 IsRaiseEnd e options o Plain = options.completion ≡ completion.Plain
 IsRaiseEnd e options o Exhausted = (options.completion ≡ completion.Add1) × IsExhausted (support_of e) e.budget o.elected
 IsRaiseEnd e options o (Over next) = (options.completion ≡ completion.Add1) × (¬ IsExhausted (support_of e) e.budget o.elected)
     × (next.share ≡ o.share + options.step) × (e.budget < next.cost)
     × After options.measure e options.step (o.raised + 1) (λ elected. (next.cost ≡ spent_on (support_of e) elected)
-    × (next.only_then.items ≡ map (λ w. w.place) (filter (λ w. not (is_elected o.elected w.place)) elected)))
+    × (next.only_then.items ≡ map (λ w. w.place) (filter (λ w. not (is_elected o.elected w.place)) elected))
+    × (next.no_more.items ≡ map (λ w. w.place) (filter (λ w. not (is_elected elected w.place)) o.elected)))

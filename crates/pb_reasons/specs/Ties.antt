@@ -1,15 +1,16 @@
 -- The ties of a count that the order of the file decided.
-use Rattle.std.specs.Prelude.{ℕ, ◌+◌, ◌*◌, ◌==◌, ◌&&◌, Bool, false, List, [], filter, flat_map, length, map}
-use Rattle.std.specs.Prelude.{not, replicate, slice_get, take}
+use Rattle.std.specs.Prelude.{ℕ, ◌+◌, ◌*◌, ◌==◌, ◌&&◌, ◌++◌, Bool, false, List, [], None, Some, filter, flat_map}
+use Rattle.std.specs.Prelude.{length, map, not, replicate, slice_get, take}
 use Rattle.std.specs.List.{range_with_len}
 use Rattle.std.specs.Option.{option_map_or}
 use Rattle.pb_core.specs.Election.{ElectionView}
 use Rattle.pb_price.specs.Price.{price_at}
-use Rattle.pb_price.specs.Supporters.{SupportView, support_of}
+use Rattle.pb_price.specs.Supporters.{SupportView, cost_at, support_of}
 use Rattle.pb_rounds.specs.Cheapest.{rests_after}
-use Rattle.pb_rounds.specs.Outcome.{OutcomeView}
+use Rattle.pb_rounds.specs.MostVotes.{is_taken, votes_at}
 use Rattle.pb_rounds.specs.Run.{ElectedView, is_elected, weight_of}
 use Rattle.pb_rounds.specs.declared.measure.Measure.{Measure}
+use Rattle.pb_reasons.specs.Counted.{CountedView, winners_of}
 use Rattle.pb_reasons.specs.declared.tie.Tie.{Tie}
 
 -- the project at this place is not elected, and has a price at these rests that is as good as the winner's: the
@@ -22,10 +23,18 @@ is_tied m s elected rests winner place = not (is_elected elected place) && optio
 abbrev pub ties_in : Measure → SupportView → (share : ℕ) (elected : List ElectedView) → (round : ℕ) → List Tie
 ties_in m s share elected round =
     let rests = rests_after s (replicate s.voters share) (take round elected) in option_map_or
-    (λ w. map (λ place. record { round = round + 1; winner = w.place; other = place })
+    (λ w. map (λ place. record { round = Some (round + 1); winner = w.place; other = place })
     (filter (is_tied m s elected rests w) (range_with_len 0 (length s.costs)))) (slice_get elected round) []
 
--- the first hundred ties of all rounds, in the order of the rounds
-unfoldable pub ties_of : Measure → ElectionView → OutcomeView → List Tie
-ties_of m e o =
-    take 100 (flat_map (ties_in m (support_of e) o.share o.elected) (range_with_len 0 (length o.elected)))
+-- the ties of an added project, in the order of the file: with each that did not win, and has as many votes and the
+-- same cost
+abbrev pub ties_with_added : SupportView → CountedView → (winner : ℕ) → List Tie
+ties_with_added s c winner = map (λ place. record { round = None; winner = winner; other = place })
+    (filter (λ place. not (is_taken (winners_of c) place) && ((votes_at s place == votes_at s winner)
+    && (cost_at s place == cost_at s winner))) (range_with_len 0 (length s.costs)))
+
+-- the first hundred ties: of all rounds, in their order, and then of the added
+unfoldable pub ties_of : Measure → ElectionView → CountedView → List Tie
+ties_of m e c = let s = support_of e in let o = c.outcome in
+    take 100 (flat_map (ties_in m s o.share o.elected) (range_with_len 0 (length o.elected))
+    ++ flat_map (ties_with_added s c) c.added)

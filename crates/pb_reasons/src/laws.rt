@@ -7,7 +7,7 @@ ghost use Rattle.pb_core.specs.Election.{ElectionView};
 ghost use Rattle.pb_price.specs.Supporters.{SupportView, cost_at, support_of, supporters_at};
 ghost use Rattle.pb_rounds.specs.Fairness.{paid_within};
 ghost use Rattle.pb_rounds.specs.MostVotes.{fits, is_taken, votes_at};
-ghost use Rattle.pb_reasons.specs.Counted.{CountedView, is_selected, winners_of};
+ghost use Rattle.pb_reasons.specs.Counted.{CountedView, counted, is_selected, winners_of};
 ghost use Rattle.pb_reasons.specs.CountedElection.{CountedElectionView, IsCountedElection};
 ghost use Rattle.pb_reasons.specs.Fairness.{losers, needed, spent};
 ghost use Rattle.pb_reasons.specs.Ties.{ties_of};
@@ -16,8 +16,8 @@ ghost use Rattle.pb_reasons.specs.declared.tie.Tie.{Tie};
 ghost use Rattle.pb_rounds.specs.Counted.{IsCountOf};
 ghost use Rattle.pb_rounds.specs.Outcome.{OutcomeView};
 ghost use Rattle.pb_rounds.specs.declared.measure.Measure.{Measure};
-ghost use Rattle.pb_rounds.specs.declared.options.CountOptions.{CountOptions};
 ghost use Rattle.pb_rounds.specs.declared.rule.FillUp.TheVariants.{MostVotes};
+ghost use Rattle.pb_rounds.specs.declared.rule.Rule.{Rule};
 
 /// The winners of a count are its elected and its added projects, each once, and together they cost at most
 /// the budget. What was paid beyond the costs of the elected is the surplus. Where a count is filled up, no other project that has a supporter costs at most what the
@@ -41,8 +41,8 @@ pub fn winners_share_the_budget()
 
 /// Only the order of the file decided the ties of a count: its winner comes before the other project.
 pub fn ties_are_decided_by_place()
-    ensures { (e : ElectionView) (options : CountOptions) (o : OutcomeView) → IsCountOf e options o
-        → All (λ (t : Tie). t.winner < t.other) (ties_of options.measure e o) }
+    ensures { (e : ElectionView) (rule : Rule) (o : OutcomeView) → IsCountOf e rule.options o
+        → All (λ (t : Tie). t.winner < t.other) (ties_of rule.options.measure e (counted e rule.fill_up o)) }
 {}
 
 /// What a table of fairness is made of. Its projects are those with a supporter that did not win, in the order of

@@ -58,7 +58,7 @@ impl<'a> MoneyTeller<'a> {
 
     /// What the supporters of the project at this place paid for the elected.
     ///
-    /// Each payment of each supporter is looked at once.
+    /// Each payment of each supporter is looked at once, and then each of the elected.
     pub fn money(&self, alloc: Global, place: u32) -> Result<MoneyPaid, NoMemory>
         requires { place < length self.now.election.projects }
         ensures { IfOk result (λ money.

@@ -36,6 +36,8 @@ pub struct NextRaise {
     pub cost: Money,
     /// The projects that the outcome does not elect and this raise does, by place, in order of election.
     pub only_then: Vec<u32>,
+    /// The projects that the outcome elects and this raise does not, by place, in order of election.
+    pub no_more: Vec<u32>,
 }
 
 /// Why the raises of a count ended.
@@ -140,40 +142,46 @@ fn next_raise(
     outcome: &Outcome,
     next: &Outcome,
 ) -> Result<NextRaise, NoMemory>
+    requires now { All (λ w. w.place < length election.now.projects) outcome.now.elected }
     requires known { All (λ w. w.place < length election.now.projects) next.now.elected }
     requires fits { spent_on (support_of election.now) next.now.elected < 2 ^ 64 }
     ensures { IfOk result (λ raise. (raise.share ≡ next.now.share)
         × (raise.cost ≡ spent_on (support_of election.now) next.now.elected)
         × (raise.only_then.items ≡ map (λ w. w.place)
-        (filter (λ w. not (is_elected outcome.now.elected w.place)) next.now.elected))) }
+        (filter (λ w. not (is_elected outcome.now.elected w.place)) next.now.elected))
+        × (raise.no_more.items ≡ map (λ w. w.place)
+        (filter (λ w. not (is_elected next.now.elected w.place)) outcome.now.elected))) }
 {
     let elected = next.elected.as_slice();
     let cost = spent_for(election, elected);
-    let only_then = only_then(alloc, election, outcome.elected.as_slice(), elected)?;
+    let now = outcome.elected.as_slice();
+    let only_then = only_by(alloc, election, now, elected)?;
+    let no_more = only_by(alloc, election, elected, now)?;
     Ok(NextRaise {
         share: next.share,
         cost: Money(cost),
         only_then,
+        no_more,
     })
 }
 
-/// The places of those of the next elected that are not elected now.
-fn only_then(
+/// The places of those of the elected that are none of the others.
+fn only_by(
     alloc: Global,
     election: &Election,
-    now: &[Elected],
-    next: &[Elected],
+    others: &[Elected],
+    elected: &[Elected],
 ) -> Result<Vec<u32>, NoMemory>
-    requires { All (λ w. w.place < length election.now.projects) next.now }
+    requires { All (λ w. w.place < length election.now.projects) elected.now }
     ensures { IfOk result (λ places. places.items
-        ≡ map (λ w. w.place) (filter (λ w. not (is_elected now.now w.place)) next.now)) }
+        ≡ map (λ w. w.place) (filter (λ w. not (is_elected others.now w.place)) elected.now)) }
 {
-    let places = places_of(alloc, now)?;
+    let places = places_of(alloc, others)?;
     let winners = Winners::of(alloc, election, places.as_slice())?;
-    let others = others_of(alloc, &winners, next);
+    let only = others_of(alloc, &winners, elected);
     drop(winners);
     drop(places);
-    others
+    only
 }
 
 /// The places of those of the elected that are not among the winners.

@@ -21,7 +21,7 @@ use std::alloc::Global;
 use std::collections::BTreeSet;
 
 /// The most ties that are told.
-const MOST_TIES: usize = 100;
+pub(crate) const MOST_TIES: usize = 100;
 
 /// A round whose ties are looked for.
 #[derive(Drop)]
@@ -144,10 +144,10 @@ impl<'a> TiedRound<'a> {
 
     /// The tie with the project at this place.
     fn tie(&self, place: u32) -> Tie
-        ensures { result ≡ record { round = self.now.number; winner = self.now.winner.place; other = place } }
+        ensures { result ≡ record { round = Some self.now.number; winner = self.now.winner.place; other = place } }
     {
         Tie {
-            round: self.number,
+            round: Some(self.number),
             winner: self.winner.place,
             other: place,
         }
@@ -236,7 +236,7 @@ impl<'a> TiedRound<'a> {
 }
 
 /// Puts a tie behind the others, unless as many are told as are told at most.
-fn tell(ties: &mut Vec<Tie>, tie: Tie) -> Result<(), NoMemory>
+pub(crate) fn tell(ties: &mut Vec<Tie>, tie: Tie) -> Result<(), NoMemory>
     requires { length ties.old.items ≤ 100 }
     ensures { OnOk result (ties.new.items ≡ take 100 (ties.old.items ++ tie ∷ [])) }
 {

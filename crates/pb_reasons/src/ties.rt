@@ -1,16 +1,17 @@
 //! The ties of a count that the order of the file decided.
 
-ghost use Rattle.std.specs.Prelude.{◌≡◌, ◌<◌, ◌≤◌, All, IfOk, flat_map, length, replicate, take};
+ghost use Rattle.std.specs.Prelude.{◌≡◌, ◌<◌, ◌≤◌, ◌++◌, All, IfOk, OnOk, flat_map, length, replicate, take};
 ghost use Rattle.std.specs.List.{range_with_len};
 ghost use Rattle.pb_price.specs.Price.{largest_share};
-ghost use Rattle.pb_reasons.specs.Inner.Rounds.{AreOpeningBounds};
-ghost use Rattle.pb_reasons.specs.Ties.{ties_in, ties_of};
+ghost use Rattle.pb_price.specs.Supporters.{support_of};
+ghost use Rattle.pb_reasons.specs.Inner.Rounds.{AreOpeningBounds, is_tied_with_added};
+ghost use Rattle.pb_reasons.specs.Ties.{ties_in, ties_of, ties_with_added};
 
 use crate::counted_election::CountedElection;
 use crate::replay::pay;
 use crate::tie::Tie;
 use crate::tie_queue::opening_queue;
-use crate::tied_round::TiedRound;
+use crate::tied_round::{MOST_TIES, TiedRound, tell};
 use pb_core::money::Money;
 use pb_core::no_memory::NoMemory;
 use pb_price::supporters::Supporters;
@@ -20,18 +21,72 @@ use std::alloc::Global;
 
 /// The ties of a count that the order of the file decided, in order of the rounds and then of the file: where a
 /// project that is not elected in the end had a price in a round as good as that of the project that the round
-/// elected. The first hundred are told.
+/// elected. Behind them those of filling up, in order of the added and then of the file: where a project that did not
+/// win has as many votes as an added one, and the same cost. The first hundred are told.
 ///
 /// It replays the rounds. In a round it looks only at projects whose last known price, which never falls, is
-/// not already above a tie: a queue has them by that price.
+/// not already above a tie: a queue has them by that price. For each added project it looks at all projects.
 pub fn ties_of(alloc: Global, count: &CountedElection) -> Result<Vec<Tie>, NoMemory>
     ensures { IfOk result (λ ties. ties.items
-        ≡ ties_of count.now.rule.options.measure count.now.election count.now.counted.outcome) }
+        ≡ ties_of count.now.rule.options.measure count.now.election count.now.counted) }
 {
     let (rule, outcome) = (count.rule(), count.outcome());
     let elected = outcome.elected.as_slice();
     let (supporters, measure) = (count.supporters(), rule.options.measure);
-    replay_ties(alloc, supporters, measure, outcome.share, elected)
+    let mut ties = replay_ties(alloc, supporters, measure, outcome.share, elected)?;
+    put_added_ties(&mut ties, count)?;
+    Ok(ties)
+}
+
+/// Puts the ties of filling up behind those of the rounds, as far as so many are told.
+fn put_added_ties(ties: &mut Vec<Tie>, count: &CountedElection) -> Result<(), NoMemory>
+    requires { length ties.old.items ≤ 100 }
+    ensures { OnOk result (ties.new.items ≡ take 100 (ties.old.items ++ flat_map
+        (ties_with_added (support_of count.now.election) count.now.counted) count.now.counted.added)) }
+{
+    // What is true of every count is true of the places of the added.
+    let _election = count.election();
+    let added = count.added();
+    for winner in added {
+        put_ties_with(ties, count, *winner)?;
+    }
+    Ok(())
+}
+
+/// Puts the ties of the added project at this place behind the others, as far as so many are told.
+fn put_ties_with(ties: &mut Vec<Tie>, count: &CountedElection, winner: u32) -> Result<(), NoMemory>
+    requires known { winner < length count.now.election.projects }
+    requires few { length ties.old.items ≤ 100 }
+    ensures { OnOk result (ties.new.items ≡ take 100 (ties.old.items
+        ++ ties_with_added (support_of count.now.election) count.now.counted winner)) }
+{
+    if ties.len() == MOST_TIES {
+        return Ok(());
+    }
+    let projects = count.supporters().projects();
+    for place in 0..projects {
+        if is_tied_with(count, winner, place) {
+            let tie = Tie {
+                round: None,
+                winner,
+                other: place,
+            };
+            tell(ties, tie)?;
+        }
+    }
+    Ok(())
+}
+
+/// Whether the project at a place did not win, but has as many votes as an added one, and the same cost.
+fn is_tied_with(count: &CountedElection, winner: u32, place: u32) -> bool
+    requires winner { winner < length count.now.election.projects }
+    requires known { place < length count.now.election.projects }
+    ensures { result ≡ is_tied_with_added (support_of count.now.election) count.now.counted winner place }
+{
+    let supporters = count.supporters();
+    !count.has_won(place)
+        && supporters.of(place).len() == supporters.of(winner).len()
+        && supporters.cost(place).0 == supporters.cost(winner).0
 }
 
 /// The ties of a run at this share that elected these.

@@ -25,7 +25,7 @@ pub struct ProgressLine<'a, R> {
     lines: AtomicU64,
     /// The milliseconds after the start at which the line was shown last.
     shown: AtomicU64,
-    /// The number of the project that is asked about, from 1, and of how many; 0 where it is none of several.
+    /// How many searches for projects have begun, and of how many; 0 where it is none of several.
     project: AtomicU64,
     projects: AtomicU64,
 }

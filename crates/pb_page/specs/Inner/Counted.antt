@@ -6,10 +6,10 @@ use Rattle.std.specs.Option.{option_map_or}
 use Rattle.pb_core.specs.Election.{ElectionView, ProjectView}
 use Rattle.pb_core.specs.MoneyText.{money_text}
 use Rattle.pb_page.specs.Amount.{shown}
-use Rattle.pb_page.specs.Content.{Part, amount, attribute, block, columns, element, figure, item, listed, nameless, noun_at, number, own, paragraph, said, say, section, table, text, isolated}
-use Rattle.pb_page.specs.Page.{added, at_least, ballots_row, beside, besides, budget, by_raises, categories, category_of, check, compared_row, exactly, linked, others, project_at, row_at, rule, source}
+use Rattle.pb_page.specs.Content.{Part, amount, attribute, block, columns, element, figure, item, nameless, noun_at, number, own, paragraph, said, say, section, table, text}
+use Rattle.pb_page.specs.Page.{added, at_least, ballots_row, beside, besides, budget, by_raises, categories, category_of, check, compared_row, entry, exactly, linked, others, row_at, rule, source}
 use Rattle.pb_page.specs.Inner.Value.{files_link}
-use Rattle.pb_page.specs.Page.{titled, voters, winners, called, money_told}
+use Rattle.pb_page.specs.Page.{voters, winners, money_told}
 use Rattle.pb_page.specs.declared.categories.Categories.{Categories}
 use Rattle.pb_page.specs.declared.facts.Facts.{Facts}
 use Rattle.pb_page.specs.declared.facts.ReadText.{ReadText}
@@ -120,7 +120,7 @@ sections facts x end = let l = facts.language in budget l x ++ (winners facts x 
 -- the list of places, where there are any; and the comparison, where it is asked for
 abbrev pub links : Language → ElectionView → ℕ → (places : List ℕ) → List Part
 links l e k places = if length places == 0 then []
-    else paragraph (said l k) ++ block (codes "ul") [] (flat_map (linked e) places)
+    else paragraph (said l k) ++ block (codes "ul") [] (flat_map (entry l e) places)
 
 unfoldable pub both_only : Language → CountedElectionView → List Part
 both_only l x = let e = x.election in let own = winners_of x.counted in let other = elected_by_votes e in
@@ -153,8 +153,7 @@ abbrev pub went_as : Language → ElectionView → Option MoneyView → (left : 
 went_as l e paid left = option_map_or (money_told l e left) paid []
 
 abbrev pub payment_told : Language → ElectionView → Payment → List Part
-payment_told l e p = item (say l key.PAID (amount l.amounts (codes "paid_for") p.amount ∷ element (codes "a")
-    (attribute (codes "href") (own (codes "#p-") ++ text (decimal p.place))) (isolated (called (project_at e p.place))) ∷ []))
+payment_told l e p = item (say l key.PAID (amount l.amounts (codes "paid_for") p.amount ∷ linked e p.place ∷ []))
 
 abbrev pub more_told : Language → ℕ → List Part
 more_told l others = if others == 0 then [] else item (say l key.PAID_MORE (amount l.amounts (codes "paid_more") others ∷ []))
@@ -169,18 +168,12 @@ project_of r = record { id = r.id.now; name = r.name.now; cost = r.cost }
 abbrev pub lost_row : Facts → CountedElectionView → ℕ → List Part
 lost_row facts x place = if is_taken (winners_of x.counted) place then [] else row_at facts x place
 
--- the projects that a raise more would elect are the election's, and how one of them is told
+-- the projects that a raise more would elect, and those that it would elect no more, are the election's
 abbrev pub KnowsPlaces : ElectionView → RaiseEnd → Type 0
 KnowsPlaces e Plain = ⊤
 KnowsPlaces e Exhausted = ⊤
 KnowsPlaces e (Over next) = All (λ place. place < length e.projects) next.only_then.items
-
-abbrev pub only_then : Language → ElectionView → ℕ → List Part
-only_then l e place = let p = project_at e place in item (titled p ++ (own (codes " (")
-    ++ (nameless (money_text p.cost) (text (shown l.costs p.cost)) ++ own (codes ")"))))
-
-abbrev pub then_listed : Language → ElectionView → (new : List ℕ) → List Part
-then_listed l e new = if length new == 0 then [] else listed l key.ONLY_THEN [] (flat_map (only_then l e) new)
+    × All (λ place. place < length e.projects) next.no_more.items
 
 -- which of these winners are of a category, and what it has of them
 abbrev pub winners_in : Categories → List ℕ → ℕ → List ℕ

@@ -2,8 +2,8 @@
 use Rattle.std.specs.Prelude.{ℕ, List, [], ◌∷◌, ◌++◌, codes, decimal, if◌then◌else◌, nat_lt, slice_index_or}
 use Rattle.pb_core.specs.MoneyText.{money_text}
 use Rattle.pb_page.specs.Amount.{shown}
-use Rattle.pb_page.specs.Content.{Part, amount, attribute, element, isolated, nameless, noun_at, number, own, said, text}
-use Rattle.pb_page.specs.Page.{width}
+use Rattle.pb_page.specs.Content.{Part, amount, attribute, element, nameless, noun_at, number, own, said, text}
+use Rattle.pb_page.specs.Page.{titled, width}
 use Rattle.pb_page.specs.Words.{sentence}
 use Rattle.pb_page.specs.Inner.Nouns.{noun}
 use Rattle.pb_page.specs.declared.keys.TheConstants as key
@@ -38,11 +38,14 @@ at_place l (place.Shown h form) = text (shown form h)
 at_place l (place.Number name n) = number name.now n
 at_place l (place.Amount name h form) = amount form name.now h
 at_place l (place.Nameless h form) = nameless (money_text h) (text (shown form h))
-at_place l (place.Called t) = isolated t.now
 at_place l (place.Said k) = said l k
 at_place l (place.Code t) = element (codes "code") [] (text t.now)
-at_place l (place.Project n name) =
-    element (codes "a") (attribute (codes "href") (own (codes "#p-") ++ text (decimal n))) (isolated name.now)
+at_place l (place.Project n id name) =
+    element (codes "a") (attribute (codes "href") (own (codes "#p-") ++ text (decimal n))) (titled (record {
+      id = id.now;
+      name = name.now;
+      cost = 0;
+    }))
 at_place l (place.Files address) = files_link l address.now
 at_place l (place.Link address k) =
     element (codes "a") (attribute (codes "href") (text address.now)) (said l k)

@@ -1,12 +1,14 @@
 -- How the ties of a round are looked for, with a lower bound of each price; private contracts speak of it.
-use Rattle.std.specs.Prelude.{◌≡◌, ℕ, ◌*◌, ◌<◌, ◌≤◌, ◌==◌, Bool, false, List, Option, Some, None, filter}
-use Rattle.std.specs.Prelude.{if◌then◌else◌, length, map, slice_index_or}
+use Rattle.std.specs.Prelude.{◌≡◌, ℕ, ◌*◌, ◌<◌, ◌≤◌, ◌==◌, ◌&&◌, Bool, false, List, Option, Some, None, filter}
+use Rattle.std.specs.Prelude.{if◌then◌else◌, length, map, not, slice_index_or}
 use Rattle.std.specs.List.{range_with_len}
 use Rattle.pb_price.specs.Price.{price_at}
 use Rattle.pb_price.specs.Supporters.{SupportView, cost_at}
+use Rattle.pb_rounds.specs.MostVotes.{is_taken, votes_at}
 use Rattle.pb_rounds.specs.Run.{ElectedView, is_elected, weight_of}
 use Rattle.pb_rounds.specs.declared.measure.Measure.{Measure}
 use Rattle.pb_rounds.specs.declared.measure.Measure.TheVariants.{Votes, Cost}
+use Rattle.pb_reasons.specs.Counted.{CountedView, winners_of}
 use Rattle.pb_reasons.specs.Ties.{is_tied}
 use Rattle.pb_reasons.specs.declared.tie.Tie.{Tie}
 
@@ -46,10 +48,19 @@ pub record AreOpeningBounds (projects : ℕ) (elected : List ElectedView) (bound
 abbrev pub ties_among : Measure → SupportView → (elected : List ElectedView) (rests : List ℕ) (winner : ElectedView)
     → (round : ℕ) (places : List ℕ) → List Tie
 ties_among m s elected rests winner round places =
-    map (λ place. record { round = round; winner = winner.place; other = place })
+    map (λ place. record { round = Some round; winner = winner.place; other = place })
     (filter (is_tied m s elected rests winner) places)
 
 -- those among the first projects
 abbrev pub ties_with : Measure → SupportView → (elected : List ElectedView) (rests : List ℕ) (winner : ElectedView)
     → (round projects : ℕ) → List Tie
 ties_with m s elected rests winner round projects = ties_among m s elected rests winner round (range_with_len 0 projects)
+
+-- the project at this place did not win, and ties with an added one; the ties of that one among these projects
+abbrev pub is_tied_with_added : SupportView → CountedView → (winner place : ℕ) → Bool
+is_tied_with_added s c winner place = not (is_taken (winners_of c) place)
+    && ((votes_at s place == votes_at s winner) && (cost_at s place == cost_at s winner))
+
+abbrev pub added_ties_among : SupportView → CountedView → (winner : ℕ) → (places : List ℕ) → List Tie
+added_ties_among s c winner places =
+    map (λ place. record { round = None; winner = winner; other = place }) (filter (is_tied_with_added s c winner) places)

@@ -15,6 +15,6 @@ returns-then-is_empty c =
 pub returns : goal.returns
 returns c =
     alike_put _ _ (links c.args.language.now c.args.election.now c.args.said c.args.places.now) _ _ (then_put _ _ _ _ _ _ c.in_ok-put.ensures
-    (then_put _ _ _ _ _ _ c.in_ok-put_each.ensures
+    (then_put _ _ _ _ _ _ c.in_ok-put_entries.ensures
     c.put_own.ensures))
     (links_are c.args.language.now c.args.election.now c.args.said c.args.places.now (sym c.is_empty.ensures ∙ c.if-is_empty.false))

@@ -1,7 +1,7 @@
 use Rattle.std.proofs.Common.{refl}
 use Rattle.pb_page.specs.Inner.Filling.{cut}
 use Rattle.pb_page.specs.Inner.Value.{at_place}
-use Rattle.pb_page.specs.declared.place.Place.TheVariants.{Text, Digits, Noun, Shown, Number, Amount, Nameless, Called, Said, Code, Files, Link, Project}
+use Rattle.pb_page.specs.declared.place.Place.TheVariants.{Text, Digits, Noun, Shown, Number, Amount, Nameless, Said, Code, Files, Link, Project}
 use Rattle.pb_page.proofs.Grown.{alike_put}
 use Rattle.pb_page.proofs.sentences.put_place.Goals as goal
 
@@ -33,10 +33,6 @@ pub returns-in-Nameless : goal.returns-in-Nameless
 unfolding cut
 returns-in-Nameless c = rw c.in-Nameless.is (alike_put _ _ (at_place c.args.language.now (Nameless c.in-Nameless.amount c.in-Nameless.form)) _ _ c.put-in-Nameless.ensures (λ rest. refl))
 
-pub returns-in-Called : goal.returns-in-Called
-unfolding cut
-returns-in-Called c = rw c.in-Called.is (alike_put _ _ (at_place c.args.language.now (Called c.in-Called.name)) _ _ c.put-in-Called.ensures (λ rest. refl))
-
 pub returns-in-Said : goal.returns-in-Said
 unfolding cut
 returns-in-Said c = rw c.in-Said.is (alike_put _ _ (at_place c.args.language.now (Said c.in-Said.key)) _ _ c.put-in-Said.ensures (λ rest. refl))
@@ -47,7 +43,7 @@ returns-in-Code c = rw c.in-Code.is (alike_put _ _ (at_place c.args.language.now
 
 pub returns-in-Project : goal.returns-in-Project
 unfolding cut
-returns-in-Project c = rw c.in-Project.is (alike_put _ _ (at_place c.args.language.now (Project c.in-Project.place c.in-Project.name)) _ _ c.put-in-Project.ensures (λ rest. refl))
+returns-in-Project c = rw c.in-Project.is (alike_put _ _ (at_place c.args.language.now (Project c.in-Project.place c.in-Project.id c.in-Project.name)) _ _ c.put-in-Project.ensures (λ rest. refl))
 
 pub returns-in-Files : goal.returns-in-Files
 unfolding cut

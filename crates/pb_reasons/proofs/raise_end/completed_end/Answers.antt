@@ -1,6 +1,7 @@
 use Rattle.std.proofs.Common.{Bool, ℕ, subst, ◌∙◌}
 use Rattle.pb_price.specs.Supporters.{support_of}
 use Rattle.pb_reasons.proofs.RaiseEnds.{next_share_small, over_is_told, run_can_be_summed}
+use Rattle.pb_reasons.proofs.Tellable.{count_can_be_told}
 use Rattle.pb_reasons.specs.Inner.Raises.{TellsExhausted}
 use Rattle.pb_rounds.specs.Cheapest.{IsRun}
 use Rattle.pb_reasons.proofs.raise_end.completed_end.Goals as goal
@@ -10,6 +11,10 @@ next_share-share-requires g c =
     let P : Bool → Type 0 = λ b. TellsExhausted c.args.election.now c.args.outcome.now b in
     let not_yet = subst P c.if-branch.false c.in_ok-is_exhausted.ensures in
     next_share_small c.args.election.now c.args.options.now c.args.outcome.now c.requires.counted c.budget-budget.ensures.is_election c.requires.add1 not_yet
+
+pub next_raise-raise-requires-clause-now : goal.next_raise-raise-requires-clause-now
+next_raise-raise-requires-clause-now g c =
+    (count_can_be_told c.args.election.now c.args.options.now c.args.outcome.now c.budget-budget.ensures.is_election c.requires.counted).known
 
 pub next_raise-raise-requires-clause-known : goal.next_raise-raise-requires-clause-known
 next_raise-raise-requires-clause-known g c =
@@ -32,4 +37,4 @@ returns-in_ok-raise-in-Ok g c =
     let AtShare : ℕ → Type 0 = λ n. IsRun options.measure (support_of e) n next.elected next.rests in
     let run = subst AtShare c.next_share-share.ensures.share c.in-Ok.ensures.outcome.2 in
     over_is_told e options c.args.outcome.now c.requires.counted c.requires.add1 not_yet (record { elected = next.elected; rests = next.rests }) run
-    c.in_ok-raise-in-Ok.field-0 (raise.0 ∙ c.in-Ok.ensures.outcome.0 ∙ c.next_share-share.ensures.share) raise.1 raise.2
+    c.in_ok-raise-in-Ok.field-0 (raise.0 ∙ c.in-Ok.ensures.outcome.0 ∙ c.next_share-share.ensures.share) raise.1 raise.2 raise.3

@@ -1,0 +1,16 @@
+META
+key;value
+budget;90
+vote_type;approval
+PROJECTS
+project_id;cost;name
+a;25;Bench
+b;30;Fountain
+c;87;Library
+d;34;Park
+e;34;Park
+VOTES
+voter_id;vote
+v1;b,c
+v2;c
+v3;a,c,d,e
