@@ -108,7 +108,7 @@ FIGURES = [
     ("class='raises' value='12'>12", "class='raises' value='13'>13", 'the raises of the share|13|12'),
     ("class='step' value='1.00'>1", "class='step' value='2.00'>2", 'each raise|2.00|1.00'),
     ("<data value='1.00'>1", "<data value='2.00'>2", 'each raise|2.00|1.00'),
-    ("class='limit' value='1000000'>1000000", "class='limit' value='20'>20", 'the limit of raises|20|1000000'),
+    ("class='limit' value='1000000'>1,000,000", "class='limit' value='20'>20", 'the limit of raises|20|1000000'),
     ("class='next_share' value='38.00'>38", "class='next_share' value='39.00'>39", 'the share after one raise more|39.00|38.00'),
     ("class='next_cost' value='130.00'>130", "class='next_cost' value='131.00'>131", 'what one raise more would cost|131.00|130.00'),
     ("<data value='60.00'>60", "<data value='61.00'>61", f'{ONLY}|#p-1 b Park 61.00|#p-1 b Park 60.00'),
@@ -170,6 +170,7 @@ TEXTS = [
      'the cost of Park (id b), with what stands beside it|960 zł|60.00'),
     (" on <data class='projects' value='6'>", " on 9<data class='projects' value='6'>", 'the number of projects, with what stands beside it|96 projects|6'),
     ("95 zł</data> in all", "95 zł</data>,000 in all", 'what is spent, with what stands beside it|95 zł,000|95.00'),
+    (">1,000,000</data>", '>1,000,00</data>', 'the limit of raises, as it is shown|1,000,00|1000000'),
     (">60 zł</data>", '>\u202e60 zł</data>', 'the cost of Park (id b), with what stands beside it|60|60.00'),
     ("value='45.00'>45 zł</data></td>", "value='45.00'>45 zł</data></td><td role='cell' class='n'>9</td>", 'a cell without a figure|9|'),
     ("<rect width='9833'", "<rect width='10000'", 'the bar of Park (id b)|10000|9833'),
@@ -208,7 +209,7 @@ OF_TWINS = [
 ]
 
 # How many pages these make.
-COUNT = len(HIDING) + len(STARTS) + len(FIGURES) + len(TEXTS) + len(OF_TWINS) + 18
+COUNT = len(HIDING) + len(STARTS) + len(FIGURES) + len(TEXTS) + len(OF_TWINS) + 19
 
 
 def between(text, opening, closing):
@@ -241,6 +242,8 @@ def changed_pages(page, other):
     yield page.replace(digest, digest + digest), f'the digest of the journal|{digest[10:74]}|'
     yield page.replace(digest, f'<dd><code>{digest[10:18]}</code></dd>'), f'the digest of the file|{digest[10:18]}|{digest[10:74]}'
     yield other, 'the budget|120.00|100.00'
+    two_signs = page.replace("value='12'>12<", "value='1200'>1,200<").replace('>1,000,000<', '>1.000.000<')
+    yield two_signs, 'the limit of raises, as it is shown|1.000.000|1000000'
     yield from changed_parts(page)
 
 

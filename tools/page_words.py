@@ -27,20 +27,24 @@ class PageWords:
     def noun(self, key, number):
         return self.said[f"{key}.{form(self.said['plural'], number)}"]
 
+    def count(self, number):
+        """A number that is no amount, as the page shows it."""
+        return f'{int(number):,}'.replace(',', self.group)
+
     def amount(self, text, is_whole=False):
         """An amount of a table, as the page shows it."""
         units, hundredths = text.split('.')
-        digits = f'{int(units):,}'.replace(',', self.group) + ('' if is_whole else self.point + hundredths)
+        digits = self.count(units) + ('' if is_whole else self.point + hundredths)
         return digits if self.currency is None else self.say('amount', amount=digits, currency=self.currency)
 
     def shows(self, value, text):
         """Whether people who read this text read this value in it, and no other number."""
         if self.currency is not None:
             text = text.replace(self.currency, '')
-        group = f'(?:{re.escape(self.group)}[0-9]{{3}})*' if self.group else ''
-        found = re.fullmatch(rf'[^0-9]*([0-9]{{1,3}}{group}|[0-9]+)({re.escape(self.point)}[0-9][0-9])?[^0-9]*', text)
+        digits = rf'[0-9]{{1,3}}(?:{re.escape(self.group)}[0-9]{{3}})*' if self.group else '[0-9]+'
+        found = re.fullmatch(rf'[^0-9]*({digits})({re.escape(self.point)}[0-9][0-9])?[^0-9]*', text)
         if not found:
             return False
-        units = found[1].replace(self.group, '') if self.group else found[1]
+        units = found[1].replace(self.group, '')
         read = units + (found[2] or '').replace(self.point, '.')
         return decimal.Decimal(read) == decimal.Decimal(value) and ('.' in value or read == value)

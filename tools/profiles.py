@@ -2,14 +2,16 @@
 
 For each NAME.pb, NAME.txt has lines of remarks, which begin with `#`, and then for each profile a line
     == ES/MEASURE/COMPLETION/hundredths[/step=AMOUNT][/raises=MOST]/ties=file[: status STATUS]
-and the lines of standard output up to the next such line.
+or `== MV/ties=file` for most votes first, and the lines of standard output up to the next such line.
 """
 import collections, re
 from arguments import TOP
 
 FOLDER = TOP / 'conformance'
-HEAD = re.compile(r'== (ES/(votes|cost)/(none|add1|utilitarian|add1u)/hundredths'
+HEAD = re.compile(r'== (MV/ties=file|ES/(votes|cost)/(none|add1|utilitarian|add1u)/hundredths'
                   r'(?:/step=([0-9]+)[.]([0-9]{2}))?(?:/raises=([0-9]+))?/ties=file)(?:: status ([1-9]))?')
+# What stands as completion for most votes first, which has no other options.
+MOST_VOTES = 'most-votes'
 
 # A file, a profile's name, the options to which it gives a value (the step in hundredths), and the text and
 # status that are expected.
@@ -23,9 +25,18 @@ class Malformed(Exception):
 def options_of(head):
     """The options to which a profile's line gives a value."""
     _, measure, completion, units, decimals, raises, _ = head.groups()
+    if measure is None:
+        return {'completion': MOST_VOTES}
     options = {'measure': measure, 'completion': completion}
     options |= {'step': int(units + decimals)} if units else {}
     return options | ({'raises': int(raises)} if raises else {})
+
+
+def words_of(options):
+    """The words of a command that say these options."""
+    if options['completion'] == MOST_VOTES:
+        return ['--rule', MOST_VOTES]
+    return [word for name, value in options.items() for word in (f'--{name}', str(value))]
 
 
 def cases_of(path):

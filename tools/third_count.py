@@ -11,8 +11,9 @@ sys.dont_write_bytecode = True
 import arguments
 from third_file import Election, Refused
 
-# Of the completions two raise the shares, and two fill up.
+# Of the completions two raise the shares, and two fill up; by most votes all is filled up.
 MEASURES, COMPLETIONS = ('votes', 'cost'), ('none', 'add1', 'utilitarian', 'add1u')
+MOST_VOTES = 'most-votes'
 
 # What is counted by: a measure, a completion, a step in hundredths, and how many raises there may be.
 Rule = collections.namedtuple('Rule', 'measure completion step most')
@@ -80,8 +81,8 @@ def report(election, rule):
         raise Refused('fault;count;2;StepRange', 2)
     if not 0 <= rule.most <= 10**6:
         raise Refused('fault;count;3;RaisesRange', 2)
-    raises, share, elected = decided(election, rule)
-    added = filled_up(election, elected) if rule.completion in ('utilitarian', 'add1u') else []
+    raises, share, elected = (0, 0, {}) if rule.completion == MOST_VOTES else decided(election, rule)
+    added = filled_up(election, elected) if rule.completion in ('utilitarian', 'add1u', MOST_VOTES) else []
     yield 'budget', money(election.budget)
     yield 'voters', len(election.ballots)
     yield 'share', money(share)
@@ -106,8 +107,10 @@ def given_arguments():
     parser.add_argument('--completion', choices=COMPLETIONS, default='add1', help='what follows a run')
     parser.add_argument('--step', type=int, default=100, metavar='HUNDREDTHS', help='what a raise adds')
     parser.add_argument('--raises', type=int, default=10**6, metavar='MOST', help='how many there may be')
+    parser.add_argument('--rule', choices=('equal-shares', MOST_VOTES), help='most-votes has no shares')
     given = parser.parse_args()
-    return given.file, Rule(given.measure, given.completion, given.step, given.raises)
+    completion = MOST_VOTES if given.rule == MOST_VOTES else given.completion
+    return given.file, Rule(given.measure, completion, given.step, given.raises)
 
 
 def main():

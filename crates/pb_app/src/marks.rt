@@ -3,7 +3,7 @@
 ghost use Rattle.std.specs.Prelude.{◌≡◌, IfSome, IsTrue, Some};
 
 use pb_command_line::currency::is_currency;
-use pb_command_line::{PageRun, SaidRule, is_link};
+use pb_command_line::{Method, PageRun, SaidRule, is_link};
 use pb_core::money::Money;
 use pb_core::no_memory::NoMemory;
 use pb_rounds::measure::Measure;
@@ -30,6 +30,7 @@ pub(crate) struct Marks {
 /// An option of a rule that has a value.
 #[derive(Clone, Copy)]
 enum RuleOption {
+    Method,
     Measure,
     Completion,
     Step,
@@ -151,11 +152,13 @@ fn rule_of(page: &str) -> SaidRule {
         return rule;
     };
     // An option that a page leaves out has its usual value.
+    rule.method = Some(Method::EqualShares);
     rule.measure = Some(Measure::Votes);
     rule = rule.completed(Some((Completion::Add1, FillUp::Nothing)));
     let mut option = None;
     for word in commands.split_whitespace() {
         match option {
+            Some(RuleOption::Method) => rule.method = Method::named(word),
             Some(RuleOption::Measure) => rule.measure = measure_named(word),
             Some(RuleOption::Completion) => rule = rule.completed(completion_named(word)),
             Some(RuleOption::Step) => rule.step = step_named(word),
@@ -173,6 +176,7 @@ fn rule_of(page: &str) -> SaidRule {
 /// The option of a rule that this word is, if it is one with a value.
 fn option_named(word: &str) -> Option<RuleOption> {
     match word {
+        "--rule" => Some(RuleOption::Method),
         "--measure" => Some(RuleOption::Measure),
         "--completion" => Some(RuleOption::Completion),
         "--step" => Some(RuleOption::Step),

@@ -11,10 +11,10 @@ use crate::system::System;
 use crate::tables::{audit, ballots, check, count, desk, tell};
 use crate::what_if::what_if;
 use crate::words::is_quiet;
-use pb_command_line::{Asked, CompareRun, PageRun, Task};
+use pb_command_line::{Asked, CompareRun, PageRun, Task, refuses_page};
 use pb_commands::{Counting, Table};
 use pb_rounds::rule::Rule;
-use pb_streams::{Kinship, Output, ProgressLine, RunRefusal, Telling, Typing};
+use pb_streams::{End, Kinship, Output, ProgressLine, RunRefusal, Telling, Typing};
 use pb_witness::warnings::Warnings;
 use std::io::Write;
 
@@ -144,6 +144,10 @@ fn page_or_same<'a, R: System, W: Write>(
         return page(run, asked, writer, seen);
     };
     let filled = marks.filled(asked);
+    if refuses_page(run.counting.rt, &filled) {
+        let said = String::new(run.counting.alloc);
+        return Err(RunRefusal::Told(End::Arguments, Ok(said)));
+    }
     same_page(run, &filled, text.as_slice(), writer, seen)
 }
 

@@ -19,6 +19,8 @@ pub(crate) enum Takes {
     Measure,
     /// The name of a completion, where no raises are left out by an option of their own.
     Completion,
+    /// The name of a method.
+    Method,
     /// The name of a rule, where none of what it says is said by an option of its own.
     Profile,
     /// A text, which its help calls so.
@@ -60,6 +62,7 @@ impl Argument {
             Takes::OptionalPath(_) => "PATH",
             Takes::Measure => "MEASURE",
             Takes::Completion => "COMPLETION",
+            Takes::Method => "RULE",
             Takes::Profile => "NAME",
             Takes::Path | Takes::Nothing | Takes::All => self.name,
         }

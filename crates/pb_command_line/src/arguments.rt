@@ -135,11 +135,18 @@ pub(crate) const MEASURE: Argument = Argument {
     help: "Which project wins next. votes: the one whose price is lowest (price: the most that one supporter pays); cost: the one whose price, divided by its cost, is lowest [default: votes]",
 };
 
+/// Whether voters have shares.
+pub(crate) const RULE: Argument = Argument {
+    name: "rule",
+    takes: Takes::Method,
+    help: "Which rule counts. equal-shares: the Method of Equal Shares; most-votes: projects win in the order of their votes, each if the rest of the budget pays for it. There are no shares with most-votes, so it can't be used with --measure, --completion, --plain, --step or --raises, nor by fairness and compare [default: equal-shares]",
+};
+
 /// The one name of the rule.
 pub(crate) const PROFILE: Argument = Argument {
     name: "profile",
     takes: Takes::Profile,
-    help: "The rule by its name, in place of --measure, --completion, --plain and --step; for example ES/cost/add1u/hundredths/step=1.00/ties=file (without shares that are raised: ES/votes/none/hundredths/ties=file)",
+    help: "The rule by its name, in place of --rule, --measure, --completion, --plain and --step; for example ES/cost/add1u/hundredths/step=1.00/ties=file (without shares that are raised: ES/votes/none/hundredths/ties=file; most votes first: MV)",
 };
 
 /// The file that gets the result.
@@ -343,7 +350,9 @@ pub(crate) fn of_count() -> &'static [Argument] {
     OF_COUNT
 }
 
-const OF_COUNT: &[Argument] = &[WORKERS, STEP, RAISES, PLAIN, COMPLETION, MEASURE, PROFILE];
+const OF_COUNT: &[Argument] = &[
+    WORKERS, STEP, RAISES, PLAIN, COMPLETION, MEASURE, RULE, PROFILE,
+];
 
 /// The options of what prints the result of a count, which stand together too.
 pub(crate) fn of_result() -> &'static [Argument] {

@@ -2,10 +2,12 @@
 
 use crate::argument::{Argument, Takes};
 use crate::arguments::{
-    AGAINST, ALL, COMPLETION, COST, FIRST, HISTORY, MEASURE, PLAIN, PROJECT, STEP, VOTER, VOTERS,
+    AGAINST, ALL, COMPLETION, COST, FIRST, HISTORY, MEASURE, PLAIN, PROJECT, RULE, STEP, VOTER,
+    VOTERS,
 };
 use crate::commands::{CommandForm, forms};
 use crate::helps::{ABOUT, AFTER_HELP};
+use crate::method::METHODS;
 use crate::rule::is_of_count;
 use clap::{Arg, ArgAction, Command};
 use pb_rounds::rule_names::{COMPLETIONS, MEASURES};
@@ -141,6 +143,7 @@ fn option<'a>(arg: Arg<'a>, value_name: &'static str, takes: Takes) -> Result<Ar
         }
         Takes::Measure => Ok(arg.value_parser(MEASURES)),
         Takes::Completion => arg.value_parser(COMPLETIONS).conflicts_with(PLAIN.name),
+        Takes::Method => Ok(arg.value_parser(METHODS)),
         Takes::Profile => alone(arg),
         Takes::Amount(_) => arg.conflicts_with(VOTERS.name),
         _ => Ok(arg),
@@ -149,7 +152,8 @@ fn option<'a>(arg: Arg<'a>, value_name: &'static str, takes: Takes) -> Result<Ar
 
 /// An option beside which no other may say a part of the rule.
 fn alone<'a>(arg: Arg<'a>) -> Result<Arg<'a>, AllocError> {
-    arg.conflicts_with(MEASURE.name)?
+    arg.conflicts_with(RULE.name)?
+        .conflicts_with(MEASURE.name)?
         .conflicts_with(COMPLETION.name)?
         .conflicts_with(PLAIN.name)?
         .conflicts_with(STEP.name)

@@ -30,6 +30,12 @@ pub(crate) enum Flaw<'a> {
     First(u32),
     /// No voter has the id whose history is asked for: it is empty.
     NoVoter,
+    /// This option says how shares are used, and the rule has none.
+    OfShares(&'static str),
+    /// The command tells of shares, and the rule has none.
+    NoShares,
+    /// The rule would be compared with itself.
+    OneRule,
 }
 
 impl<'a> Flaw<'a> {
@@ -77,9 +83,12 @@ impl<'a> Flaw<'a> {
             Flaw::Piped(name) => {
                 eprintln!(rt; "error: {name} can't be standard input (-). Name a file.")
             }
-            Flaw::Address(option, address) => eprintln!(rt;
-                "error: --{option} {address:?} can't be the address of a link. Give one that begins with https:// or http://, or the name of a file beside the page, such as recount.html. It must not have spaces."
-            ),
+            Flaw::Address(option, address) => {
+                let (kind, example) = beside_the_page(option);
+                eprintln!(rt;
+                    "error: --{option} {address:?} can't be the address of a link. Give one that begins with https:// or http://, or the name of a {kind} beside the page, such as {example}. It must not have spaces."
+                )
+            }
             Flaw::NoScheme(option, address) => eprintln!(rt;
                 "error: --{option} {address:?} lacks https:// at its beginning. Give --{option} https://{address}, or --{option} ./{address} if it is a file in a folder beside the page."
             ),
@@ -98,8 +107,36 @@ impl<'a> Flaw<'a> {
             Flaw::NoVoter => {
                 eprintln!(rt; "error: --history needs the id of a voter. Give it with --voter.")
             }
+            Flaw::OfShares(option) => return say_of_shares(rt, option),
+            Flaw::NoShares => eprintln!(rt;
+                "error: fairness is about shares, and there are no shares with most votes first. Count by equal shares."
+            ),
+            Flaw::OneRule => return say_one_rule(rt),
         };
     }
+}
+
+/// What can lie beside a page, to which the address of this option leads, and an example.
+fn beside_the_page(option: &str) -> (&'static str, &'static str) {
+    if option == "files" {
+        ("folder", "files/")
+    } else {
+        ("file", "recount.html")
+    }
+}
+
+/// Says that this option is none of most votes first.
+fn say_of_shares<R: Eprint>(rt: &R, option: &'static str) {
+    let _ = eprintln!(rt;
+        "error: --{option} is an option of equal shares, and there are no shares with most votes first. Omit --{option}, or count by equal shares."
+    );
+}
+
+/// Says that most votes first is not compared with itself.
+fn say_one_rule<R: Eprint>(rt: &R) {
+    let _ = eprintln!(rt;
+        "error: the result is compared with that of most votes first, so it can't be counted by the same rule. Count by equal shares, or omit the comparison."
+    );
 }
 
 /// Whether a path is given, and is that of standard input.

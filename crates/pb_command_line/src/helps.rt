@@ -23,8 +23,8 @@ Words:
 Which rule your city has:
   If your city uses the Method of Equal Shares, its rule is probably --measure cost --completion add1u.
   Then use these two options with every command that counts. Without them the program uses --measure votes --completion add1.
-  If your city does not use this method, its rule is probably that the projects with the most votes win.
-  The command pb_app compare shows the result of that rule beside the result of Equal Shares.
+  If your city does not use this method, its rule is probably that the projects with the most votes win:
+  --rule most-votes. The command pb_app compare shows the result of that rule beside the result of Equal Shares.
   A by-law should name the measure, the completion, the step of a raise, and how ties are broken.
 
 Examples:

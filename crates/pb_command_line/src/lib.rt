@@ -13,6 +13,7 @@ pub mod currency;
 mod elsewhere;
 mod flaw;
 mod helps;
+mod method;
 mod numbers;
 pub mod parse;
 mod rule;
@@ -22,7 +23,9 @@ mod text_source;
 
 pub use address::is_link;
 pub use command_line::PROGRAM;
+pub use method::Method;
 pub use parse::Parsed;
+pub use rule::refuses_page;
 pub use said_rule::SaidRule;
 pub use task::{
     Admits, Asked, AuditRun, Ballots, BallotsRun, CheckRun, CompareRun, CountRun, DeskRun,

@@ -7,7 +7,7 @@ use crate::commands::BYLAW;
 use crate::elsewhere::{elsewhere_words, uncounted_words, without_dashes};
 use crate::flaw::Flaw;
 use crate::numbers::{BadNumber, bad_number};
-use crate::rule::{named_rule, refuse_profile, rule_of, said_rule};
+use crate::rule::{compares, named_rule, refuse_profile, rule_of, said_rule, without_shares};
 use crate::said_rule::SaidRule;
 use crate::task::Asked;
 use clap::error::ErrorKind;
@@ -69,16 +69,24 @@ fn parsed_by<'a, R: Print + Eprint>(
             return Ok(Parsed::Ends(BAD_ARGUMENTS));
         }
         said = said_rule(given, named);
+        if let Some(flaw) = without_shares(name, compares(name, given), &said) {
+            return Ok(refused_by(rt, flaw));
+        }
         if name == BYLAW.name {
             return print_bylaw(rt, alloc, &rule_of(given, &said));
         }
     }
     let asked = asked_by(matches, &said);
     if let Some(flaw) = Flaw::of(&asked.task) {
-        flaw.say(rt);
-        return Ok(Parsed::Ends(BAD_ARGUMENTS));
+        return Ok(refused_by(rt, flaw));
     }
     Ok(Parsed::Asks(asked))
+}
+
+/// Says why arguments are refused, and how the program then ends.
+fn refused_by<'a, R: Eprint>(rt: &R, flaw: Flaw<'_>) -> Parsed<'a> {
+    flaw.say(rt);
+    Parsed::Ends(BAD_ARGUMENTS)
 }
 
 /// Prints this rule as a paragraph for a by-law.

@@ -1,7 +1,11 @@
 //! The options of a count, and the rule that they name.
 
-use crate::arguments::of_count;
+use crate::argument::Argument;
+use crate::arguments::{COMPARE, COMPLETION, MEASURE, PLAIN, RAISES, RULE, STEP, of_count};
+use crate::flaw::Flaw;
+use crate::method::Method;
 use crate::said_rule::SaidRule;
+use crate::task::PageRun;
 use clap::ArgMatches;
 use pb_core::money::Money;
 use pb_rounds::measure::Measure;
@@ -10,6 +14,9 @@ use pb_rounds::profile_named::{nearest_rule, profile_named};
 use pb_rounds::rule::{FillUp, Rule};
 use pb_rounds::rule_names::{completion_named, measure_named};
 use std::alloc::{AllocError, Global};
+
+/// The options that say a part of how shares are used.
+const OF_SHARES: &[Argument] = &[MEASURE, COMPLETION, PLAIN, STEP, RAISES];
 
 /// Whether an argument of this name is an option of a count.
 pub(crate) fn is_of_count(name: &str) -> bool {
@@ -41,12 +48,17 @@ pub(crate) fn named_rule(
     given: &ArgMatches<'_>,
 ) -> Result<Option<Rule>, AllocError> {
     match given.get_str("profile") {
-        Some(name) => match profile_named(alloc, name) {
+        Some(name) => match profile_named(alloc, whole_name(name)) {
             Ok(named) => Ok(named),
             Err(_) => Err(AllocError),
         },
         None => Ok(None),
     }
+}
+
+/// The whole name of a rule whose short one this may be.
+fn whole_name(name: &str) -> &str {
+    if name == "MV" { "MV/ties=file" } else { name }
 }
 
 /// The rule, as far as options say it; this one is given by its name, if one is.
@@ -56,7 +68,69 @@ pub(crate) fn said_rule(given: &ArgMatches<'_>, named: Option<Rule>) -> SaidRule
         None => by_options(given),
     };
     said.max_raises = given.get_one("raises");
+    said.method = said.method.or(method_of(given));
+    said.of_shares = of_shares(given);
     said
+}
+
+/// The method, if an option names one.
+fn method_of(given: &ArgMatches<'_>) -> Option<Method> {
+    Method::named(given.get_str(RULE.name)?)
+}
+
+/// The place of the first option that is given and says a part of how shares are used, if one is.
+fn of_shares(given: &ArgMatches<'_>) -> Option<usize> {
+    OF_SHARES
+        .iter()
+        .position(|option| is_given(given, option.name))
+}
+
+/// Whether an option is given: one without a value has the text `false` where it is not.
+fn is_given(given: &ArgMatches<'_>, option: &str) -> bool {
+    match given.get_str(option) {
+        Some(text) => text != "false",
+        None => false,
+    }
+}
+
+/// What is asked for that most votes first has not, where that is the rule: an option, this command, or that the
+/// result is compared with it.
+pub(crate) fn without_shares<'a>(
+    command: &str,
+    compares: bool,
+    said: &SaidRule,
+) -> Option<Flaw<'a>> {
+    if !said.is_most_votes() {
+        return None;
+    }
+    if let Some(option) = said.of_shares.and_then(|place| OF_SHARES.get(place)) {
+        return Some(Flaw::OfShares(option.name));
+    }
+    if command == "fairness" {
+        return Some(Flaw::NoShares);
+    }
+    if compares { Some(Flaw::OneRule) } else { None }
+}
+
+/// Whether the arguments of this command ask for a comparison with most votes first.
+pub(crate) fn compares(command: &str, given: &ArgMatches<'_>) -> bool {
+    match command {
+        "compare" => true,
+        "page" => given.get_flag(COMPARE.name),
+        _ => false,
+    }
+}
+
+/// Says on standard error why a page is refused that is made as options and a published page say together, and
+/// answers whether it is.
+pub fn refuses_page<R: Eprint>(rt: &R, run: &PageRun<'_>) -> bool {
+    match without_shares("page", run.compares, &run.given) {
+        Some(flaw) => {
+            flaw.say(rt);
+            true
+        }
+        None => false,
+    }
 }
 
 /// What options say of the rule that each say a part of it.

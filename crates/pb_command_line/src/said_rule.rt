@@ -1,5 +1,6 @@
 //! A rule, as far as options or a page say it.
 
+use crate::method::Method;
 use pb_core::money::Money;
 use pb_rounds::measure::Measure;
 use pb_rounds::options::{Completion, CountOptions};
@@ -8,6 +9,10 @@ use pb_rounds::rule::{FillUp, Rule};
 /// A rule, as far as options or a page say it.
 #[derive(Clone, Copy)]
 pub struct SaidRule {
+    /// The method, if it is named.
+    pub method: Option<Method>,
+    /// The first option that says how shares are used, by its place among these, if one is given.
+    pub of_shares: Option<usize>,
     pub measure: Option<Measure>,
     /// Whether shares are raised.
     pub completion: Option<Completion>,
@@ -36,8 +41,11 @@ impl SaidRule {
         let step = match options.completion {
             Completion::Add1 => Some(options.step),
             Completion::Plain => None,
+            Completion::NoShares => return SaidRule::method(Method::MostVotes),
         };
         SaidRule {
+            method: Some(Method::EqualShares),
+            of_shares: None,
             measure: Some(options.measure),
             completion: Some(options.completion),
             fill_up: Some(rule.fill_up),
@@ -46,9 +54,18 @@ impl SaidRule {
         }
     }
 
+    /// The method alone is said.
+    pub fn method(method: Method) -> SaidRule {
+        let mut rule = SaidRule::nothing();
+        rule.method = Some(method);
+        rule
+    }
+
     /// Nothing is said.
     pub fn nothing() -> SaidRule {
         SaidRule {
+            method: None,
+            of_shares: None,
             measure: None,
             completion: None,
             fill_up: None,
@@ -60,6 +77,8 @@ impl SaidRule {
     /// What this one says, and for the rest what the other one says.
     pub fn or(&self, other: &SaidRule) -> SaidRule {
         SaidRule {
+            method: self.method.or(other.method),
+            of_shares: self.of_shares.or(other.of_shares),
             measure: self.measure.or(other.measure),
             completion: self.completion.or(other.completion),
             fill_up: self.fill_up.or(other.fill_up),
@@ -68,9 +87,17 @@ impl SaidRule {
         }
     }
 
+    /// Whether it is most votes first.
+    pub fn is_most_votes(&self) -> bool {
+        matches!(self.method, Some(Method::MostVotes))
+    }
+
     /// The rule of a count by so many workers; what is not said is as in the standard one.
     pub fn rule(&self, workers: u32) -> Rule {
         let standard = CountOptions::standard();
+        if self.is_most_votes() {
+            return most_votes(workers);
+        }
         let options = CountOptions {
             step: self.step.unwrap_or(standard.step),
             max_raises: self.max_raises.unwrap_or(standard.max_raises),
@@ -82,5 +109,16 @@ impl SaidRule {
             options,
             fill_up: self.fill_up.unwrap_or(FillUp::Nothing),
         }
+    }
+}
+
+/// Most votes first, by so many workers.
+fn most_votes(workers: u32) -> Rule {
+    let mut options = CountOptions::standard();
+    options.workers = workers;
+    options.completion = Completion::NoShares;
+    Rule {
+        options,
+        fill_up: FillUp::MostVotes,
     }
 }

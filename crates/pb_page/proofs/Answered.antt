@@ -1,6 +1,6 @@
 -- What the parts of a page are where the code has told its cases apart.
 use Rattle.std.proofs.Common.{◌≡◌, ◌∙◌, ℕ, List, [], ap, length, refl, sym}
-use Rattle.std.specs.Prelude.{◌∷◌, ◌++◌, Option, None, Some, codes, decimal}
+use Rattle.std.specs.Prelude.{◌∷◌, ◌++◌, Option, None, Some, codes, decimal, if◌then◌else◌}
 use Rattle.std.specs.Option.{option_map_or}
 use Rattle.pb_core.specs.Election.{ElectionView, ProjectView}
 use Rattle.pb_page.specs.Amount.{shown}
@@ -14,7 +14,7 @@ use Rattle.pb_page.specs.declared.templates.TheConstants.{BUDGET_PART}
 use Rattle.pb_page.proofs.Grown.{before}
 use Rattle.pb_reasons.specs.CountedElection.{CountedElectionView}
 use Rattle.pb_reasons.specs.declared.tie.Tie.{Tie}
-use Rattle.pb_rounds.specs.Count.{opening_share}
+use Rattle.pb_rounds.specs.Count.{no_shares, opening_share}
 use Rattle.pb_rounds.specs.RuleNames.{by_completion, by_measure, completion_name, measure_name}
 use Rattle.pb_rounds.specs.declared.rule.Rule.{Rule}
 
@@ -75,7 +75,8 @@ link_is e place id name id_is name_is =
 -- what is said of a tie
 abbrev tie_in : Language → CountedElectionView → (winner other : List Part) → Option ℕ → List Part
 tie_in l x winner other at = item (option_map_or (λ round. say l (by_measure x.rule.options.measure key.TIE_BY_VOTES key.TIE_BY_COST)
-    (number (codes "round") round ∷ winner ∷ other ∷ [])) at (say l key.TIE_ADDED (winner ∷ other ∷ [])))
+    (number l (codes "round") round ∷ winner ∷ other ∷ [])) at
+    (say l (if no_shares x.rule.options.completion then key.TIE_WON else key.TIE_ADDED) (winner ∷ other ∷ [])))
 
 tie_as : (l : Language) (x : CountedElectionView) (t : Tie) (at : Option ℕ) (winner other : List Part) → at ≡ t.round
     → winner ≡ linked x.election t.winner → other ≡ linked x.election t.other → (rest : List ℕ)
@@ -88,15 +89,18 @@ tie_as l x t at winner other at_is winner_is other_is rest =
 pub tie_is : (l : Language) (x : CountedElectionView) (t : Tie) (k round : ℕ) (winner other : List Part)
     → k ≡ by_measure x.rule.options.measure key.TIE_BY_VOTES key.TIE_BY_COST → t.round ≡ Some round
     → winner ≡ linked x.election t.winner → other ≡ linked x.election t.other → (rest : List ℕ)
-    → before (item (say l k (number (codes "round") round ∷ winner ∷ other ∷ []))) rest ≡ before (tie l x t) rest
+    → before (item (say l k (number l (codes "round") round ∷ winner ∷ other ∷ []))) rest ≡ before (tie l x t) rest
 tie_is l x t k round winner other k_is at_is winner_is other_is rest =
-    ap (λ (n : ℕ). before (item (say l n (number (codes "round") round ∷ winner ∷ other ∷ []))) rest) k_is
+    ap (λ (n : ℕ). before (item (say l n (number l (codes "round") round ∷ winner ∷ other ∷ []))) rest) k_is
     ∙ tie_as l x t (Some round) winner other (sym at_is) winner_is other_is rest
 
-pub added_tie_is : (l : Language) (x : CountedElectionView) (t : Tie) (winner other : List Part) → t.round ≡ None
+pub added_tie_is : (l : Language) (x : CountedElectionView) (t : Tie) (k : ℕ) (winner other : List Part)
+    → k ≡ (if no_shares x.rule.options.completion then key.TIE_WON else key.TIE_ADDED) → t.round ≡ None
     → winner ≡ linked x.election t.winner → other ≡ linked x.election t.other → (rest : List ℕ)
-    → before (item (say l key.TIE_ADDED (winner ∷ other ∷ []))) rest ≡ before (tie l x t) rest
-added_tie_is l x t winner other at_is winner_is other_is rest = tie_as l x t None winner other (sym at_is) winner_is other_is rest
+    → before (item (say l k (winner ∷ other ∷ []))) rest ≡ before (tie l x t) rest
+added_tie_is l x t k winner other k_is at_is winner_is other_is rest =
+    ap (λ (n : ℕ). before (item (say l n (winner ∷ other ∷ []))) rest) k_is
+    ∙ tie_as l x t None winner other (sym at_is) winner_is other_is rest
 
 -- a winner's part of the budget
 abbrev block_shown : Language → (from wide : ℕ) → (name id : List ℕ) → (cost : ℕ) → List Part

@@ -51,10 +51,7 @@ filled_is (c ∷ cs) texts =
     let text = written (slice_index_or texts 0 []) in
     elim (cases_Bool (c == 126)) [
       | inl is ↦ rw is (ap (λ (t : List ℕ). text ++ t) (filled_is cs (drop 1 texts)))
-      | inr other ↦ elim (cases_Bool (c == 94)) [
-        | inl is ↦ rw (other, is) (ap (λ (t : List ℕ). text ++ t) (filled_is cs texts))
-        | inr last ↦ rw (other, last) (ap (λ (t : List ℕ). c ∷ t) (filled_is cs texts))
-      ]
+      | inr other ↦ rw other (ap (λ (t : List ℕ). c ∷ t) (filled_is cs texts))
     ]
 
 pub piece : (p : List ℕ) (texts : List (List ℕ)) (old new : List ℕ) → new ≡ old ++ filled p texts → Grows old new (cut p texts)

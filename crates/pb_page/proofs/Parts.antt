@@ -5,7 +5,7 @@ use Rattle.std.proofs.lemmas.Bool.{eq-eqb}
 use Rattle.pb_core.specs.Election.{ElectionView}
 use Rattle.pb_core.specs.MoneyText.{money_text}
 use Rattle.pb_page.specs.Content.{Part, amount, attribute, block, element, figure, item, line, listed, own, paragraph, said, say, section, text}
-use Rattle.pb_page.specs.Inner.Counted.{begun, figures_of, files_said, filled_up, journal_source, link_said, made_by, name_said, options_said, picture_said, recount_said, result_said, sections, share_said, spent_said, voted_said, works_said}
+use Rattle.pb_page.specs.Inner.Counted.{added_apart, begun, chosen, figures_of, files_said, filled_up, journal_source, link_said, made_by, name_said, options_told, picture_said, recount_said, result_said, rounds_said, rounds_told, sections, share_said, spent_said, voted_said, works_said}
 use Rattle.pb_page.specs.Inner.Filling.{cut}
 use Rattle.pb_page.specs.Page.{beside, blocks, budget, by_raises, check, command, contents, entry, link_to, parts, raises_ended, rule, source, summary, those_said, tie, ties, works}
 use Rattle.pb_page.specs.Words.{sentence}
@@ -24,7 +24,7 @@ use Rattle.pb_reasons.specs.declared.raise_end.NextRaise.{NextRaise}
 use Rattle.pb_reasons.specs.declared.raise_end.RaiseEnd.{RaiseEnd}
 use Rattle.pb_reasons.specs.declared.raise_end.RaiseEnd.TheVariants.{Over}
 use Rattle.pb_reasons.specs.declared.tie.Tie.{Tie}
-use Rattle.pb_rounds.specs.Count.{opening_share}
+use Rattle.pb_rounds.specs.Count.{no_shares, opening_share}
 use Rattle.pb_rounds.specs.RuleNames.{by_completion, by_measure, profile_name}
 use Rattle.pb_rounds.specs.declared.rule.Rule.{Rule}
 
@@ -52,13 +52,18 @@ ties_as : (l : Language) (items : List Part) (rest : List ℕ)
 unfolding cut
 ties_as l items rest = simp before_more
 
-rule_as : (l : Language) (works share one two three ends method filled ties : List Part) (rest : List ℕ)
-    → before (heads l RULE_OPENING.now (key.RULE_HEADING ∷ []) ++ (works ++ (own LIST_OPENING.now ++ (share ++ (one ++ (two ++ (three ++ (ends
-    ++ (method ++ (filled ++ (ties ++ own RULE_CLOSING.now))))))))))) rest
-    ≡ before (section l [] (codes "rule") key.RULE_HEADING (works ++ block (codes "ol") [] (share ++ ((one ++ (two ++ (three ++ [])))
-    ++ (ends ++ ((method ++ filled) ++ ties)))))) rest
+rule_as : (l : Language) (works rounds method filled ties : List Part) (rest : List ℕ)
+    → before (heads l RULE_OPENING.now (key.RULE_HEADING ∷ []) ++ (works ++ (own LIST_OPENING.now ++ (rounds
+    ++ (method ++ (filled ++ (ties ++ own RULE_CLOSING.now))))))) rest
+    ≡ before (section l [] (codes "rule") key.RULE_HEADING (works ++ block (codes "ol") [] (rounds
+    ++ ((method ++ filled) ++ ties)))) rest
 unfolding cut
-rule_as l works share one two three ends method filled ties rest = simp (append_assoc, before_more)
+rule_as l works rounds method filled ties rest = simp (append_assoc, before_more)
+
+rounds_as : (share one two three ends : List Part) (rest : List ℕ)
+    → before (share ++ (one ++ (two ++ (three ++ ends)))) rest
+    ≡ before (share ++ ((one ++ (two ++ (three ++ []))) ++ ends)) rest
+rounds_as share one two three ends rest = simp (append_assoc, before_more)
 
 works_as : (l : Language) (says : List Part) (picture : List ℕ) (k : ℕ) (rest : List ℕ)
     → before (says ++ (own FIGURE_OPENING.now ++ (own picture ++ heads l FIGURE_CLOSING.now (k ∷ [])))) rest
@@ -71,15 +76,15 @@ link_as : (l : Language) (says : List Part) (rest : List ℕ)
 unfolding cut
 link_as l says rest = simp (append_assoc, before_more)
 
-command_as : (begun : List Part) (measure completion step raises : List ℕ) (rest : List ℕ)
-    → before (begun ++ cut OPTIONS.now (measure ∷ completion ∷ step ∷ raises ∷ [])) rest
-    ≡ before (begun ++ (text measure ++ (text completion ++ (own (codes " --step ") ++ (text step ++ (own (codes " --raises ") ++ text raises)))))) rest
+chosen_as : (measure completion step raises : List ℕ) (rest : List ℕ)
+    → before (cut OPTIONS.now (measure ∷ completion ∷ step ∷ raises ∷ [])) rest
+    ≡ before (text measure ++ (text completion ++ (own (codes " --step ") ++ (text step ++ (own (codes " --raises ") ++ text raises))))) rest
 unfolding cut
-command_as begun measure completion step raises rest = simp before_more
+chosen_as measure completion step raises rest = simp before_more
 
-abbrev ordered : Facts → (measure completion : List ℕ) → (step raises : ℕ) → List Part
-ordered facts measure completion step raises = begun facts.journal ++ (text measure ++ (text completion ++ (own (codes " --step ") ++ (text (decimal step)
-    ++ (own (codes " --raises ") ++ text (decimal raises))))))
+abbrev ordered : (measure completion : List ℕ) → (step raises : ℕ) → List Part
+ordered measure completion step raises = text measure ++ (text completion ++ (own (codes " --step ") ++ (text (decimal step)
+    ++ (own (codes " --raises ") ++ text (decimal raises)))))
 
 abbrev measure_said : Rule → List ℕ
 measure_said r = by_measure r.options.measure [] (codes " --measure cost")
@@ -103,7 +108,8 @@ contents_as : (l : Language) (a b c d e f g h i : List Part) (rest : List ℕ)
 unfolding cut
 contents_as l a b c d e f g h i rest = simp (append_assoc, before_more)
 
-pub contents_are : (facts : Facts) (x : CountedElectionView) (has_added has_categories : Bool) → has_added ≡ nat_lt 0 (length x.counted.added)
+pub contents_are : (facts : Facts) (x : CountedElectionView) (has_added has_categories : Bool)
+    → has_added ≡ (if no_shares x.rule.options.completion then false else nat_lt 0 (length x.counted.added))
     → has_categories ≡ is_some facts.categories → (rest : List ℕ)
     → let l = facts.language in before (heads l CONTENTS_OPENING.now (key.CONTENTS ∷ []) ++ (link_to l true (codes "budget") key.BUDGET_HEADING
     ++ (link_to l true (codes "winners") key.WINNERS_HEADING ++ (link_to l has_added (codes "added") key.ADDED_HEADING
@@ -114,7 +120,7 @@ pub contents_are : (facts : Facts) (x : CountedElectionView) (has_added has_cate
 unfolding contents
 contents_are facts x has_added has_categories added_is categories_is rest = let l = facts.language in
     rw (added_is, categories_is) (contents_as l (link_to l true (codes "budget") key.BUDGET_HEADING) (link_to l true (codes "winners") key.WINNERS_HEADING)
-    (link_to l (nat_lt 0 (length x.counted.added)) (codes "added") key.ADDED_HEADING) (link_to l true (codes "others") key.OTHERS_HEADING)
+    (link_to l (if no_shares x.rule.options.completion then false else nat_lt 0 (length x.counted.added)) (codes "added") key.ADDED_HEADING) (link_to l true (codes "others") key.OTHERS_HEADING)
     (link_to l (is_some facts.categories) (codes "categories") key.CATEGORIES_HEADING) (link_to l true (codes "voters") key.VOTERS_HEADING)
     (link_to l facts.compares (codes "compared") key.COMPARED_HEADING) (link_to l true (codes "rule") key.RULE_HEADING)
     (link_to l true (codes "check") key.CHECK_HEADING) rest)
@@ -234,78 +240,110 @@ pub no_ties : (l : Language) (x : CountedElectionView) (all : List Tie) → all 
 unfolding ties
 no_ties l x all is none = rw (sym is, none) refl
 
-pub rule_is : (l : Language) (x : CountedElectionView) (end : RaiseEnd) (share one two method filled : List Part)
+pub rounds_are : (l : Language) (x : CountedElectionView) (end : RaiseEnd) (share one two : List Part)
     → share ≡ share_said l (by_raises x.rule key.SHARE_UNRAISED key.SHARE) x.rule.options.step x.counted.outcome.share x.counted.outcome.raised
     → one ≡ item (said l (by_measure x.rule.options.measure key.BY_VOTES key.BY_COST))
     → two ≡ item (said l (by_completion x.rule.options.completion x.rule.fill_up key.PLAIN (if x.counted.outcome.raised == 0 then key.UNRAISED else key.RAISED)
-    key.FILLED_UP (if x.counted.outcome.raised == 0 then key.UNRAISED else key.RAISED)))
-    → method ≡ item (said l (by_completion x.rule.options.completion x.rule.fill_up key.METHOD_PLAIN key.METHOD_ADD1 key.METHOD_FILLED key.METHOD_ADD1))
-    → filled ≡ filled_up l x.rule → (rest : List ℕ)
-    → before (heads l RULE_OPENING.now (key.RULE_HEADING ∷ []) ++ (works l x ++ (own LIST_OPENING.now ++ (share ++ (item (said l key.SUPPORTERS)
-    ++ (one ++ (two ++ (raises_ended l x end ++ (method ++ (filled ++ (ties l x ++ own RULE_CLOSING.now))))))))))) rest
-    ≡ before (rule l x end) rest
-unfolding rule
-rule_is l x end share one two method filled share_is one_is two_is method_is filled_is rest =
-    rw (share_is, one_is, two_is, method_is, filled_is) (rule_as l (works l x)
+    key.FILLED_UP (if x.counted.outcome.raised == 0 then key.UNRAISED else key.RAISED))) → (rest : List ℕ)
+    → before (share ++ (item (said l key.SUPPORTERS) ++ (one ++ (two ++ raises_ended l x end)))) rest ≡ before (rounds_said l x end) rest
+rounds_are l x end share one two share_is one_is two_is rest =
+    rw (share_is, one_is, two_is) (rounds_as
     (share_said l (by_raises x.rule key.SHARE_UNRAISED key.SHARE) x.rule.options.step x.counted.outcome.share x.counted.outcome.raised)
     (item (said l key.SUPPORTERS)) (item (said l (by_measure x.rule.options.measure key.BY_VOTES key.BY_COST)))
     (item (said l (by_completion x.rule.options.completion x.rule.fill_up key.PLAIN (if x.counted.outcome.raised == 0 then key.UNRAISED else key.RAISED)
-    key.FILLED_UP (if x.counted.outcome.raised == 0 then key.UNRAISED else key.RAISED)))) (raises_ended l x end)
+    key.FILLED_UP (if x.counted.outcome.raised == 0 then key.UNRAISED else key.RAISED)))) (raises_ended l x end) rest)
+
+pub rounds_of_none : (l : Language) (x : CountedElectionView) (end : RaiseEnd) (n : ℕ) → n ≡ length x.election.voters → n == 0 ≡ true
+    → [] ≡ rounds_told l x end
+rounds_of_none l x end n is none = rw (sym is, none) refl
+
+pub rounds_of_some : (l : Language) (x : CountedElectionView) (end : RaiseEnd) (n : ℕ) → n ≡ length x.election.voters → n == 0 ≡ false
+    → (rest : List ℕ) → before (rounds_said l x end) rest ≡ before (rounds_told l x end) rest
+rounds_of_some l x end n is some rest =
+    ap (λ (b : Bool). before (if b then [] else rounds_said l x end) rest) (sym some ∙ ap (λ (m : ℕ). m == 0) is)
+
+pub rule_is : (l : Language) (x : CountedElectionView) (end : RaiseEnd) (method filled : List Part)
+    → method ≡ item (said l (by_completion x.rule.options.completion x.rule.fill_up key.METHOD_PLAIN key.METHOD_ADD1 key.METHOD_FILLED key.METHOD_ADD1))
+    → filled ≡ filled_up l x.rule → no_shares x.rule.options.completion ≡ false → (rest : List ℕ)
+    → before (heads l RULE_OPENING.now (key.RULE_HEADING ∷ []) ++ (works l x ++ (own LIST_OPENING.now ++ (rounds_told l x end
+    ++ (method ++ (filled ++ (ties l x ++ own RULE_CLOSING.now))))))) rest
+    ≡ before (rule l x end) rest
+unfolding rule
+rule_is l x end method filled method_is filled_is shared rest =
+    rw (method_is, filled_is, shared) (rule_as l (works l x) (rounds_told l x end)
     (item (said l (by_completion x.rule.options.completion x.rule.fill_up key.METHOD_PLAIN key.METHOD_ADD1 key.METHOD_FILLED key.METHOD_ADD1)))
     (filled_up l x.rule) (ties l x) rest)
+
+votes_rule_as : (l : Language) (item ties : List Part) (rest : List ℕ)
+    → before (heads l RULE_OPENING.now (key.RULE_HEADING ∷ []) ++ (own LIST_OPENING.now ++ (item ++ (ties ++ own RULE_CLOSING.now)))) rest
+    ≡ before (section l [] (codes "rule") key.RULE_HEADING (block (codes "ol") [] (item ++ ties))) rest
+unfolding cut
+votes_rule_as l item ties rest = simp (append_assoc, before_more)
+
+pub votes_rule_is : (l : Language) (x : CountedElectionView) (end : RaiseEnd) → no_shares x.rule.options.completion ≡ true → (rest : List ℕ)
+    → before (heads l RULE_OPENING.now (key.RULE_HEADING ∷ []) ++ (own LIST_OPENING.now ++ (item (said l key.MOST_VOTES_FIRST)
+    ++ (ties l x ++ own RULE_CLOSING.now)))) rest
+    ≡ before (rule l x end) rest
+unfolding rule
+votes_rule_is l x end alone rest = rw alone (votes_rule_as l (item (said l key.MOST_VOTES_FIRST)) (ties l x) rest)
 
 abbrev works_laid : Language → ElectionView → (k : ℕ) → (picture : List ℕ) → (caption : ℕ) → List Part
 works_laid l e k picture caption = works_said l k e.budget (length e.voters) (opening_share e) ++ (own FIGURE_OPENING.now ++ (own picture
     ++ heads l FIGURE_CLOSING.now (caption ∷ [])))
 
+pub works_of_none : (l : Language) (x : CountedElectionView) (n : ℕ) → n ≡ length x.election.voters → n == 0 ≡ true → [] ≡ works l x
+unfolding works
+works_of_none l x n is none = rw (sym is, none) refl
+
 pub works_is : (l : Language) (x : CountedElectionView) (r : Rule) (e : ElectionView) (k caption : ℕ) (picture : List ℕ) → r ≡ x.rule → e ≡ x.election
-    → k ≡ by_raises r key.WORKS_UNRAISED key.WORKS → picture ≡ by_raises r OPENING_SHARES.now GROWN_SHARES.now
+    → length x.election.voters == 0 ≡ false → k ≡ by_raises r key.WORKS_UNRAISED key.WORKS → picture ≡ by_raises r OPENING_SHARES.now GROWN_SHARES.now
     → caption ≡ by_raises r key.WORKS_PICTURE_UNRAISED key.WORKS_PICTURE → (rest : List ℕ)
     → before (works_said l k e.budget (length e.voters) (opening_share e) ++ (own FIGURE_OPENING.now ++ (own picture
     ++ heads l FIGURE_CLOSING.now (caption ∷ [])))) rest
     ≡ before (works l x) rest
 unfolding works
-works_is l x r e k caption picture r_is e_is k_is picture_is caption_is rest =
-    let said = by_raises x.rule key.WORKS_UNRAISED key.WORKS in let drawn = by_raises x.rule OPENING_SHARES.now GROWN_SHARES.now in
+works_is l x r e k caption picture r_is e_is some k_is picture_is caption_is rest =
+    let told = by_raises x.rule key.WORKS_UNRAISED key.WORKS in let drawn = by_raises x.rule OPENING_SHARES.now GROWN_SHARES.now in
     let below = by_raises x.rule key.WORKS_PICTURE_UNRAISED key.WORKS_PICTURE in
     ap (λ (n : ℕ). before (works_laid l e n picture caption) rest) (k_is ∙ ap (λ (q : Rule). by_raises q key.WORKS_UNRAISED key.WORKS) r_is)
-    ∙ ap (λ (t : List ℕ). before (works_laid l e said t caption) rest) (picture_is ∙ ap (λ (q : Rule). by_raises q OPENING_SHARES.now GROWN_SHARES.now) r_is)
-    ∙ ap (λ (n : ℕ). before (works_laid l e said drawn n) rest)
+    ∙ ap (λ (t : List ℕ). before (works_laid l e told t caption) rest) (picture_is ∙ ap (λ (q : Rule). by_raises q OPENING_SHARES.now GROWN_SHARES.now) r_is)
+    ∙ ap (λ (n : ℕ). before (works_laid l e told drawn n) rest)
     (caption_is ∙ ap (λ (q : Rule). by_raises q key.WORKS_PICTURE_UNRAISED key.WORKS_PICTURE) r_is)
-    ∙ ap (λ (f : ElectionView). before (works_laid l f said drawn below) rest) e_is
-    ∙ works_as l (works_said l said x.election.budget (length x.election.voters) (opening_share x.election)) drawn below rest
+    ∙ ap (λ (f : ElectionView). before (works_laid l f told drawn below) rest) e_is
+    ∙ (works_as l (works_said l told x.election.budget (length x.election.voters) (opening_share x.election)) drawn below rest
+    ∙ ap (λ (b : Bool). before (if b then [] else works_said l told x.election.budget (length x.election.voters) (opening_share x.election)
+    ++ block (codes "figure") [] (own drawn ++ line (codes "figcaption") [] (said l below))) rest) (sym some))
 
 pub link_is : (l : Language) (address : List ℕ) (rest : List ℕ)
     → before (recount_said l address ++ heads l PARAGRAPH.now (key.PROGRAM_TOO ∷ [])) rest ≡ before (recount_said l address ++ paragraph (said l key.PROGRAM_TOO)) rest
 link_is l address rest = link_as l (recount_said l address) rest
 
-pub command_is : (facts : Facts) (r : Rule) (measure completion : List ℕ) (step raises : ℕ) → measure ≡ by_measure r.options.measure [] (codes " --measure cost")
+pub chosen_is : (r : Rule) (measure completion : List ℕ) (step raises : ℕ) → measure ≡ by_measure r.options.measure [] (codes " --measure cost")
     → completion ≡ by_completion r.options.completion r.fill_up (codes " --plain") [] (codes " --completion utilitarian") (codes " --completion add1u")
     → step ≡ r.options.step → raises ≡ r.options.max_raises → (rest : List ℕ)
-    → before (begun facts.journal ++ cut OPTIONS.now (measure ∷ completion ∷ decimal step ∷ decimal raises ∷ [])) rest
-    ≡ before (command facts r) rest
-command_is facts r measure completion step raises measure_is completion_is step_is raises_is rest =
-    command_as (begun facts.journal) measure completion (decimal step) (decimal raises) rest
-    ∙ ap (λ (t : List ℕ). before (ordered facts t completion step raises) rest) measure_is
-    ∙ ap (λ (t : List ℕ). before (ordered facts (measure_said r) t step raises) rest) completion_is
-    ∙ ap (λ (n : ℕ). before (ordered facts (measure_said r) (completion_said r) n raises) rest) step_is
-    ∙ ap (λ (n : ℕ). before (ordered facts (measure_said r) (completion_said r) r.options.step n) rest) raises_is
+    → before (cut OPTIONS.now (measure ∷ completion ∷ decimal step ∷ decimal raises ∷ [])) rest ≡ before (chosen r) rest
+chosen_is r measure completion step raises measure_is completion_is step_is raises_is rest =
+    chosen_as measure completion (decimal step) (decimal raises) rest
+    ∙ ap (λ (t : List ℕ). before (ordered t completion step raises) rest) measure_is
+    ∙ ap (λ (t : List ℕ). before (ordered (measure_said r) t step raises) rest) completion_is
+    ∙ ap (λ (n : ℕ). before (ordered (measure_said r) (completion_said r) n raises) rest) step_is
+    ∙ ap (λ (n : ℕ). before (ordered (measure_said r) (completion_said r) r.options.step n) rest) raises_is
 
 pub check_is : (facts : Facts) (r : Rule) (rest : List ℕ) → before (heads facts.language CHECK_OPENING.now (key.CHECK_HEADING ∷ key.CHECK_BYTES ∷ [])
     ++ (source (codes "FILE: ") facts.file ++ (journal_source facts.journal ++ (own SOURCES_CLOSING.now ++ (files_said facts.language facts.files ++ (link_said facts.language facts.recount
-    ++ (own COMMAND_OPENING.now ++ (command facts r ++ (own COMMAND_CLOSING.now ++ (options_said facts.language r
+    ++ (own COMMAND_OPENING.now ++ (command facts r ++ (own COMMAND_CLOSING.now ++ (options_told facts.language r
     ++ (name_said facts.language (profile_name r) ++ (made_by facts.language facts.program.now ++ own CHECK_CLOSING.now)))))))))))) rest
     ≡ before (check facts r) rest
 unfolding check
 check_is facts r rest = check_as facts.language (source (codes "FILE: ") facts.file) (journal_source facts.journal) (files_said facts.language facts.files) (link_said facts.language facts.recount)
-    (command facts r) (options_said facts.language r) (name_said facts.language (profile_name r)) (made_by facts.language facts.program.now) rest
+    (command facts r) (options_told facts.language r) (name_said facts.language (profile_name r)) (made_by facts.language facts.program.now) rest
 
 pub page_is : (facts : Facts) (x : CountedElectionView) (end : RaiseEnd) (lang dir : List ℕ) → lang ≡ sentence facts.language.words key.LANG
     → dir ≡ sentence facts.language.words key.DIR → (rest : List ℕ)
     → before (cut HEAD_OPENING.now (lang ∷ dir ∷ []) ++ (own META.now ++ (cut TITLE.now (facts.title.now ∷ []) ++ (own STYLE.now
     ++ (cut TOP.now (facts.title.now ∷ []) ++ (summary facts.language x ++ (contents facts x ++ (own MAIN.now ++ (sections facts x end ++ own CLOSING.now))))))))) rest
     ≡ before (parts facts x end) rest
-unfolding parts
+unfolding parts added_apart
 page_is facts x end lang dir lang_is dir_is rest =
     let l = facts.language in let title = facts.title.now in
     let Put : List Part → List ℕ = λ lead. before (heads l HEAD_OPENING.now (key.LANG ∷ key.DIR ∷ []) ++ (own META.now ++ (cut TITLE.now (title ∷ [])

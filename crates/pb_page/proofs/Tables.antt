@@ -1,14 +1,14 @@
 -- The tables of a page, as they are put: pieces, and rows between them.
 use Rattle.std.proofs.Common.{◌≡◌, ◌≢◌, Bool, ℕ, false, true, List, [], ◌∷◌, ◌++◌, append_assoc, length, map, refl, sym, ◌∙◌, ap, inl, inr}
-use Rattle.std.specs.Prelude.{◌==◌, Bool, Option, Some, codes, decimal, flat_map, if◌then◌else◌, nat_lt}
+use Rattle.std.specs.Prelude.{◌==◌, Bool, None, Option, Some, codes, decimal, flat_map, if◌then◌else◌, nat_lt}
 use Rattle.std.specs.List.{range_with_len}
 use Rattle.std.specs.Option.{option_map_or}
 use Rattle.std.proofs.lemmas.Bool.{cases_Bool, ne_eqb}
 use Rattle.pb_core.specs.Election.{ElectionView, ProjectView}
 use Rattle.pb_core.specs.MoneyText.{money_text}
-use Rattle.pb_page.specs.Amount.{shown}
-use Rattle.pb_page.specs.Content.{Part, amount, attribute, bar, block, cell, column, columns, element, figure, head, isolated, item, line, nameless, number, own, paragraph, row, said, say, section, table, text, under}
-use Rattle.pb_page.specs.Inner.Counted.{both_only, compared, exact_row, got_said, in_category, links, lost_row, more_told, nothing_told, payment_told, told_of, went_as}
+use Rattle.pb_page.specs.Amount.{grouped, shown}
+use Rattle.pb_page.specs.Content.{Part, amount, attribute, bar, block, cell, column, columns, digits, element, figure, head, isolated, item, line, nameless, number, own, paragraph, row, said, say, section, table, text, under}
+use Rattle.pb_page.specs.Inner.Counted.{added_apart, both_only, compared, exact_row, got_said, in_category, lacking, links, lost_row, more_told, nothing_told, others_opening, payment_told, told_of, went_as}
 use Rattle.pb_page.specs.Inner.Filling.{cut}
 use Rattle.pb_page.specs.Page.{added, at_least, ballots_row, beside, besides, categories, category_name, category_of, category_row, cells, choices_won, compared_row, ended_row, entry, linked, others, project_at, projects, row_at, short_key, titled, width, winners, money_told, went}
 use Rattle.pb_page.specs.Words.{sentence}
@@ -17,7 +17,7 @@ use Rattle.pb_page.specs.declared.facts.Facts.{Facts}
 use Rattle.pb_page.specs.declared.in_category.InCategory.{InCategory}
 use Rattle.pb_page.specs.declared.keys.TheConstants as key
 use Rattle.pb_page.specs.declared.language.Language.{Language}
-use Rattle.pb_page.specs.declared.templates.TheConstants.{ADDED, ADDED_OPENING, CATEGORIES_OPENING, CATEGORY, COMPARED_OPENING, COMPARED_ROW, ENTRY, HEAD_CATEGORY, HEAD_CLOSING, LINKS_CLOSING, LINKS_OPENING, NONE_LOST, NONE_WON, OTHER, OTHERS_OPENING, OTHER_CLOSING, OTHER_OPENING, ROWS_CLOSING, ROW_CATEGORY, ROW_CLOSING, ROW_OPENING, SECTION_CLOSING, TABLE_CLOSING, VOTERS_OPENING, VOTERS_ROW, VOTERS_ROW_CLOSING, VOTERS_TABLE, WENT_CLOSING, WENT_OPENING, WINNER, WINNERS_OPENING}
+use Rattle.pb_page.specs.declared.templates.TheConstants.{ADDED, ADDED_OPENING, CATEGORIES_OPENING, CATEGORY, COMPARED_OPENING, COMPARED_ROW, ENTRY, HEAD_CATEGORY, HEAD_CLOSING, LINKS_CLOSING, LINKS_OPENING, NONE_LOST, NONE_WON, OTHER, OTHERS_OPENING, OTHER_CLOSING, OTHER_OPENING, PASSED_OVER, PASSED_OVER_OPENING, ROWS_CLOSING, ROW_CATEGORY, ROW_CLOSING, ROW_OPENING, SECTION_CLOSING, TABLE_CLOSING, VOTERS_OPENING, VOTERS_ROW, VOTERS_ROW_CLOSING, VOTERS_TABLE, WENT_CLOSING, WENT_OPENING, WINNER, WINNERS_OPENING, WON_BY_VOTES_OPENING}
 use Rattle.pb_page.proofs.Grown.{before, before_more}
 use Rattle.pb_reasons.specs.BesideVotes.{beside_votes, elected_by_votes}
 use Rattle.pb_reasons.specs.Counted.{winners_of}
@@ -33,6 +33,7 @@ use Rattle.pb_reasons.specs.declared.project_reason.Won.{Won}
 use Rattle.pb_reasons.specs.declared.project_reason.Added.{Added}
 use Rattle.pb_reasons.specs.declared.rule_row.RuleRow.{RuleRow}
 use Rattle.pb_rounds.specs.Run.{ElectedView}
+use Rattle.pb_rounds.specs.Count.{no_shares}
 use Rattle.pb_rounds.specs.RuleNames.{fills_up}
 
 -- a piece with what the words of a language say at these keys
@@ -41,9 +42,10 @@ heads l piece keys = cut piece (map (sentence l.words) keys)
 
 -- the comparison
 pub compared_row_is : (l : Language) (k : ℕ) (r : RuleRow) (rest : List ℕ)
-    → before (cut COMPARED_ROW.now (sentence l.words k ∷ sentence l.words key.COMPARED_WON ∷ decimal r.projects
+    → before (cut COMPARED_ROW.now (sentence l.words k ∷ sentence l.words key.COMPARED_WON ∷ decimal r.projects ∷ grouped l.costs.group.now (decimal r.projects)
     ∷ sentence l.words key.COMPARED_COST ∷ money_text r.spent ∷ shown l.costs r.spent ∷ sentence l.words key.WITHOUT
-    ∷ decimal r.without ∷ sentence l.words key.MORE ∷ decimal r.more_choices ∷ [])) rest ≡ before (compared_row l k r) rest
+    ∷ decimal r.without ∷ grouped l.costs.group.now (decimal r.without) ∷ sentence l.words key.MORE ∷ decimal r.more_choices
+    ∷ grouped l.costs.group.now (decimal r.more_choices) ∷ [])) rest ≡ before (compared_row l k r) rest
 unfolding cut
 compared_row_is l k r rest = refl
 
@@ -119,19 +121,20 @@ unfolding choices_won
 voters_are l won rest =
     voters_as l (got_said l won) (flat_map (exact_row l won) (range_with_len 0 9)) (ballots_row l key.OR_MORE 9 (at_least 9 won) won) rest
 
-ballots_as : (says : List Part) (n wide ballots : ℕ) (rest : List ℕ)
-    → before (cut VOTERS_ROW.now (decimal n ∷ []) ++ (says ++ cut VOTERS_ROW_CLOSING.now (decimal wide ∷ decimal ballots ∷ []))) rest
+ballots_as : (says : List Part) (n wide ballots : ℕ) (shows rest : List ℕ)
+    → before (cut VOTERS_ROW.now (decimal n ∷ []) ++ (says ++ cut VOTERS_ROW_CLOSING.now (decimal wide ∷ decimal ballots ∷ shows ∷ []))) rest
     ≡ before (row [] (head (nameless (decimal n) says ++ bar wide)
-    ++ cell (own (codes " class='n'")) (nameless (decimal ballots) (text (decimal ballots))))) rest
+    ++ cell (own (codes " class='n'")) (nameless (decimal ballots) (text shows)))) rest
 unfolding cut
-ballots_as says n wide ballots rest = simp (append_assoc, before_more)
+ballots_as says n wide ballots shows rest = simp (append_assoc, before_more)
 
 pub ballots_are : (l : Language) (k n ballots : ℕ) (won : List ℕ) (m long : ℕ) → m ≡ n → long ≡ length won → at_least n won ≢ 0 → (rest : List ℕ)
-    → before (cut VOTERS_ROW.now (decimal n ∷ []) ++ (say l k (text (decimal m) ∷ []) ++ cut VOTERS_ROW_CLOSING.now (decimal (width ballots long) ∷ decimal ballots ∷ []))) rest
+    → before (cut VOTERS_ROW.now (decimal n ∷ []) ++ (say l k (digits l m ∷ []) ++ cut VOTERS_ROW_CLOSING.now (decimal (width ballots long) ∷ decimal ballots
+    ∷ grouped l.costs.group.now (decimal ballots) ∷ []))) rest
     ≡ before (ballots_row l k n ballots won) rest
 ballots_are l k n ballots won m long same all some rest =
     let so : at_least n won == 0 ≡ false = ne_eqb (at_least n won) 0 some in
-    rw (so, same, all) (ballots_as (say l k (text (decimal n) ∷ [])) n (width ballots (length won)) ballots rest)
+    rw (so, same, all) (ballots_as (say l k (digits l n ∷ [])) n (width ballots (length won)) ballots (grouped l.costs.group.now (decimal ballots)) rest)
 
 -- the categories
 categories_as : (l : Language) (rows : List Part) (rest : List ℕ)
@@ -153,6 +156,7 @@ categories_are facts x g e won some e_is won_is rest =
 
 abbrev category_put : Language → (name : List ℕ) → (wide : ℕ) → InCategory → List Part
 category_put l name wide sum = cut CATEGORY.now (name ∷ decimal wide ∷ sentence l.words key.CATEGORY_WON ∷ decimal sum.winners
+    ∷ grouped l.costs.group.now (decimal sum.winners)
     ∷ sentence l.words key.CATEGORY_COST ∷ money_text sum.cost ∷ shown l.costs sum.cost ∷ [])
 
 pub category_is : (l : Language) (e : ElectionView) (won : List ℕ) (g : Categories) (k : ℕ) (name : List ℕ) (sum : InCategory) (wide whole : ℕ)
@@ -217,49 +221,93 @@ projects_as facts class name heading caption columns opening keys rows same rest
     rows (end (codes "tbody")) (end (codes "table")) (end (codes "section")) rest))
     ∙ sym (before_more first inside rest)
 
-pub winners_are : (facts : Facts) (x : CountedElectionView) → length x.counted.outcome.elected == 0 ≡ false
+pub winners_are : (facts : Facts) (x : CountedElectionView) → no_shares x.rule.options.completion ≡ false → length x.counted.outcome.elected == 0 ≡ false
     → (rest : List ℕ) → before (table_put facts WINNERS_OPENING.now
     (key.WINNERS_HEADING ∷ key.WINNERS_CAPTION ∷ key.ROUND ∷ key.PROJECT ∷ key.COST ∷ key.VOTES ∷ key.PRICE ∷ key.IN_FULL ∷ [])
     (flat_map (λ w. row_at facts x w.place) x.counted.outcome.elected)) rest
     ≡ before (winners facts x) rest
 unfolding winners cut
-winners_are facts x some rest =
-    rw some (projects_as facts (codes " class='won'") (codes "winners") key.WINNERS_HEADING key.WINNERS_CAPTION
+winners_are facts x shared some rest =
+    rw (shared, some) (projects_as facts (codes " class='won'") (codes "winners") key.WINNERS_HEADING key.WINNERS_CAPTION
     (columns facts.language (key.ROUND ∷ []) key.PROJECT (key.COST ∷ key.VOTES ∷ key.PRICE ∷ key.IN_FULL ∷ []))
     WINNERS_OPENING.now (key.WINNERS_HEADING ∷ key.WINNERS_CAPTION ∷ key.ROUND ∷ key.PROJECT ∷ key.COST ∷ key.VOTES ∷ key.PRICE ∷ key.IN_FULL ∷ [])
     (flat_map (λ w. row_at facts x w.place) x.counted.outcome.elected) (λ rest. refl) rest)
 
-pub no_winners : (facts : Facts) (x : CountedElectionView) (elected : List ElectedView) (k : ℕ) → elected ≡ x.counted.outcome.elected → length elected == 0 ≡ true
+pub no_winners : (facts : Facts) (x : CountedElectionView) (elected : List ElectedView) (k : ℕ) → no_shares x.rule.options.completion ≡ false → elected ≡ x.counted.outcome.elected → length elected == 0 ≡ true
     → k ≡ (if fills_up x.rule.fill_up then key.NO_ELECTED else key.NO_WINNERS) → (rest : List ℕ)
     → before (heads facts.language NONE_WON.now (key.WINNERS_HEADING ∷ k ∷ [])) rest ≡ before (winners facts x) rest
 unfolding winners cut
-no_winners facts x elected k is none k_is rest = rw (sym is, none, sym k_is) refl
+no_winners facts x elected k shared is none k_is rest = rw (shared, sym is, none, sym k_is) refl
 
-pub added_are : (facts : Facts) (x : CountedElectionView) → length x.counted.added == 0 ≡ false
+-- the winners where nobody has a share
+pub voted_are : (facts : Facts) (x : CountedElectionView) → no_shares x.rule.options.completion ≡ true → length x.counted.added == 0 ≡ false
+    → (rest : List ℕ) → before (table_put facts WON_BY_VOTES_OPENING.now
+    (key.WINNERS_HEADING ∷ key.BY_MOST_VOTES ∷ key.NUMBER ∷ key.PROJECT ∷ key.COST ∷ key.VOTES ∷ []) (flat_map (row_at facts x) x.counted.added)) rest
+    ≡ before (winners facts x) rest
+unfolding winners added cut
+voted_are facts x alone some rest =
+    rw (alone, some) (projects_as facts (codes " class='won'") (codes "winners") key.WINNERS_HEADING key.BY_MOST_VOTES
+    (columns facts.language (key.NUMBER ∷ []) key.PROJECT (key.COST ∷ key.VOTES ∷ []))
+    WON_BY_VOTES_OPENING.now (key.WINNERS_HEADING ∷ key.BY_MOST_VOTES ∷ key.NUMBER ∷ key.PROJECT ∷ key.COST ∷ key.VOTES ∷ [])
+    (flat_map (row_at facts x) x.counted.added) (λ rest. refl) rest)
+
+pub none_voted : (facts : Facts) (x : CountedElectionView) → no_shares x.rule.options.completion ≡ true → length x.counted.added == 0 ≡ true → (rest : List ℕ)
+    → before (heads facts.language NONE_WON.now (key.WINNERS_HEADING ∷ key.NO_WINNERS ∷ [])) rest ≡ before (winners facts x) rest
+unfolding winners added cut
+none_voted facts x alone none rest = rw (alone, none) refl
+
+pub added_are : (facts : Facts) (x : CountedElectionView) → no_shares x.rule.options.completion ≡ false → length x.counted.added == 0 ≡ false
     → (rest : List ℕ) → before (table_put facts ADDED_OPENING.now
     (key.ADDED_HEADING ∷ key.ADDED_CAPTION ∷ key.NUMBER ∷ key.PROJECT ∷ key.COST ∷ key.VOTES ∷ []) (flat_map (row_at facts x) x.counted.added)) rest
-    ≡ before (added facts x) rest
-unfolding added cut
-added_are facts x some rest =
-    rw some (projects_as facts (codes " class='won'") (codes "added") key.ADDED_HEADING key.ADDED_CAPTION
+    ≡ before (added_apart facts x) rest
+unfolding added_apart added cut
+added_are facts x shared some rest =
+    rw (shared, some) (projects_as facts (codes " class='won'") (codes "added") key.ADDED_HEADING key.ADDED_CAPTION
     (columns facts.language (key.NUMBER ∷ []) key.PROJECT (key.COST ∷ key.VOTES ∷ []))
     ADDED_OPENING.now (key.ADDED_HEADING ∷ key.ADDED_CAPTION ∷ key.NUMBER ∷ key.PROJECT ∷ key.COST ∷ key.VOTES ∷ [])
     (flat_map (row_at facts x) x.counted.added) (λ rest. refl) rest)
 
-pub others_are : (facts : Facts) (x : CountedElectionView) (k : ℕ) → k ≡ short_key x.rule → length (winners_of x.counted) == length x.election.projects ≡ false
-    → (rest : List ℕ) → before (table_put facts OTHERS_OPENING.now
-    (key.OTHERS_HEADING ∷ key.OTHERS_CAPTION ∷ key.PROJECT ∷ key.COST ∷ key.VOTES ∷ key.LEFT ∷ k ∷ [])
-    (flat_map (lost_row facts x) (range_with_len 0 (length x.election.projects)))) rest
-    ≡ before (others facts x) rest
-unfolding others cut
-others_are facts x k is some rest =
-    let rows = flat_map (lost_row facts x) (range_with_len 0 (length x.election.projects)) in
-    let Put : ℕ → List ℕ = λ n. before (table_put facts OTHERS_OPENING.now
-    (key.OTHERS_HEADING ∷ key.OTHERS_CAPTION ∷ key.PROJECT ∷ key.COST ∷ key.VOTES ∷ key.LEFT ∷ n ∷ []) rows) rest in
-    rw some (ap Put is ∙ projects_as facts (codes " class='lost'") (codes "others") key.OTHERS_HEADING key.OTHERS_CAPTION
-    (columns facts.language [] key.PROJECT (key.COST ∷ key.VOTES ∷ key.LEFT ∷ short_key x.rule ∷ []))
-    OTHERS_OPENING.now (key.OTHERS_HEADING ∷ key.OTHERS_CAPTION ∷ key.PROJECT ∷ key.COST ∷ key.VOTES ∷ key.LEFT ∷ short_key x.rule ∷ [])
-    rows (λ rest. refl) rest)
+abbrev others_put : Facts → CountedElectionView → (short : Option ℕ) → List Part
+others_put facts x short = others_opening facts.language short ++ (category_column facts ++ (own HEAD_CLOSING.now
+    ++ (flat_map (lost_row facts x) (range_with_len 0 (length x.election.projects)) ++ own TABLE_CLOSING.now)))
+
+abbrev others_shown : Facts → CountedElectionView → (short : Option ℕ) → List Part
+others_shown facts x short = projects facts (codes " class='lost'") (codes "others") key.OTHERS_HEADING
+    (option_map_or (λ k. key.OTHERS_CAPTION) short key.PASSED_OVER)
+    (columns facts.language [] key.PROJECT (key.COST ∷ key.VOTES ∷ option_map_or (λ k. key.LEFT ∷ k ∷ []) short []))
+    (flat_map (lost_row facts x) (range_with_len 0 (length x.election.projects)))
+
+others_some : (facts : Facts) (k : ℕ) (rows : List Part) (rest : List ℕ)
+    → before (table_put facts OTHERS_OPENING.now (key.OTHERS_HEADING ∷ key.OTHERS_CAPTION ∷ key.PROJECT ∷ key.COST ∷ key.VOTES ∷ key.LEFT ∷ k ∷ []) rows) rest
+    ≡ before (projects facts (codes " class='lost'") (codes "others") key.OTHERS_HEADING key.OTHERS_CAPTION
+    (columns facts.language [] key.PROJECT (key.COST ∷ key.VOTES ∷ key.LEFT ∷ k ∷ [])) rows) rest
+unfolding cut
+others_some facts k rows rest = projects_as facts (codes " class='lost'") (codes "others") key.OTHERS_HEADING key.OTHERS_CAPTION
+    (columns facts.language [] key.PROJECT (key.COST ∷ key.VOTES ∷ key.LEFT ∷ k ∷ []))
+    OTHERS_OPENING.now (key.OTHERS_HEADING ∷ key.OTHERS_CAPTION ∷ key.PROJECT ∷ key.COST ∷ key.VOTES ∷ key.LEFT ∷ k ∷ [])
+    rows (λ rest. refl) rest
+
+others_none : (facts : Facts) (rows : List Part) (rest : List ℕ)
+    → before (table_put facts PASSED_OVER_OPENING.now (key.OTHERS_HEADING ∷ key.PASSED_OVER ∷ key.PROJECT ∷ key.COST ∷ key.VOTES ∷ []) rows) rest
+    ≡ before (projects facts (codes " class='lost'") (codes "others") key.OTHERS_HEADING key.PASSED_OVER
+    (columns facts.language [] key.PROJECT (key.COST ∷ key.VOTES ∷ [])) rows) rest
+unfolding cut
+others_none facts rows rest = projects_as facts (codes " class='lost'") (codes "others") key.OTHERS_HEADING key.PASSED_OVER
+    (columns facts.language [] key.PROJECT (key.COST ∷ key.VOTES ∷ []))
+    PASSED_OVER_OPENING.now (key.OTHERS_HEADING ∷ key.PASSED_OVER ∷ key.PROJECT ∷ key.COST ∷ key.VOTES ∷ [])
+    rows (λ rest. refl) rest
+
+others_as : (facts : Facts) (x : CountedElectionView) (short : Option ℕ) (rest : List ℕ)
+    → before (others_put facts x short) rest ≡ before (others_shown facts x short) rest
+others_as facts x (Some k) rest = others_some facts k (flat_map (lost_row facts x) (range_with_len 0 (length x.election.projects))) rest
+others_as facts x None rest = others_none facts (flat_map (lost_row facts x) (range_with_len 0 (length x.election.projects))) rest
+
+pub others_are : (facts : Facts) (x : CountedElectionView) (short : Option ℕ) → short ≡ short_key x.rule
+    → length (winners_of x.counted) == length x.election.projects ≡ false
+    → (rest : List ℕ) → before (others_put facts x short) rest ≡ before (others facts x) rest
+unfolding others
+others_are facts x short is some rest =
+    ap (λ (s : Option ℕ). before (others_put facts x s) rest) is ∙ (others_as facts x (short_key x.rule) rest ∙ rw some refl)
 
 pub no_others : (facts : Facts) (x : CountedElectionView) → length (winners_of x.counted) == length x.election.projects ≡ true
     → (rest : List ℕ) → before (heads facts.language NONE_LOST.now (key.OTHERS_HEADING ∷ key.NO_OTHERS ∷ [])) rest ≡ before (others facts x) rest
@@ -290,17 +338,22 @@ category_cell_is facts place g name some is rest =
     ap (λ (t : List ℕ). before (cell (attribute (codes "data-label") (said facts.language key.CATEGORY)) (isolated t)) rest) is ∙ rw some refl
 
 -- a row has told of what was paid
-told_is : (l : Language) (x : CountedElectionView) (short whole : ℕ) (p : ProjectView) (place votes : ℕ) (e : Ending)
-    → ended_row l short whole p votes (went_as l x.election (told_of x place votes e)) e ≡ ended_row l short whole p votes (went l x place votes) e
-told_is l x short whole p place votes (ending.Won w) = refl
-told_is l x short whole p place votes (ending.Added a) = refl
-told_is l x short whole p place votes (ending.Lost lost) = elim (cases_Bool (nat_lt votes 5)) [
+went_is : (l : Language) (x : CountedElectionView) (place votes : ℕ) (lost : Lost)
+    → went_as l x.election (told_of x place votes (ending.Lost lost)) lost.left ≡ went l x place votes lost.left
+went_is l x place votes lost = elim (cases_Bool (nat_lt votes 5)) [
   | inl few ↦ rw few refl
   | inr many ↦ rw many refl
 ]
 
-pub row_is : (facts : Facts) (x : CountedElectionView) (place : ℕ) (p : ProjectView) (id name : List ℕ) (cost short budget votes : ℕ) (e : Ending)
-    (election : ElectionView) (paid : Option MoneyView) → election ≡ x.election → paid ≡ told_of x place votes e
+told_is : (l : Language) (x : CountedElectionView) (short : Option ℕ) (whole : ℕ) (p : ProjectView) (place votes : ℕ) (e : Ending)
+    → ended_row l short whole p votes (went_as l x.election (told_of x place votes e)) e ≡ ended_row l short whole p votes (went l x place votes) e
+told_is l x short whole p place votes (ending.Won w) = refl
+told_is l x short whole p place votes (ending.Added a) = refl
+told_is l x short whole p place votes (ending.Lost lost) =
+    ap (λ (told : List Part). ended_row l short whole p votes (λ (left : ℕ). told) (ending.Lost lost)) (went_is l x place votes lost)
+
+pub row_is : (facts : Facts) (x : CountedElectionView) (place : ℕ) (p : ProjectView) (id name : List ℕ) (cost : ℕ) (short : Option ℕ) (budget votes : ℕ)
+    (e : Ending) (election : ElectionView) (paid : Option MoneyView) → election ≡ x.election → paid ≡ told_of x place votes e
     → p ≡ project_at x.election place → id ≡ p.id → name ≡ p.name → cost ≡ p.cost → short ≡ short_key x.rule
     → budget ≡ x.election.budget → votes ≡ (project_reason x.election x.counted place).votes → e ≡ (project_reason x.election x.counted place).ending
     → (rest : List ℕ)
@@ -316,20 +369,22 @@ row_is facts x place p id name cost short budget votes e election paid election_
     ∙ row_as place q.id (ended_row l (short_key x.rule) x.election.budget q r.votes (went l x place r.votes) r.ending) category rest)
 
 abbrev won_put : Language → ProjectView → (wide votes : ℕ) → Won → List Part
-won_put l p wide votes w = cut WINNER.now (sentence l.words key.ROUND ∷ decimal w.round ∷ p.id ∷ p.name ∷ decimal wide ∷ sentence l.words key.COST
-    ∷ money_text p.cost ∷ shown l.costs p.cost ∷ sentence l.words key.VOTES ∷ decimal votes ∷ sentence l.words key.PRICE ∷ money_text w.price
-    ∷ shown l.amounts w.price ∷ sentence l.words key.IN_FULL ∷ decimal w.in_full ∷ [])
+won_put l p wide votes w = cut WINNER.now (sentence l.words key.ROUND ∷ decimal w.round ∷ grouped l.costs.group.now (decimal w.round) ∷ p.id ∷ p.name ∷ decimal wide
+    ∷ sentence l.words key.COST ∷ money_text p.cost ∷ shown l.costs p.cost ∷ sentence l.words key.VOTES ∷ decimal votes
+    ∷ grouped l.costs.group.now (decimal votes) ∷ sentence l.words key.PRICE ∷ money_text w.price ∷ shown l.amounts w.price
+    ∷ sentence l.words key.IN_FULL ∷ decimal w.in_full ∷ grouped l.costs.group.now (decimal w.in_full) ∷ [])
 
-pub won_is : (l : Language) (short whole : ℕ) (p : ProjectView) (wide votes : ℕ) (w : Won) → wide ≡ width p.cost whole → (rest : List ℕ)
+pub won_is : (l : Language) (short : Option ℕ) (whole : ℕ) (p : ProjectView) (wide votes : ℕ) (w : Won) → wide ≡ width p.cost whole → (rest : List ℕ)
     → before (won_put l p wide votes w) rest ≡ before (ended_row l short whole p votes (λ left. []) (ending.Won w)) rest
 unfolding cut
 won_is l short whole p wide votes w is rest = ap (λ (n : ℕ). before (won_put l p n votes w) rest) is
 
 abbrev added_put : Language → ProjectView → (wide votes : ℕ) → Added → List Part
-added_put l p wide votes a = cut ADDED.now (sentence l.words key.NUMBER ∷ decimal a.number ∷ p.id ∷ p.name ∷ decimal wide ∷ sentence l.words key.COST
-    ∷ money_text p.cost ∷ shown l.costs p.cost ∷ sentence l.words key.VOTES ∷ decimal votes ∷ [])
+added_put l p wide votes a = cut ADDED.now (sentence l.words key.NUMBER ∷ decimal a.number ∷ grouped l.costs.group.now (decimal a.number) ∷ p.id ∷ p.name ∷ decimal wide
+    ∷ sentence l.words key.COST ∷ money_text p.cost ∷ shown l.costs p.cost ∷ sentence l.words key.VOTES ∷ decimal votes
+    ∷ grouped l.costs.group.now (decimal votes) ∷ [])
 
-pub added_is : (l : Language) (short whole : ℕ) (p : ProjectView) (wide votes : ℕ) (a : Added) → wide ≡ width p.cost whole → (rest : List ℕ)
+pub added_is : (l : Language) (short : Option ℕ) (whole : ℕ) (p : ProjectView) (wide votes : ℕ) (a : Added) → wide ≡ width p.cost whole → (rest : List ℕ)
     → before (added_put l p wide votes a) rest ≡ before (ended_row l short whole p votes (λ left. []) (ending.Added a)) rest
 unfolding cut
 added_is l short whole p wide votes a is rest = ap (λ (n : ℕ). before (added_put l p n votes a) rest) is
@@ -337,17 +392,29 @@ added_is l short whole p wide votes a is rest = ap (λ (n : ℕ). before (added_
 abbrev lost_head : ProjectView → (wide : ℕ) → List Part
 lost_head p wide = cut OTHER_OPENING.now (p.id ∷ p.name ∷ decimal wide ∷ [])
 
-abbrev lost_cells : Language → (short : ℕ) → ProjectView → (votes : ℕ) → Lost → (says : List Part) → List Part
-lost_cells l short p votes lost says = cut OTHER.now (sentence l.words key.COST ∷ money_text p.cost ∷ shown l.costs p.cost
-    ∷ sentence l.words key.VOTES ∷ decimal votes ∷ sentence l.words key.LEFT ∷ money_text lost.left ∷ shown l.amounts lost.left
-    ∷ sentence l.words short ∷ money_text lost.missing ∷ []) ++ (says ++ own OTHER_CLOSING.now)
-
 abbrev cost_votes : Language → ProjectView → (votes : ℕ) → List Part
-cost_votes l p votes = under l key.COST (amount l.costs (codes "cost") p.cost) ++ under l key.VOTES (number (codes "votes") votes)
+cost_votes l p votes = under l key.COST (amount l.costs (codes "cost") p.cost) ++ under l key.VOTES (number l (codes "votes") votes)
 
 abbrev left_missing : Language → (short : ℕ) → Lost → (says : List Part) → List Part
 left_missing l short lost says = under l key.LEFT (amount l.amounts (codes "left") lost.left)
     ++ under l short (figure (codes "missing") (money_text lost.missing) says)
+
+abbrev lost_cells : Language → (short : ℕ) → ProjectView → (votes : ℕ) → Lost → (says : List Part) → List Part
+lost_cells l short p votes lost says = cut OTHER.now (sentence l.words key.COST ∷ money_text p.cost ∷ shown l.costs p.cost
+    ∷ sentence l.words key.VOTES ∷ decimal votes ∷ grouped l.costs.group.now (decimal votes) ∷ sentence l.words key.LEFT
+    ∷ money_text lost.left ∷ shown l.amounts lost.left
+    ∷ sentence l.words short ∷ money_text lost.missing ∷ []) ++ (says ++ own OTHER_CLOSING.now)
+
+cells_as : (l : Language) (short : ℕ) (p : ProjectView) (votes : ℕ) (lost : Lost) (says : List Part) (rest : List ℕ)
+    → before (lost_cells l short p votes lost says) rest
+    ≡ before (own (codes "</th>") ++ (cost_votes l p votes ++ left_missing l short lost says)) rest
+unfolding cut
+cells_as l short p votes lost says rest = simp before_more
+
+pub lacking_is : (l : Language) (short : ℕ) (p : ProjectView) (votes : ℕ) (lost : Lost) (rest : List ℕ)
+    → before (lost_cells l short p votes lost (say l key.SHORT (text (shown l.amounts lost.missing) ∷ []))) rest
+    ≡ before (lacking l short p votes lost) rest
+lacking_is l short p votes lost rest = cells_as l short p votes lost (say l key.SHORT (text (shown l.amounts lost.missing) ∷ [])) rest
 
 told_before : (told closing cells more : List Part) (rest : List ℕ)
     → before (((told ++ closing) ++ cells) ++ more) rest ≡ before told (before (closing ++ (cells ++ more)) rest)
@@ -359,37 +426,43 @@ told_before told closing cells more rest =
 
 told_in : (l : Language) (p : ProjectView) (wide votes : ℕ) (told more : List Part) (rest : List ℕ)
     → before (lost_head p wide) (before told (before (own (codes "</th>") ++ (cost_votes l p votes ++ more)) rest))
-    ≡ before (cells l p wide votes told ++ more) rest
+    ≡ before (cells l p votes (bar wide ++ told) ++ more) rest
 unfolding cut
 told_in l p wide votes told more rest =
     ap (λ (t : List ℕ). before (lost_head p wide) t) (sym (told_before told (own (codes "</th>")) (cost_votes l p votes) more rest))
 
-cells_as : (l : Language) (short : ℕ) (p : ProjectView) (votes : ℕ) (lost : Lost) (says : List Part) (rest : List ℕ)
-    → before (lost_cells l short p votes lost says) rest
-    ≡ before (own (codes "</th>") ++ (cost_votes l p votes ++ left_missing l short lost says)) rest
-unfolding cut
-cells_as l short p votes lost says rest = simp before_more
+abbrev lost_put : Language → (short : ℕ) → ProjectView → (wide votes : ℕ) → Lost → (told : List Part) → List Part
+lost_put l short p wide votes lost told = lost_head p wide ++ (told ++ lacking l short p votes lost)
 
-abbrev lost_put : Language → (short : ℕ) → ProjectView → (wide votes : ℕ) → Lost → (told says : List Part) → List Part
-lost_put l short p wide votes lost told says = lost_head p wide ++ (told ++ lost_cells l short p votes lost says)
+lost_as : (l : Language) (short : ℕ) (p : ProjectView) (wide votes : ℕ) (lost : Lost) (told : List Part) (rest : List ℕ)
+    → before (lost_put l short p wide votes lost told) rest
+    ≡ before (cells l p votes (bar wide ++ told) ++ left_missing l short lost (say l key.SHORT (text (shown l.amounts lost.missing) ∷ []))) rest
+lost_as l short p wide votes lost told rest =
+    before_more (lost_head p wide) (told ++ lacking l short p votes lost) rest
+    ∙ (ap (λ (t : List ℕ). before (lost_head p wide) t) (before_more told (lacking l short p votes lost) rest)
+    ∙ told_in l p wide votes told (left_missing l short lost (say l key.SHORT (text (shown l.amounts lost.missing) ∷ []))) rest)
 
-lost_as : (l : Language) (short : ℕ) (p : ProjectView) (wide votes : ℕ) (lost : Lost) (told says : List Part) (rest : List ℕ)
-    → before (lost_put l short p wide votes lost told says) rest
-    ≡ before (cells l p wide votes told ++ left_missing l short lost says) rest
-lost_as l short p wide votes lost told says rest =
-    before_more (lost_head p wide) (told ++ lost_cells l short p votes lost says) rest
-    ∙ (ap (λ (t : List ℕ). before (lost_head p wide) t) (before_more told (lost_cells l short p votes lost says) rest
-    ∙ ap (λ (t : List ℕ). before told t) (cells_as l short p votes lost says rest))
-    ∙ told_in l p wide votes told (left_missing l short lost says) rest)
-
-pub lost_is : (l : Language) (short whole : ℕ) (p : ProjectView) (wide votes : ℕ) (lost : Lost) (told : ℕ → List Part) → wide ≡ width lost.left p.cost
-    → (rest : List ℕ)
-    → before (lost_put l short p wide votes lost (told lost.left) (say l key.SHORT (text (shown l.amounts lost.missing) ∷ []))) rest
+pub lost_is : (l : Language) (short : Option ℕ) (k whole : ℕ) (p : ProjectView) (wide votes : ℕ) (lost : Lost) (told : ℕ → List Part)
+    → short ≡ Some k → wide ≡ width lost.left p.cost → (rest : List ℕ)
+    → before (lost_put l k p wide votes lost (told lost.left)) rest
     ≡ before (ended_row l short whole p votes told (ending.Lost lost)) rest
-lost_is l short whole p wide votes lost told is rest =
-    let says = say l key.SHORT (text (shown l.amounts lost.missing) ∷ []) in
-    ap (λ (n : ℕ). before (lost_put l short p n votes lost (told lost.left) says) rest) is
-    ∙ lost_as l short p (width lost.left p.cost) votes lost (told lost.left) says rest
+lost_is l short k whole p wide votes lost told some is rest =
+    ap (λ (n : ℕ). before (lost_put l k p n votes lost (told lost.left)) rest) is
+    ∙ (lost_as l k p (width lost.left p.cost) votes lost (told lost.left) rest
+    ∙ ap (λ (s : Option ℕ). before (ended_row l s whole p votes told (ending.Lost lost)) rest) (sym some))
+
+-- a loser's row where nobody has a share
+pub passed_over_is : (l : Language) (p : ProjectView) (votes : ℕ) (rest : List ℕ)
+    → before (cut PASSED_OVER.now (p.id ∷ p.name ∷ sentence l.words key.COST ∷ money_text p.cost ∷ shown l.costs p.cost
+    ∷ sentence l.words key.VOTES ∷ decimal votes ∷ grouped l.costs.group.now (decimal votes) ∷ [])) rest ≡ before (cells l p votes []) rest
+unfolding cut
+passed_over_is l p votes rest = refl
+
+pub passed_is : (l : Language) (short : Option ℕ) (whole : ℕ) (p : ProjectView) (votes : ℕ) (lost : Lost) (told : ℕ → List Part)
+    → short ≡ None → (rest : List ℕ)
+    → before (cells l p votes []) rest ≡ before (ended_row l short whole p votes told (ending.Lost lost)) rest
+passed_is l short whole p votes lost told none rest =
+    ap (λ (s : Option ℕ). before (ended_row l s whole p votes told (ending.Lost lost)) rest) (sym none)
 
 -- where the money went
 money_as : (l : Language) (payments more nothing kept : List Part) (rest : List ℕ)

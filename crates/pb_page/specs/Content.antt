@@ -2,7 +2,7 @@
 use Rattle.std.specs.Prelude.{ℕ, ◌+◌, List, [], ◌∷◌, ◌++◌, codes, decimal, flat_map, if◌then◌else◌, nat_lt}
 use Rattle.std.specs.Prelude.{slice_index_or}
 use Rattle.pb_core.specs.MoneyText.{money_text}
-use Rattle.pb_page.specs.Amount.{shown}
+use Rattle.pb_page.specs.Amount.{grouped, shown}
 use Rattle.pb_page.specs.Markup.{written}
 use Rattle.pb_page.specs.Words.{form_of, sentence}
 use Rattle.pb_page.specs.declared.language.Language.{Language}
@@ -51,10 +51,13 @@ line tag attributes inside = element tag attributes inside ++ own (codes "\n")
 abbrev pub block : (tag : List ℕ) → (attributes inside : List Part) → List Part
 block tag attributes inside = line tag attributes (own (codes "\n") ++ inside)
 
--- a text with a direction of its own; a figure: its value for programs and what shows it; one with a name; a
--- number; an amount
+-- a text with a direction of its own; a number in groups of three digits, as amounts of the page; a figure: its value for
+-- programs and what shows it; one with a name; a number; an amount
 abbrev pub isolated : List ℕ → List Part
 isolated t = element (codes "bdi") (own (codes " dir='auto'")) (text t)
+
+abbrev pub digits : Language → ℕ → List Part
+digits l n = text (grouped l.costs.group.now (decimal n))
 
 abbrev pub nameless : (value : List ℕ) → (shows : List Part) → List Part
 nameless value shows = element (codes "data") (attribute (codes "value") (text value)) shows
@@ -63,8 +66,8 @@ abbrev pub figure : (name value : List ℕ) → (shows : List Part) → List Par
 figure name value shows =
     element (codes "data") (attribute (codes "class") (text name) ++ attribute (codes "value") (text value)) shows
 
-abbrev pub number : (name : List ℕ) → ℕ → List Part
-number name n = figure name (decimal n) (text (decimal n))
+abbrev pub number : Language → (name : List ℕ) → ℕ → List Part
+number l name n = figure name (decimal n) (digits l n)
 
 abbrev pub amount : Form → (name : List ℕ) → ℕ → List Part
 amount form name h = figure name (money_text h) (text (shown form h))

@@ -87,6 +87,7 @@ fn put_rows<'a>(
             Value::Number(bar(sum.cost, budget)),
             Value::Said(keys::CATEGORY_WON),
             Value::Number(sum.winners),
+            Value::Grouped(sum.winners, language.costs.group),
             Value::Said(keys::CATEGORY_COST),
             Value::Amount(sum.cost),
             Value::Shown(sum.cost, language.costs),

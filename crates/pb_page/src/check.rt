@@ -1,7 +1,8 @@
 //! How to check a result.
 
 ghost use Rattle.std.specs.Prelude.{◌≡◌, [], OnOk, codes};
-ghost use Rattle.pb_page.specs.Inner.Counted.{begun, files_said, journal_source, link_said, made_by, name_said, options_said};
+ghost use Rattle.pb_page.specs.Inner.Counted.{begun, chosen, options_given, options_told};
+ghost use Rattle.pb_page.specs.Inner.Counted.{files_said, journal_source, link_said, made_by, name_said, options_said};
 ghost use Rattle.pb_page.specs.Inner.Grown.{Grows};
 ghost use Rattle.pb_page.specs.Page.{by_raises, check, command, source};
 ghost use Rattle.pb_page.specs.declared.keys.TheConstants as key;
@@ -13,9 +14,10 @@ use crate::language::Language;
 use crate::markup::Value;
 use crate::place::Place;
 use crate::put::{put, put_own};
+use crate::rule::has_no_shares;
 use crate::sentences::say_paragraph;
 use crate::templates::{
-    AUDIT, CHECK_CLOSING, CHECK_FILE, CHECK_JOURNAL, CHECK_OPENING, COMMAND_CLOSING,
+    AUDIT, BY_VOTES, CHECK_CLOSING, CHECK_FILE, CHECK_JOURNAL, CHECK_OPENING, COMMAND_CLOSING,
     COMMAND_OPENING, COUNT, OPTIONS, PARAGRAPH, SOURCES_CLOSING,
 };
 use pb_core::no_memory::NoMemory;
@@ -42,7 +44,7 @@ pub(crate) fn put_check(page: &mut Vec<u8>, facts: &Facts, rule: &Rule) -> Resul
     put_own(page, COMMAND_OPENING)?;
     put_command(page, facts, rule)?;
     put_own(page, COMMAND_CLOSING)?;
-    say_options(page, language, rule)?;
+    tell_options(page, language, rule)?;
     put_name(page, language, rule)?;
     say_made_by(page, language, facts.program)?;
     put_own(page, CHECK_CLOSING)
@@ -107,13 +109,30 @@ fn put_command(page: &mut Vec<u8>, facts: &Facts, rule: &Rule) -> Result<(), NoM
     ensures { OnOk result (Grows page.old.items page.new.items (command facts.now rule.now)) }
 {
     put_program(page, facts.journal)?;
+    put_options(page, &facts.language, rule)
+}
+
+/// Its options.
+fn put_options(page: &mut Vec<u8>, language: &Language, rule: &Rule) -> Result<(), NoMemory>
+    ensures { OnOk result (Grows page.old.items page.new.items (options_given rule.now)) }
+{
+    if has_no_shares(rule) {
+        return put_own(page, BY_VOTES);
+    }
+    put_chosen(page, language, rule)
+}
+
+/// Its options where voters have shares.
+fn put_chosen(page: &mut Vec<u8>, language: &Language, rule: &Rule) -> Result<(), NoMemory>
+    ensures { OnOk result (Grows page.old.items page.new.items (chosen rule.now)) }
+{
     let values = [
         Value::Text(measure_option(rule.options.measure)),
         Value::Text(completion_option(rule.options.completion, rule.fill_up)),
         Value::Number(rule.options.step.0),
         Value::Small(rule.options.max_raises),
     ];
-    put(page, &facts.language, OPTIONS, &values)
+    put(page, language, OPTIONS, &values)
 }
 
 /// The command that recounts them, up to its options.
@@ -142,11 +161,23 @@ fn completion_option(completion: Completion, fill_up: FillUp) -> &'static str
         (codes " --completion utilitarian") (codes " --completion add1u") }
 {
     match (completion, fill_up) {
-        (Completion::Plain, FillUp::Nothing) => " --plain",
+        (Completion::Plain | Completion::NoShares, FillUp::Nothing) => " --plain",
         (Completion::Add1, FillUp::Nothing) => "",
-        (Completion::Plain, FillUp::MostVotes) => " --completion utilitarian",
+        (Completion::Plain | Completion::NoShares, FillUp::MostVotes) =>
+            " --completion utilitarian",
         (Completion::Add1, FillUp::MostVotes) => " --completion add1u",
     }
+}
+
+/// The options in words, where voters have shares.
+#[tactic(auto, using(crate::proofs::Grown::none))]
+fn tell_options(page: &mut Vec<u8>, language: &Language, rule: &Rule) -> Result<(), NoMemory>
+    ensures { OnOk result (Grows page.old.items page.new.items (options_told language.now rule.now)) }
+{
+    if has_no_shares(rule) {
+        return Ok(());
+    }
+    say_options(page, language, rule)
 }
 
 /// The options in words, and by the program's names.
@@ -188,7 +219,9 @@ fn options_key(rule: &Rule) -> u16
     ensures { result ≡ by_raises rule.now key.OPTIONS_UNRAISED key.OPTIONS }
 {
     match (rule.options.completion, rule.fill_up) {
-        (Completion::Plain, FillUp::Nothing | FillUp::MostVotes) => keys::OPTIONS_UNRAISED,
+        (Completion::Plain | Completion::NoShares, FillUp::Nothing | FillUp::MostVotes) => {
+            keys::OPTIONS_UNRAISED
+        }
         (Completion::Add1, FillUp::Nothing | FillUp::MostVotes) => keys::OPTIONS,
     }
 }
@@ -209,9 +242,10 @@ fn completion_key(rule: &Rule) -> u16
         key.COMPLETION_ADD1 key.COMPLETION_UTILITARIAN key.COMPLETION_ADD1U }
 {
     match (rule.options.completion, rule.fill_up) {
-        (Completion::Plain, FillUp::Nothing) => keys::COMPLETION_NONE,
+        (Completion::Plain | Completion::NoShares, FillUp::Nothing) => keys::COMPLETION_NONE,
         (Completion::Add1, FillUp::Nothing) => keys::COMPLETION_ADD1,
-        (Completion::Plain, FillUp::MostVotes) => keys::COMPLETION_UTILITARIAN,
+        (Completion::Plain | Completion::NoShares, FillUp::MostVotes) =>
+            keys::COMPLETION_UTILITARIAN,
         (Completion::Add1, FillUp::MostVotes) => keys::COMPLETION_ADD1U,
     }
 }

@@ -101,17 +101,22 @@ fn put_row(
     ensures { OnOk result (Grows page.old.items page.new.items (compared_row language.now rule row.now)) }
 {
     let spent = Money(row.spent as u64);
+    let projects = row.projects as u64;
+    let group = language.costs.group;
     let cells = [
         Value::Said(rule),
         Value::Said(keys::COMPARED_WON),
-        Value::Number(row.projects as u64),
+        Value::Number(projects),
+        Value::Grouped(projects, group),
         Value::Said(keys::COMPARED_COST),
         Value::Amount(spent),
         Value::Shown(spent, language.costs),
         Value::Said(keys::WITHOUT),
         Value::Small(row.without),
+        Value::Grouped(row.without as u64, group),
         Value::Said(keys::MORE),
         Value::Small(row.more_choices),
+        Value::Grouped(row.more_choices as u64, group),
     ];
     put(page, language, COMPARED_ROW, &cells)
 }

@@ -1,14 +1,16 @@
 //! The contents of a page: links to its sections.
 
-ghost use Rattle.std.specs.Prelude.{OnOk, true};
+ghost use Rattle.std.specs.Prelude.{◌≡◌, OnOk, false, if◌then◌else◌, length, nat_lt, true};
 ghost use Rattle.pb_page.specs.Inner.Grown.{Grows};
 ghost use Rattle.pb_page.specs.Page.{contents, link_to};
+ghost use Rattle.pb_rounds.specs.Count.{no_shares};
 
 use crate::facts::Facts;
 use crate::keys;
 use crate::language::Language;
 use crate::markup::Value;
 use crate::put::{put, put_own};
+use crate::rule::has_no_shares;
 use crate::templates::{CONTENTS_CLOSING, CONTENTS_LINK, CONTENTS_OPENING};
 use pb_core::no_memory::NoMemory;
 use pb_reasons::CountedElection;
@@ -22,7 +24,7 @@ pub(crate) fn put_contents(
     ensures { OnOk result (Grows page.old.items page.new.items (contents facts.now count.now)) }
 {
     let language = &facts.language;
-    let has_added = count.added().len() > 0;
+    let has_added = has_added(count);
     let has_categories = facts.categories.is_some();
     let called = [Value::Said(keys::CONTENTS)];
     put(page, language, CONTENTS_OPENING, &called)?;
@@ -48,6 +50,17 @@ pub(crate) fn put_contents(
     put_link(page, language, "rule", keys::RULE_HEADING)?;
     put_link(page, language, "check", keys::CHECK_HEADING)?;
     put_own(page, CONTENTS_CLOSING)
+}
+
+/// Whether the page has a section of added projects.
+fn has_added(count: &CountedElection) -> bool
+    ensures { result ≡ (if no_shares count.now.rule.options.completion then false
+        else nat_lt 0 (length count.now.counted.added)) }
+{
+    if has_no_shares(&count.rule()) {
+        return false;
+    }
+    count.added().len() > 0
 }
 
 /// A link to the section of this name, by its heading.

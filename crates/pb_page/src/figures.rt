@@ -3,6 +3,7 @@
 ghost use Rattle.std.specs.Prelude.{◌≡◌};
 ghost use Rattle.pb_page.specs.Inner.Counted.{figures_of};
 
+use crate::rule::has_no_shares;
 use pb_core::money::Money;
 use pb_reasons::CountedElection;
 
@@ -19,6 +20,8 @@ pub struct Figures {
     pub left: Money,
     /// What was paid beyond that.
     pub surplus: Money,
+    /// Nobody has a share.
+    pub by_votes: bool,
 }
 
 impl Figures {
@@ -37,6 +40,7 @@ impl Figures {
             spent: totals.spent,
             left: Money(budget.0.saturating_sub(totals.spent.0)),
             surplus: totals.surplus,
+            by_votes: has_no_shares(&count.rule()),
         }
     }
 }

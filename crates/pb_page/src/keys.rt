@@ -225,3 +225,15 @@ pub(crate) const KEPT: u16 = 122;
 pub(crate) const NO_MORE: u16 = 123;
 
 pub(crate) const TIE_ADDED: u16 = 124;
+
+// Sentences of a count without shares.
+
+pub(crate) const BUDGET_BY_VOTES: u16 = 125;
+
+pub(crate) const BY_MOST_VOTES: u16 = 126;
+
+pub(crate) const PASSED_OVER: u16 = 127;
+
+pub(crate) const MOST_VOTES_FIRST: u16 = 128;
+
+pub(crate) const TIE_WON: u16 = 129;

@@ -8,7 +8,7 @@ use pb_core::money::Money;
 pub(crate) enum Place<'a> {
     /// A text.
     Text(&'a str),
-    /// A number without a name.
+    /// A number without a name, in groups of three digits.
     Digits(u64),
     /// The form for a number of the noun whose forms begin at a key.
     Noun(u16, u64),

@@ -3,9 +3,9 @@
 ghost use Rattle.std.specs.Prelude.{◌≡◌, ◌<◌, [], OnOk, codes, length};
 ghost use Rattle.std.specs.Option.{option_map_or};
 ghost use Rattle.pb_page.specs.Content.{attribute, cell, isolated, said};
-ghost use Rattle.pb_page.specs.Inner.Counted.{project_of, went_as};
+ghost use Rattle.pb_page.specs.Inner.Counted.{lacking, project_of, went_as};
 ghost use Rattle.pb_page.specs.Inner.Grown.{Grows};
-ghost use Rattle.pb_page.specs.Page.{category_name, category_of, ended_row, row_at};
+ghost use Rattle.pb_page.specs.Page.{category_name, category_of, cells, ended_row, row_at};
 ghost use Rattle.pb_page.specs.declared.keys.TheConstants as key;
 
 use crate::facts::Facts;
@@ -18,7 +18,8 @@ use crate::put::{put, put_own};
 use crate::rule::short_key;
 use crate::sentences::say;
 use crate::templates::{
-    ADDED, OTHER, OTHER_CLOSING, OTHER_OPENING, ROW_CATEGORY, ROW_CLOSING, ROW_OPENING, WINNER,
+    ADDED, OTHER, OTHER_CLOSING, OTHER_OPENING, PASSED_OVER, ROW_CATEGORY, ROW_CLOSING,
+    ROW_OPENING, WINNER,
 };
 use crate::went::{paid_of, put_went};
 use pb_core::election::Election;
@@ -38,8 +39,8 @@ pub struct ProjectRow<'a> {
     pub budget: Money,
     /// The election itself.
     pub election: &'a Election,
-    /// The key of what stands above what projects were short.
-    pub short: u16,
+    /// The key of what stands above what projects were short; none where nobody has a share.
+    pub short: Option<u16>,
 }
 
 /// The row of the project at this place.
@@ -103,9 +104,11 @@ fn put_elected<'a>(
     ensures { OnOk result (Grows page.old.items page.new.items (ended_row language.now
         row.now.short row.now.budget (project_of row.now) row.now.votes (λ left. []) (Ending.Won won.now))) }
 {
+    let group = language.costs.group;
     let cells = [
         Value::Said(keys::ROUND),
         Value::Small(won.round),
+        Value::Grouped(won.round as u64, group),
         Value::Text(row.id),
         Value::Text(row.name),
         Value::Number(bar(row.cost, row.budget)),
@@ -114,11 +117,13 @@ fn put_elected<'a>(
         Value::Shown(row.cost, language.costs),
         Value::Said(keys::VOTES),
         Value::Small(row.votes),
+        Value::Grouped(row.votes as u64, group),
         Value::Said(keys::PRICE),
         Value::Amount(won.price),
         Value::Shown(won.price, language.amounts),
         Value::Said(keys::IN_FULL),
         Value::Small(won.in_full),
+        Value::Grouped(won.in_full as u64, group),
     ];
     put(page, language, WINNER, &cells)
 }
@@ -133,9 +138,11 @@ fn put_added<'a>(
     ensures { OnOk result (Grows page.old.items page.new.items (ended_row language.now
         row.now.short row.now.budget (project_of row.now) row.now.votes (λ left. []) (Ending.Added added.now))) }
 {
+    let group = language.costs.group;
     let cells = [
         Value::Said(keys::NUMBER),
         Value::Number(added.number),
+        Value::Grouped(added.number, group),
         Value::Text(row.id),
         Value::Text(row.name),
         Value::Number(bar(row.cost, row.budget)),
@@ -144,11 +151,12 @@ fn put_added<'a>(
         Value::Shown(row.cost, language.costs),
         Value::Said(keys::VOTES),
         Value::Small(row.votes),
+        Value::Grouped(row.votes as u64, group),
     ];
     put(page, language, ADDED, &cells)
 }
 
-/// Those of a project that did not win.
+/// Those of a project that did not win: with what its supporters have left, where voters have shares.
 fn put_lost<'a>(
     page: &mut Vec<u8>,
     language: &Language<'a>,
@@ -159,29 +167,71 @@ fn put_lost<'a>(
     ensures { OnOk result (Grows page.old.items page.new.items (ended_row language.now row.now.short row.now.budget
         (project_of row.now) row.now.votes (went_as language.now row.now.election.now paid.now) (Ending.Lost lost.now))) }
 {
-    let head = [
-        Value::Text(row.id),
-        Value::Text(row.name),
-        Value::Number(bar(lost.left, row.cost)),
-    ];
+    match row.short {
+        Some(short) => {
+            let head = [
+                Value::Text(row.id),
+                Value::Text(row.name),
+                Value::Number(bar(lost.left, row.cost)),
+            ];
+            put(page, language, OTHER_OPENING, &head)?;
+            put_went(page, language, row.election, paid, lost.left)?;
+            put_lacking(page, language, row, short, lost)
+        }
+        None => put_passed_over(page, language, row),
+    }
+}
+
+/// What stands behind where the money went: the cells, with this above what was missing.
+fn put_lacking<'a>(
+    page: &mut Vec<u8>,
+    language: &Language<'a>,
+    row: &ProjectRow<'a>,
+    short: u16,
+    lost: &Lost,
+) -> Result<(), NoMemory>
+    ensures { OnOk result (Grows page.old.items page.new.items
+        (lacking language.now short (project_of row.now) row.now.votes lost.now)) }
+{
     let cells = [
         Value::Said(keys::COST),
         Value::Amount(row.cost),
         Value::Shown(row.cost, language.costs),
         Value::Said(keys::VOTES),
         Value::Small(row.votes),
+        Value::Grouped(row.votes as u64, language.costs.group),
         Value::Said(keys::LEFT),
         Value::Amount(lost.left),
         Value::Shown(lost.left, language.amounts),
-        Value::Said(row.short),
+        Value::Said(short),
         Value::Amount(lost.missing),
     ];
-    put(page, language, OTHER_OPENING, &head)?;
-    put_went(page, language, row.election, paid, lost.left)?;
     put(page, language, OTHER, &cells)?;
     let missing = Place::Shown(lost.missing, language.amounts);
     say(page, language, keys::SHORT, &[missing])?;
     put_own(page, OTHER_CLOSING)
+}
+
+/// The cells of a project that did not win, where nobody has a share.
+fn put_passed_over<'a>(
+    page: &mut Vec<u8>,
+    language: &Language<'a>,
+    row: &ProjectRow<'a>,
+) -> Result<(), NoMemory>
+    ensures { OnOk result (Grows page.old.items page.new.items
+        (cells language.now (project_of row.now) row.now.votes [])) }
+{
+    let cells = [
+        Value::Text(row.id),
+        Value::Text(row.name),
+        Value::Said(keys::COST),
+        Value::Amount(row.cost),
+        Value::Shown(row.cost, language.costs),
+        Value::Said(keys::VOTES),
+        Value::Small(row.votes),
+        Value::Grouped(row.votes as u64, language.costs.group),
+    ];
+    put(page, language, PASSED_OVER, &cells)
 }
 
 /// The cell of the category of the project at this place, where there are categories.

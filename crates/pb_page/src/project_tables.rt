@@ -1,31 +1,33 @@
 //! The tables of projects: the elected, the added, and the others.
 
-ghost use Rattle.std.specs.Prelude.{◌≡◌, ◌<◌, [], All, OnOk, codes, flat_map, if◌then◌else◌, length};
+ghost use Rattle.std.specs.Prelude.{◌≡◌, ◌<◌, [], All, OnOk, codes, false, flat_map, if◌then◌else◌, length, true};
 ghost use Rattle.std.specs.List.{range_with_len};
 ghost use Rattle.std.specs.Option.{option_map_or};
 ghost use Rattle.pb_page.specs.Content.{column};
-ghost use Rattle.pb_page.specs.Inner.Counted.{lost_row};
+ghost use Rattle.pb_page.specs.Inner.Counted.{added_apart, lost_row, others_opening};
 ghost use Rattle.pb_page.specs.Inner.Grown.{Grows};
-ghost use Rattle.pb_page.specs.Page.{added, others, row_at, winners};
+ghost use Rattle.pb_page.specs.Page.{others, row_at, winners};
 ghost use Rattle.pb_page.specs.declared.keys.TheConstants as key;
+ghost use Rattle.pb_rounds.specs.Count.{no_shares};
 ghost use Rattle.pb_rounds.specs.RuleNames.{fills_up};
 
 use crate::facts::Facts;
 use crate::keys;
+use crate::language::Language;
 use crate::markup::Value;
 use crate::project_row::put_row;
 use crate::put::{put, put_own};
-use crate::rule::short_key;
+use crate::rule::{has_no_shares, short_key};
 use crate::templates::{
-    ADDED_OPENING, HEAD_CATEGORY, HEAD_CLOSING, NONE_LOST, NONE_WON, OTHERS_OPENING, TABLE_CLOSING,
-    WINNERS_OPENING,
+    ADDED_OPENING, HEAD_CATEGORY, HEAD_CLOSING, NONE_LOST, NONE_WON, OTHERS_OPENING,
+    PASSED_OVER_OPENING, TABLE_CLOSING, WINNERS_OPENING, WON_BY_VOTES_OPENING,
 };
 use pb_core::no_memory::NoMemory;
 use pb_reasons::{CountedElection, MoneyTeller};
 use pb_rounds::outcome::{Elected, Outcome};
 use pb_rounds::rule::FillUp;
 
-/// The elected, in order of election.
+/// The winners: the elected, in order of election, or where votes alone decide the added.
 pub(crate) fn put_winners(
     page: &mut Vec<u8>,
     facts: &Facts,
@@ -33,6 +35,59 @@ pub(crate) fn put_winners(
     money: &MoneyTeller,
 ) -> Result<(), NoMemory>
     requires { money.now ≡ count.now }
+    ensures { OnOk result (Grows page.old.items page.new.items (winners facts.now count.now)) }
+{
+    if has_no_shares(&count.rule()) {
+        return put_won_by_votes(page, facts, count, money);
+    }
+    put_won_by_shares(page, facts, count, money)
+}
+
+/// The winners where nobody has a share: those that are added, in their order.
+fn put_won_by_votes(
+    page: &mut Vec<u8>,
+    facts: &Facts,
+    count: &CountedElection,
+    money: &MoneyTeller,
+) -> Result<(), NoMemory>
+    requires same { money.now ≡ count.now }
+    requires alone { no_shares count.now.rule.options.completion ≡ true }
+    ensures { OnOk result (Grows page.old.items page.new.items (winners facts.now count.now)) }
+{
+    let winners = count.added();
+    if winners.is_empty() {
+        let said = [
+            Value::Said(keys::WINNERS_HEADING),
+            Value::Said(keys::NO_WINNERS),
+        ];
+        return put(page, &facts.language, NONE_WON, &said);
+    }
+    // What is true of every count is true of the places of the added.
+    let _election = count.election();
+    let heads = [
+        Value::Said(keys::WINNERS_HEADING),
+        Value::Said(keys::BY_MOST_VOTES),
+        Value::Said(keys::NUMBER),
+        Value::Said(keys::PROJECT),
+        Value::Said(keys::COST),
+        Value::Said(keys::VOTES),
+    ];
+    put(page, &facts.language, WON_BY_VOTES_OPENING, &heads)?;
+    put_head_category(page, facts)?;
+    put_own(page, HEAD_CLOSING)?;
+    put_added_rows(page, facts, count, money, winners)?;
+    put_own(page, TABLE_CLOSING)
+}
+
+/// The winners by shares, in order of election.
+fn put_won_by_shares(
+    page: &mut Vec<u8>,
+    facts: &Facts,
+    count: &CountedElection,
+    money: &MoneyTeller,
+) -> Result<(), NoMemory>
+    requires same { money.now ≡ count.now }
+    requires shared { no_shares count.now.rule.options.completion ≡ false }
     ensures { OnOk result (Grows page.old.items page.new.items (winners facts.now count.now)) }
 {
     let elected = elected_of(count.outcome());
@@ -95,8 +150,8 @@ fn put_elected_rows(
     Ok(())
 }
 
-/// The added projects, in their order; nothing where there are none.
-#[tactic(auto, using(crate::proofs::Grown::none), unfolding(crate::specs::Page::added))]
+/// The added projects, in their order; nothing where there are none, or they are the winners alone.
+#[tactic(auto, using(crate::proofs::Grown::none), unfolding(crate::specs::Page::added, crate::specs::Inner::Counted::added_apart))]
 pub(crate) fn put_added(
     page: &mut Vec<u8>,
     facts: &Facts,
@@ -104,8 +159,11 @@ pub(crate) fn put_added(
     money: &MoneyTeller,
 ) -> Result<(), NoMemory>
     requires { money.now ≡ count.now }
-    ensures { OnOk result (Grows page.old.items page.new.items (added facts.now count.now)) }
+    ensures { OnOk result (Grows page.old.items page.new.items (added_apart facts.now count.now)) }
 {
+    if has_no_shares(&count.rule()) {
+        return Ok(());
+    }
     let places = count.added();
     if places.is_empty() {
         return Ok(());
@@ -165,20 +223,45 @@ pub(crate) fn put_others(
         ];
         return put(page, &facts.language, NONE_LOST, &said);
     }
-    let heads = [
-        Value::Said(keys::OTHERS_HEADING),
-        Value::Said(keys::OTHERS_CAPTION),
-        Value::Said(keys::PROJECT),
-        Value::Said(keys::COST),
-        Value::Said(keys::VOTES),
-        Value::Said(keys::LEFT),
-        Value::Said(short_key(&count.rule())),
-    ];
-    put(page, &facts.language, OTHERS_OPENING, &heads)?;
+    put_others_opening(page, &facts.language, short_key(&count.rule()))?;
     put_head_category(page, facts)?;
     put_own(page, HEAD_CLOSING)?;
     put_lost_rows(page, facts, count, money)?;
     put_own(page, TABLE_CLOSING)
+}
+
+/// The head of their table, where this stands above what they were short.
+fn put_others_opening(
+    page: &mut Vec<u8>,
+    language: &Language,
+    short: Option<u16>,
+) -> Result<(), NoMemory>
+    ensures { OnOk result (Grows page.old.items page.new.items (others_opening language.now short)) }
+{
+    match short {
+        Some(short) => {
+            let heads = [
+                Value::Said(keys::OTHERS_HEADING),
+                Value::Said(keys::OTHERS_CAPTION),
+                Value::Said(keys::PROJECT),
+                Value::Said(keys::COST),
+                Value::Said(keys::VOTES),
+                Value::Said(keys::LEFT),
+                Value::Said(short),
+            ];
+            put(page, language, OTHERS_OPENING, &heads)
+        }
+        None => {
+            let heads = [
+                Value::Said(keys::OTHERS_HEADING),
+                Value::Said(keys::PASSED_OVER),
+                Value::Said(keys::PROJECT),
+                Value::Said(keys::COST),
+                Value::Said(keys::VOTES),
+            ];
+            put(page, language, PASSED_OVER_OPENING, &heads)
+        }
+    }
 }
 
 /// A row for each project that did not win.

@@ -1,11 +1,13 @@
 //! How it was counted, sentence by sentence.
 
-ghost use Rattle.std.specs.Prelude.{◌≡◌, ◌==◌, OnOk, if◌then◌else◌};
+ghost use Rattle.std.specs.Prelude.{◌≡◌, ◌==◌, OnOk, false, if◌then◌else◌, true};
 ghost use Rattle.pb_page.specs.Content.{item, said};
-ghost use Rattle.pb_page.specs.Inner.Counted.{KnowsPlaces, filled_up, share_said};
+ghost use Rattle.pb_page.specs.Inner.Counted.{KnowsPlaces, filled_up, rounds_said, rounds_told, share_said};
 ghost use Rattle.pb_page.specs.Inner.Grown.{Grows};
 ghost use Rattle.pb_page.specs.Page.{by_raises, rule, short_key};
 ghost use Rattle.pb_page.specs.declared.keys.TheConstants as key;
+ghost use Rattle.pb_reasons.specs.declared.raise_end.RaiseEnd.{RaiseEnd};
+ghost use Rattle.pb_rounds.specs.Count.{no_shares};
 ghost use Rattle.pb_rounds.specs.RuleNames.{by_completion, by_measure};
 
 use crate::keys;
@@ -36,10 +38,41 @@ pub(crate) fn put_rule(
     requires { KnowsPlaces count.now.election end.now }
     ensures { OnOk result (Grows page.old.items page.new.items (rule language.now count.now end.now)) }
 {
+    if has_no_shares(&count.rule()) {
+        return put_by_votes(page, language, count);
+    }
+    put_by_shares(page, language, count, end)
+}
+
+/// The same where nobody has a share.
+fn put_by_votes(
+    page: &mut Vec<u8>,
+    language: &Language,
+    count: &CountedElection,
+) -> Result<(), NoMemory>
+    requires { no_shares count.now.rule.options.completion ≡ true }
+    ensures { (end : RaiseEnd) → OnOk result (Grows page.old.items page.new.items (rule language.now count.now end)) }
+{
+    let heading = [Value::Said(keys::RULE_HEADING)];
+    put(page, language, RULE_OPENING, &heading)?;
+    put_own(page, LIST_OPENING)?;
+    put_item(page, language, keys::MOST_VOTES_FIRST)?;
+    put_ties(page, language, count)?;
+    put_own(page, RULE_CLOSING)
+}
+
+/// The same where voters have shares.
+fn put_by_shares(
+    page: &mut Vec<u8>,
+    language: &Language,
+    count: &CountedElection,
+    end: &RaiseEnd,
+) -> Result<(), NoMemory>
+    requires places { KnowsPlaces count.now.election end.now }
+    requires shared { no_shares count.now.rule.options.completion ≡ false }
+    ensures { OnOk result (Grows page.old.items page.new.items (rule language.now count.now end.now)) }
+{
     let rule = count.rule();
-    let options = rule.options;
-    let share = share_of(count.outcome());
-    let raised = raised_by(count.outcome());
     put(
         page,
         language,
@@ -48,15 +81,60 @@ pub(crate) fn put_rule(
     )?;
     put_works(page, language, count)?;
     put_own(page, LIST_OPENING)?;
-    put_share(page, language, &rule, share, raised)?;
-    put_item(page, language, keys::SUPPORTERS)?;
-    put_item(page, language, order_key(options.measure))?;
-    put_item(page, language, raises_key(&rule, raised))?;
-    put_end(page, language, count, end)?;
+    put_voted(page, language, count, end)?;
     put_item(page, language, method_key(&rule))?;
     put_filled_up(page, language, &rule)?;
     put_ties(page, language, count)?;
     put_own(page, RULE_CLOSING)
+}
+
+/// How the projects were elected; nothing where nobody voted.
+fn put_voted(
+    page: &mut Vec<u8>,
+    language: &Language,
+    count: &CountedElection,
+    end: &RaiseEnd,
+) -> Result<(), NoMemory>
+    requires { KnowsPlaces count.now.election end.now }
+    ensures { OnOk result (Grows page.old.items page.new.items
+        (rounds_told language.now count.now end.now)) }
+{
+    if count.election().voters().is_empty() {
+        return Ok(());
+    }
+    put_rounds(page, language, count, end)
+}
+
+/// The same where somebody voted: the share, the rounds, the raises, and why these ended.
+fn put_rounds(
+    page: &mut Vec<u8>,
+    language: &Language,
+    count: &CountedElection,
+    end: &RaiseEnd,
+) -> Result<(), NoMemory>
+    requires { KnowsPlaces count.now.election end.now }
+    ensures { OnOk result (Grows page.old.items page.new.items
+        (rounds_said language.now count.now end.now)) }
+{
+    let rule = count.rule();
+    let options = rule.options;
+    let share = share_of(count.outcome());
+    let raised = raised_by(count.outcome());
+    put_share(page, language, &rule, share, raised)?;
+    put_item(page, language, keys::SUPPORTERS)?;
+    put_item(page, language, order_key(options.measure))?;
+    put_item(page, language, raises_key(&rule, raised))?;
+    put_end(page, language, count, end)
+}
+
+/// Whether nobody has a share by this rule.
+pub(crate) fn has_no_shares(rule: &Rule) -> bool
+    ensures { result ≡ no_shares rule.now.options.completion }
+{
+    match rule.options.completion {
+        Completion::NoShares => true,
+        Completion::Plain | Completion::Add1 => false,
+    }
 }
 
 /// Everyone's share in this outcome.
@@ -99,7 +177,9 @@ fn share_key(rule: &Rule) -> u16
     ensures { result ≡ by_raises rule.now key.SHARE_UNRAISED key.SHARE }
 {
     match (rule.options.completion, rule.fill_up) {
-        (Completion::Plain, FillUp::Nothing | FillUp::MostVotes) => keys::SHARE_UNRAISED,
+        (Completion::Plain | Completion::NoShares, FillUp::Nothing | FillUp::MostVotes) => {
+            keys::SHARE_UNRAISED
+        }
         (Completion::Add1, FillUp::Nothing | FillUp::MostVotes) => keys::SHARE,
     }
 }
@@ -128,8 +208,8 @@ fn raises_key(rule: &Rule, raised: u32) -> u16
         (if raised == 0 then key.UNRAISED else key.RAISED) }
 {
     match (rule.options.completion, rule.fill_up) {
-        (Completion::Plain, FillUp::Nothing) => keys::PLAIN,
-        (Completion::Plain, FillUp::MostVotes) => keys::FILLED_UP,
+        (Completion::Plain | Completion::NoShares, FillUp::Nothing) => keys::PLAIN,
+        (Completion::Plain | Completion::NoShares, FillUp::MostVotes) => keys::FILLED_UP,
         (Completion::Add1, FillUp::Nothing | FillUp::MostVotes) => {
             if raised == 0 {
                 keys::UNRAISED
@@ -140,13 +220,14 @@ fn raises_key(rule: &Rule, raised: u32) -> u16
     }
 }
 
-/// The key of what stands above what projects were short.
-pub(crate) fn short_key(rule: &Rule) -> u16
+/// The key of what stands above what projects were short; none where nobody has a share.
+pub(crate) fn short_key(rule: &Rule) -> Option<u16>
     ensures { result ≡ short_key rule.now }
 {
     match (rule.options.completion, rule.fill_up) {
-        (Completion::Plain, FillUp::Nothing | FillUp::MostVotes) => keys::MISSING,
-        (Completion::Add1, FillUp::Nothing | FillUp::MostVotes) => keys::LEFT_SHORT,
+        (Completion::NoShares, FillUp::Nothing | FillUp::MostVotes) => None,
+        (Completion::Plain, FillUp::Nothing | FillUp::MostVotes) => Some(keys::MISSING),
+        (Completion::Add1, FillUp::Nothing | FillUp::MostVotes) => Some(keys::LEFT_SHORT),
     }
 }
 
@@ -156,8 +237,8 @@ fn method_key(rule: &Rule) -> u16
         key.METHOD_ADD1 key.METHOD_FILLED key.METHOD_ADD1 }
 {
     match (rule.options.completion, rule.fill_up) {
-        (Completion::Plain, FillUp::Nothing) => keys::METHOD_PLAIN,
-        (Completion::Plain, FillUp::MostVotes) => keys::METHOD_FILLED,
+        (Completion::Plain | Completion::NoShares, FillUp::Nothing) => keys::METHOD_PLAIN,
+        (Completion::Plain | Completion::NoShares, FillUp::MostVotes) => keys::METHOD_FILLED,
         (Completion::Add1, FillUp::Nothing | FillUp::MostVotes) => keys::METHOD_ADD1,
     }
 }

@@ -10,9 +10,7 @@ use crate::language::Language;
 use crate::markup::{Value, write_byte};
 use crate::place::Place;
 use crate::put::{put, put_own};
-use crate::templates::{
-    AMOUNT, CODE, FILES_LINK, NAMELESS, NUMBER, PROJECT_LINK, RECOUNT_LINK, TEXT,
-};
+use crate::templates::{CODE, FIGURE, FILES_LINK, NAMELESS, PROJECT_LINK, RECOUNT_LINK, TEXT};
 use pb_core::no_memory::NoMemory;
 
 /// The bytes below this one are places of a sentence: byte 0 the first, byte 1 the second, and so on.
@@ -93,12 +91,19 @@ fn put_place(page: &mut Vec<u8>, language: &Language, place: &Place) -> Result<(
 {
     match *place {
         Place::Text(text) => put(page, language, TEXT, &[Value::Text(text)]),
-        Place::Digits(number) => put(page, language, TEXT, &[Value::Number(number)]),
+        Place::Digits(number) => {
+            let shown = [Value::Grouped(number, language.costs.group)];
+            put(page, language, TEXT, &shown)
+        }
         Place::Noun(key, number) => put(page, language, TEXT, &[Value::Noun(key, number)]),
         Place::Shown(amount, form) => put(page, language, TEXT, &[Value::Shown(amount, form)]),
         Place::Number(name, number) => {
-            let values = [Value::Text(name), Value::Number(number)];
-            put(page, language, NUMBER, &values)
+            let values = [
+                Value::Text(name),
+                Value::Number(number),
+                Value::Grouped(number, language.costs.group),
+            ];
+            put(page, language, FIGURE, &values)
         }
         Place::Amount(name, amount, form) => {
             let values = [
@@ -106,7 +111,7 @@ fn put_place(page: &mut Vec<u8>, language: &Language, place: &Place) -> Result<(
                 Value::Amount(amount),
                 Value::Shown(amount, form),
             ];
-            put(page, language, AMOUNT, &values)
+            put(page, language, FIGURE, &values)
         }
         Place::Nameless(amount, form) => {
             let values = [Value::Amount(amount), Value::Shown(amount, form)];

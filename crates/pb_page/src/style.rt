@@ -90,12 +90,17 @@ pre { margin: .5rem 0; padding: .75rem; background: var(--track); border-radius:
   .wide thead:has(.category) .n:not(.round) { width: 6rem; }
 }
 @media (max-width: 43.99rem) {
+  body { padding: 1rem .9rem 1.5rem; line-height: 1.4; }
+  h2 { margin: 1.75rem 0 .35rem; }
+  .lead { font-size: 1.05rem; }
+  ol, section > ul { margin: .5rem 0; padding-inline-start: 1.4rem; }
+  th, td { padding: .25rem .4rem; }
   .wide, .wide caption, .wide tbody { display: block; }
   .wide thead { position: absolute; width: 1px; height: 1px; overflow: hidden; clip-path: inset(50%); }
-  .wide tr { display: flex; flex-wrap: wrap; column-gap: 1.25rem; padding: .4rem 0; border-bottom: 1px solid var(--line); }
-  .wide th, .wide td { display: block; min-width: 0; max-width: 100%; padding: 0; border: 0; line-height: 1.4; }
-  .wide tbody th { flex: 1 0 100%; order: -1; padding-bottom: .2rem; }
-  .wide td { flex: 1 0 100%; display: flex; justify-content: space-between; gap: 1rem; }
+  .wide tr { display: flex; flex-wrap: wrap; column-gap: 1.25rem; padding: .3rem 0; border-bottom: 1px solid var(--line); }
+  .wide th, .wide td { display: block; min-width: 0; max-width: 100%; padding: 0; border: 0; line-height: 1.3; }
+  .wide tbody th { flex: 1 0 100%; order: -1; padding-bottom: .15rem; }
+  .wide td { flex: 1 0 100%; display: flex; justify-content: space-between; align-items: baseline; gap: 1rem; }
   .wide td:has(.round, .added, .cost, .votes) { flex: 0 1 auto; gap: .4rem; }
   .wide td::before { content: attr(data-label); content: attr(data-label) / ''; color: var(--soft); font-size: .9rem; text-align: start; white-space: normal; overflow-wrap: anywhere; hyphens: auto; }
   .wide td data:not(.round, .added, .cost, .votes), .wide td bdi { flex: none; max-width: 70%; }

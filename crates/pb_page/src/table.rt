@@ -435,4 +435,28 @@ const LATER: &[SentenceEntry] = &[
         nouns: &[],
         english: "{winner} was added by votes. {other} had as many votes and the same cost, but comes later in the file, and did not win.",
     },
+    SentenceEntry {
+        key: "budget.by_votes",
+        numbers: &["spent", "left"],
+        nouns: &[],
+        english: "Each block is a winning project, as wide as its cost, in the order of the table below. Spent: {spent}. Left: {left}.",
+    },
+    plain!(
+        "winners.by_votes",
+        "In the order of their votes: of equal votes the cheaper project, of equal costs the first in the file. The bar is the project's part of the budget."
+    ),
+    plain!(
+        "others.by_votes",
+        "In the order of the file. Nobody voted for them, or they cost more than what was left of the budget when it was their turn."
+    ),
+    plain!(
+        "rule.most_votes",
+        "The budget was spent by votes: as long as it paid for a project that anyone voted for, the one with the most votes won, of equal votes the cheaper, of equal costs the first in the file. Nobody had a share of the budget."
+    ),
+    SentenceEntry {
+        key: "rule.tie_won",
+        numbers: &["winner", "other"],
+        nouns: &[],
+        english: "{winner} won. {other} had as many votes and the same cost, but comes later in the file, and did not win.",
+    },
 ];

@@ -1,6 +1,6 @@
-//! The pieces of a page. Values stand in the places of `~`; a `^` is the value of the next `~` as well. Each
-//! number that the report or a table has stands in a `<data>` with its text as `value`, and its name there as
-//! `class`. What is said between them is in the table of sentences.
+//! The pieces of a page. Values stand in the places of `~`. Each number that the report or a table has stands in a
+//! `<data>` with its text as `value`, and its name there as `class`, and is shown as people write it. What is said
+//! between them is in the table of sentences.
 
 /// The start of a page, up to its head. Values: the language, and its direction.
 pub(crate) const HEAD_OPENING: &str = "<!DOCTYPE html>
@@ -51,11 +51,8 @@ pub(crate) const MAIN: &str = "</header>
 /// A text alone. Value: the text.
 pub(crate) const TEXT: &str = "~";
 
-/// A number. Values: its name, and the number.
-pub(crate) const NUMBER: &str = "<data class='~' value='^'>~</data>";
-
-/// An amount. Values: its name, the amount for programs, and as it is shown.
-pub(crate) const AMOUNT: &str = "<data class='~' value='~'>~</data>";
+/// A number or an amount. Values: its name, the number for programs, and as it is shown.
+pub(crate) const FIGURE: &str = "<data class='~' value='~'>~</data>";
 
 /// An amount without a name. Values: the amount for programs, and as it is shown.
 pub(crate) const NAMELESS: &str = "<data value='~'>~</data>";
@@ -118,9 +115,16 @@ pub(crate) const WINNERS_OPENING: &str = "<section class='won' aria-labelledby='
 <thead role='rowgroup'><tr role='row'><th role='columnheader' scope='col' class='n round'>~</th><th role='columnheader' scope='col'>~</th><th role='columnheader' scope='col' class='n'>~</th><th role='columnheader' scope='col' class='n'>~</th><th role='columnheader' scope='col' class='n'>~</th><th role='columnheader' scope='col' class='n'>~</th>";
 
 /// The cells of a winner. Values: round with its label, id, name, width of its bar, cost, votes, price, how
-/// many paid it in full, each of these with its label before it, and an amount also as it is shown.
+/// many paid it in full, each of these with its label before it; each number also as it is shown.
 pub(crate) const WINNER: &str =
-    "<td role='cell' class='n' data-label='~'><data class='round' value='^'>~</data></td><th role='rowheader' scope='row'><span class='id' dir='auto'>~</span> <bdi dir='auto'>~</bdi><svg class='bar' viewBox='0 0 10000 1' preserveAspectRatio='none' aria-hidden='true'><rect width='~' height='1'/></svg></th><td role='cell' class='n' data-label='~'><data class='cost' value='~'>~</data></td><td role='cell' class='n' data-label='~'><data class='votes' value='^'>~</data></td><td role='cell' class='n' data-label='~'><data class='price' value='~'>~</data></td><td role='cell' class='n' data-label='~'><data class='in_full' value='^'>~</data></td>";
+    "<td role='cell' class='n' data-label='~'><data class='round' value='~'>~</data></td><th role='rowheader' scope='row'><span class='id' dir='auto'>~</span> <bdi dir='auto'>~</bdi><svg class='bar' viewBox='0 0 10000 1' preserveAspectRatio='none' aria-hidden='true'><rect width='~' height='1'/></svg></th><td role='cell' class='n' data-label='~'><data class='cost' value='~'>~</data></td><td role='cell' class='n' data-label='~'><data class='votes' value='~'>~</data></td><td role='cell' class='n' data-label='~'><data class='price' value='~'>~</data></td><td role='cell' class='n' data-label='~'><data class='in_full' value='~'>~</data></td>";
+
+/// The same where votes alone decide: instead of the round the number, and what was paid is left out.
+pub(crate) const WON_BY_VOTES_OPENING: &str = "<section class='won' aria-labelledby='winners'>
+<h2 id='winners'>~</h2>
+<table class='wide' role='table'>
+<caption role='caption'>~</caption>
+<thead role='rowgroup'><tr role='row'><th role='columnheader' scope='col' class='n round'>~</th><th role='columnheader' scope='col'>~</th><th role='columnheader' scope='col' class='n'>~</th><th role='columnheader' scope='col' class='n'>~</th>";
 
 /// The winners where there are none. Values: the heading, and that.
 pub(crate) const NONE_WON: &str = "<section aria-labelledby='winners'>
@@ -138,9 +142,9 @@ pub(crate) const ADDED_OPENING: &str = "<section class='won' aria-labelledby='ad
 <thead role='rowgroup'><tr role='row'><th role='columnheader' scope='col' class='n round'>~</th><th role='columnheader' scope='col'>~</th><th role='columnheader' scope='col' class='n'>~</th><th role='columnheader' scope='col' class='n'>~</th>";
 
 /// The cells of an added project. Values: number with its label, id, name, width of its bar, cost and votes
-/// with their labels.
+/// with their labels; each number also as it is shown.
 pub(crate) const ADDED: &str =
-    "<td role='cell' class='n' data-label='~'><data class='added' value='^'>~</data></td><th role='rowheader' scope='row'><span class='id' dir='auto'>~</span> <bdi dir='auto'>~</bdi><svg class='bar' viewBox='0 0 10000 1' preserveAspectRatio='none' aria-hidden='true'><rect width='~' height='1'/></svg></th><td role='cell' class='n' data-label='~'><data class='cost' value='~'>~</data></td><td role='cell' class='n' data-label='~'><data class='votes' value='^'>~</data></td>";
+    "<td role='cell' class='n' data-label='~'><data class='added' value='~'>~</data></td><th role='rowheader' scope='row'><span class='id' dir='auto'>~</span> <bdi dir='auto'>~</bdi><svg class='bar' viewBox='0 0 10000 1' preserveAspectRatio='none' aria-hidden='true'><rect width='~' height='1'/></svg></th><td role='cell' class='n' data-label='~'><data class='cost' value='~'>~</data></td><td role='cell' class='n' data-label='~'><data class='votes' value='~'>~</data></td>";
 
 /// The head of the table of the others, up to its last column. Values: its heading and caption, and the heads
 /// of its columns.
@@ -149,6 +153,18 @@ pub(crate) const OTHERS_OPENING: &str = "<section class='lost' aria-labelledby='
 <table class='wide' role='table'>
 <caption role='caption'>~</caption>
 <thead role='rowgroup'><tr role='row'><th role='columnheader' scope='col'>~</th><th role='columnheader' scope='col' class='n'>~</th><th role='columnheader' scope='col' class='n'>~</th><th role='columnheader' scope='col' class='n'>~</th><th role='columnheader' scope='col' class='n'>~</th>";
+
+/// The same where votes alone decide: what supporters have left, and what is missing, are left out.
+pub(crate) const PASSED_OVER_OPENING: &str = "<section class='lost' aria-labelledby='others'>
+<h2 id='others'>~</h2>
+<table class='wide' role='table'>
+<caption role='caption'>~</caption>
+<thead role='rowgroup'><tr role='row'><th role='columnheader' scope='col'>~</th><th role='columnheader' scope='col' class='n'>~</th><th role='columnheader' scope='col' class='n'>~</th>";
+
+/// A project that did not win, where votes alone decide. Values: id, name, and cost and votes with their labels, each
+/// of both also as it is shown.
+pub(crate) const PASSED_OVER: &str =
+    "<th role='rowheader' scope='row'><span class='id' dir='auto'>~</span> <bdi dir='auto'>~</bdi></th><td role='cell' class='n' data-label='~'><data class='cost' value='~'>~</data></td><td role='cell' class='n' data-label='~'><data class='votes' value='~'>~</data></td>";
 
 /// The head of a project that did not win, up to where the money of its supporters went. Values: id, name, and
 /// width of its bar.
@@ -167,9 +183,9 @@ pub(crate) const PROJECT_LINK: &str =
     "<a href='#p-~'><span class='id' dir='auto'>~</span> <bdi dir='auto'>~</bdi></a>";
 
 /// The cells behind that head, up to what is said of what is missing. Values: cost, votes and what its supporters
-/// have left, with their labels; the label of what is missing, and that for programs.
+/// have left, with their labels, each also as it is shown; the label of what is missing, and that for programs.
 pub(crate) const OTHER: &str =
-    "</th><td role='cell' class='n' data-label='~'><data class='cost' value='~'>~</data></td><td role='cell' class='n' data-label='~'><data class='votes' value='^'>~</data></td><td role='cell' class='n' data-label='~'><data class='left' value='~'>~</data></td><td role='cell' class='n' data-label='~'><data class='missing' value='~'>";
+    "</th><td role='cell' class='n' data-label='~'><data class='cost' value='~'>~</data></td><td role='cell' class='n' data-label='~'><data class='votes' value='~'>~</data></td><td role='cell' class='n' data-label='~'><data class='left' value='~'>~</data></td><td role='cell' class='n' data-label='~'><data class='missing' value='~'>";
 
 /// What stands behind that.
 pub(crate) const OTHER_CLOSING: &str = "</data></td>";
@@ -198,9 +214,9 @@ pub(crate) const CATEGORIES_OPENING: &str =
 ";
 
 /// A category. Values: what it is called, width of its bar, how many winners are of it and what these cost,
-/// each of these two with its label before it, and the amount also as it is shown.
+/// each of these two with its label before it, and as it is shown behind it.
 pub(crate) const CATEGORY: &str =
-    "<tr role='row'><th role='rowheader' scope='row'><bdi dir='auto'>~</bdi><svg class='bar' viewBox='0 0 10000 1' preserveAspectRatio='none' aria-hidden='true'><rect width='~' height='1'/></svg></th><td role='cell' class='n' data-label='~'><data class='category_won' value='^'>~</data></td><td role='cell' class='n' data-label='~'><data class='category_cost' value='~'>~</data></td></tr>
+    "<tr role='row'><th role='rowheader' scope='row'><bdi dir='auto'>~</bdi><svg class='bar' viewBox='0 0 10000 1' preserveAspectRatio='none' aria-hidden='true'><rect width='~' height='1'/></svg></th><td role='cell' class='n' data-label='~'><data class='category_won' value='~'>~</data></td><td role='cell' class='n' data-label='~'><data class='category_cost' value='~'>~</data></td></tr>
 ";
 
 /// The head of what the voters got. Value: the heading.
@@ -219,9 +235,9 @@ pub(crate) const VOTERS_TABLE: &str = "<table role='table'>
 pub(crate) const VOTERS_ROW: &str =
     "<tr role='row'><th role='rowheader' scope='row'><data value='~'>";
 
-/// The rest of the row. Values: width of its bar, voters.
+/// The rest of the row. Values: width of its bar; voters, for programs and as they are shown.
 pub(crate) const VOTERS_ROW_CLOSING: &str =
-    "</data><svg class='bar' viewBox='0 0 10000 1' preserveAspectRatio='none' aria-hidden='true'><rect width='~' height='1'/></svg></th><td role='cell' class='n'><data value='^'>~</data></td></tr>
+    "</data><svg class='bar' viewBox='0 0 10000 1' preserveAspectRatio='none' aria-hidden='true'><rect width='~' height='1'/></svg></th><td role='cell' class='n'><data value='~'>~</data></td></tr>
 ";
 
 /// The head of the comparison of both rules. Values: its heading and caption, and the heads of its columns.
@@ -233,10 +249,10 @@ pub(crate) const COMPARED_OPENING: &str = "<section class='many' aria-labelledby
 <tbody role='rowgroup'>
 ";
 
-/// A rule. Values: what it is called; how many projects win, what they cost, for programs and as it is shown, how many
-/// voters have no winner, and how many have more winners than by the other rule, each behind its label.
+/// A rule. Values: what it is called; how many projects win, what they cost, how many voters have no winner, and how
+/// many have more winners than by the other rule, each behind its label, for programs and as it is shown.
 pub(crate) const COMPARED_ROW: &str =
-    "<tr role='row'><th role='rowheader' scope='row'>~</th><td role='cell' class='n' data-label='~'><data class='rule_projects' value='^'>~</data></td><td role='cell' class='n' data-label='~'><data class='rule_cost' value='~'>~</data></td><td role='cell' class='n' data-label='~'><data class='without' value='^'>~</data></td><td role='cell' class='n' data-label='~'><data class='more_choices' value='^'>~</data></td></tr>
+    "<tr role='row'><th role='rowheader' scope='row'>~</th><td role='cell' class='n' data-label='~'><data class='rule_projects' value='~'>~</data></td><td role='cell' class='n' data-label='~'><data class='rule_cost' value='~'>~</data></td><td role='cell' class='n' data-label='~'><data class='without' value='~'>~</data></td><td role='cell' class='n' data-label='~'><data class='more_choices' value='~'>~</data></td></tr>
 ";
 
 /// The end of a table within a section, and the end of a section.
@@ -351,6 +367,9 @@ pub(crate) const AUDIT: &str = "pb_app audit FILE JOURNAL --digests --require-sh
 /// Its options. Values: the option for the measure and that for the completion, each with a space before it, or
 /// nothing; the step in hundredths; the limit of raises.
 pub(crate) const OPTIONS: &str = "~~ --step ~ --raises ~";
+
+/// The option of most votes first, which has no others.
+pub(crate) const BY_VOTES: &str = " --rule most-votes";
 
 /// The end of how to check a result.
 pub(crate) const CHECK_CLOSING: &str = "</section>

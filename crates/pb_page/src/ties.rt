@@ -1,10 +1,11 @@
 //! The ties that the order of the file decided.
 
-ghost use Rattle.std.specs.Prelude.{◌≡◌, OnOk, flat_map};
+ghost use Rattle.std.specs.Prelude.{◌≡◌, OnOk, flat_map, if◌then◌else◌};
 ghost use Rattle.pb_page.specs.Inner.Grown.{Grows};
 ghost use Rattle.pb_page.specs.Page.{project_at, tie, ties};
 ghost use Rattle.pb_page.specs.declared.keys.TheConstants as key;
 ghost use Rattle.pb_reasons.specs.Ties.{ties_of};
+ghost use Rattle.pb_rounds.specs.Count.{no_shares};
 ghost use Rattle.pb_rounds.specs.RuleNames.{by_measure};
 
 use crate::keys;
@@ -12,12 +13,14 @@ use crate::language::Language;
 use crate::markup::Value;
 use crate::place::Place;
 use crate::put::{put, put_own};
+use crate::rule::has_no_shares;
 use crate::sentences::say_item;
 use crate::templates::{LIST_CLOSING, TIES_OPENING};
 use pb_core::election::Election;
 use pb_core::no_memory::NoMemory;
 use pb_reasons::{CountedElection, Tie, ties_of};
 use pb_rounds::measure::Measure;
+use pb_rounds::rule::Rule;
 
 /// The ties of a count; nothing where there are none.
 pub(crate) fn put_ties(
@@ -87,7 +90,7 @@ fn put_tie(
             let places = [Place::Number("round", round as u64), winner, other];
             say_item(page, language, key, &places)
         }
-        None => say_item(page, language, keys::TIE_ADDED, &[winner, other]),
+        None => say_item(page, language, added_key(&count.rule()), &[winner, other]),
     }
 }
 
@@ -98,6 +101,17 @@ fn key_of(measure: Measure) -> u16
     match measure {
         Measure::Votes => keys::TIE_BY_VOTES,
         Measure::Cost => keys::TIE_BY_COST,
+    }
+}
+
+/// The key of the sentence on a tie by votes: where nobody has a share, nothing is added to what is elected.
+fn added_key(rule: &Rule) -> u16
+    ensures { result ≡ (if no_shares rule.now.options.completion then key.TIE_WON else key.TIE_ADDED) }
+{
+    if has_no_shares(rule) {
+        keys::TIE_WON
+    } else {
+        keys::TIE_ADDED
     }
 }
 

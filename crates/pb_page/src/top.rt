@@ -135,10 +135,13 @@ fn say_spent(page: &mut Vec<u8>, language: &Language, figures: &Figures) -> Resu
 
 /// The key of what is said below the picture.
 fn caption_key(figures: &Figures) -> u16
-    ensures { result ≡ (if figures.now.won == 0 then key.BUDGET_NONE else key.BUDGET_CAPTION) }
+    ensures { result ≡ (if figures.now.won == 0 then key.BUDGET_NONE
+        else if figures.now.by_votes then key.BUDGET_BY_VOTES else key.BUDGET_CAPTION) }
 {
     if figures.won == 0 {
         keys::BUDGET_NONE
+    } else if figures.by_votes {
+        keys::BUDGET_BY_VOTES
     } else {
         keys::BUDGET_CAPTION
     }

@@ -2,7 +2,7 @@
 
 ghost use Rattle.std.specs.Prelude.{◌<◌, ◌^◌, OnOk, flat_map, length};
 ghost use Rattle.std.specs.List.{range_with_len};
-ghost use Rattle.pb_page.specs.Inner.Counted.{exact_row, got_said};
+ghost use Rattle.pb_page.specs.Inner.Counted.{ballots_end, exact_row, got_said};
 ghost use Rattle.pb_page.specs.Inner.Grown.{Grows};
 ghost use Rattle.pb_page.specs.Page.{ballots_row, choices_won, voters};
 
@@ -120,9 +120,22 @@ fn put_row(
         row.said,
         &[Place::Digits(u64::from(row.number))],
     )?;
-    let ballots = [
-        Value::Width(row.ballots, won.len() as u64),
-        Value::Number(row.ballots),
+    put_ballots(page, language, row.ballots, won.len() as u64)
+}
+
+/// The end of a row: on how many ballots of so many.
+fn put_ballots(
+    page: &mut Vec<u8>,
+    language: &Language,
+    ballots: u64,
+    voters: u64,
+) -> Result<(), NoMemory>
+    ensures { OnOk result (Grows page.old.items page.new.items (ballots_end language.now ballots voters)) }
+{
+    let values = [
+        Value::Width(ballots, voters),
+        Value::Number(ballots),
+        Value::Grouped(ballots, language.costs.group),
     ];
-    put(page, language, VOTERS_ROW_CLOSING, &ballots)
+    put(page, language, VOTERS_ROW_CLOSING, &values)
 }

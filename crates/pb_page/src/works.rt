@@ -23,7 +23,8 @@ use pb_reasons::CountedElection;
 use pb_rounds::options::Completion;
 use pb_rounds::rule::{FillUp, Rule};
 
-/// What shares are, as this election has them: a paragraph, and a picture with what it shows.
+/// What shares are, as this election has them: a paragraph, and a picture with what it shows. Nothing where nobody
+/// voted.
 pub(crate) fn put_works(
     page: &mut Vec<u8>,
     language: &Language,
@@ -33,6 +34,9 @@ pub(crate) fn put_works(
 {
     let rule = count.rule();
     let election = count.election();
+    if election.voters().is_empty() {
+        return Ok(());
+    }
     say_works(page, language, works_key(&rule), election)?;
     put_own(page, FIGURE_OPENING)?;
     put_own(page, picture_of(&rule))?;
@@ -79,7 +83,8 @@ fn works_key(rule: &Rule) -> u16
     ensures { result ≡ by_raises rule.now key.WORKS_UNRAISED key.WORKS }
 {
     match (rule.options.completion, rule.fill_up) {
-        (Completion::Plain, FillUp::Nothing | FillUp::MostVotes) => keys::WORKS_UNRAISED,
+        (Completion::Plain | Completion::NoShares, FillUp::Nothing | FillUp::MostVotes) =>
+            keys::WORKS_UNRAISED,
         (Completion::Add1, FillUp::Nothing | FillUp::MostVotes) => keys::WORKS,
     }
 }
@@ -89,7 +94,8 @@ fn picture_of(rule: &Rule) -> &'static str
     ensures { result.now ≡ by_raises rule.now OPENING_SHARES.now GROWN_SHARES.now }
 {
     match (rule.options.completion, rule.fill_up) {
-        (Completion::Plain, FillUp::Nothing | FillUp::MostVotes) => OPENING_SHARES,
+        (Completion::Plain | Completion::NoShares, FillUp::Nothing | FillUp::MostVotes) =>
+            OPENING_SHARES,
         (Completion::Add1, FillUp::Nothing | FillUp::MostVotes) => GROWN_SHARES,
     }
 }
@@ -99,7 +105,8 @@ fn picture_key(rule: &Rule) -> u16
     ensures { result ≡ by_raises rule.now key.WORKS_PICTURE_UNRAISED key.WORKS_PICTURE }
 {
     match (rule.options.completion, rule.fill_up) {
-        (Completion::Plain, FillUp::Nothing | FillUp::MostVotes) => keys::WORKS_PICTURE_UNRAISED,
+        (Completion::Plain | Completion::NoShares, FillUp::Nothing | FillUp::MostVotes) =>
+            keys::WORKS_PICTURE_UNRAISED,
         (Completion::Add1, FillUp::Nothing | FillUp::MostVotes) => keys::WORKS_PICTURE,
     }
 }

@@ -20,10 +20,10 @@ use Rattle.pb_rounds.specs.Outcome.{OutcomeView}
 use Rattle.pb_rounds.specs.Run.{ElectedView, charged}
 use Rattle.pb_rounds.specs.declared.measure.Measure.{Measure}
 use Rattle.pb_rounds.specs.declared.options.Completion.{Completion}
-use Rattle.pb_rounds.specs.declared.options.Completion.TheVariants.{Plain, Add1}
+use Rattle.pb_rounds.specs.declared.options.Completion.TheVariants.{Plain, Add1, NoShares}
 use Rattle.pb_rounds.specs.declared.options.CountOptions.{CountOptions}
 use Rattle.pb_rounds.proofs.Completing.{opening_of_nobody, opening_within}
-use Rattle.pb_rounds.proofs.Counted.{can_complete}
+use Rattle.pb_rounds.proofs.Counted.{can_complete, share_within}
 use Rattle.pb_reasons.specs.Inner.Rounds.{ties_with}
 use Rattle.pb_reasons.specs.Ties.{ties_in}
 use Rattle.pb_reasons.specs.declared.tie.Tie.{Tie}
@@ -42,7 +42,8 @@ small_opening e h = elim (cases_lt 0 (length e.voters)) [
 ]
 
 few_raises : (e : ElectionView) (options : CountOptions) (o : OutcomeView) → IsCountOf e options o → (c : Completion) → options.completion ≡ c → o.raised ≤ options.max_raises
-few_raises e options o h Plain is = omega (arith, h.plain is)
+few_raises e options o h Plain is = omega (arith, h.unraised (λ add1. absurd (cc (is, add1))))
+few_raises e options o h NoShares is = omega (arith, h.unraised (λ add1. absurd (cc (is, add1))))
 few_raises e options o h Add1 is = (h.completed is).within_limit
 
 pub small_share : (e : ElectionView) (options : CountOptions) (o : OutcomeView) → IsElection e → IsCountOf e options o → o.share ≤ largest_share
@@ -50,7 +51,8 @@ small_share e options o h counted =
     let in_range = can_complete e (support_of e) refl options counted.in_range o.raised (few_raises e options o counted options.completion refl) in
     let one = mul-le-mul_left o.raised in_range.small_step in
     let two = mul-le-mul_right largest_step in_range.few_raises in
-    omega (arith, small_opening e h, counted.share_is, one, two)
+    let within = share_within options.completion e options.step o.raised in
+    omega (arith, small_opening e h, counted.share_is, within, one, two)
 
 -- ---- the rests after one round more
 

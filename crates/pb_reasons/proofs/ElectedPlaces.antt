@@ -12,7 +12,7 @@ use Rattle.pb_core.specs.Election.{ElectionView}
 use Rattle.pb_price.specs.Supporters.{SupportView, supporters_at, support_of}
 use Rattle.pb_rounds.proofs.BestKey.{best_is_key}
 use Rattle.pb_rounds.proofs.Listed.{RisesWithin-below, is_listed-without_same, listed-below, listed_from_without, range_rises}
-use Rattle.pb_rounds.specs.Count.{count_of, raises_of, share_after}
+use Rattle.pb_rounds.specs.Count.{count_of, raises_of, share_by}
 use Rattle.pb_rounds.specs.Key.{KeyView}
 use Rattle.pb_rounds.specs.Outcome.{Settled, settled_by}
 use Rattle.pb_rounds.specs.Inner.Listed.{is_listed}
@@ -75,4 +75,4 @@ settled_elects_projects m e shares (Some raises) o same =
     rw (← ap (λ (o : Settled). o.elected) (same_Some _ _ same)) (run_elects_projects m e (shares raises))
 
 pub count_elects_projects : (e : ElectionView) (options : CountOptions) (o : Settled) → count_of e options ≡ Some o → AreProjects e o.elected
-count_elects_projects e options o counted = settled_elects_projects options.measure e (share_after e options.step) (raises_of options.completion options.measure e options.step options.max_raises) o counted
+count_elects_projects e options o counted = settled_elects_projects options.measure e (share_by options.completion e options.step) (raises_of options.completion options.measure e options.step options.max_raises) o counted

@@ -15,11 +15,13 @@ pub mod RaiseEnds
 pub mod RaiseLimits
 pub mod Results
 pub mod VoterTold
+pub mod VotesAlone
 pub mod WinnerSums
 pub mod PlaceSums
 pub mod AllWinners
 pub mod TieQueue
 pub mod TiedRounds
+pub mod AddedTies
 pub mod AllTies
 pub mod TieOrder
 pub mod Rooms

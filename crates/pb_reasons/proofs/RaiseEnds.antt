@@ -10,7 +10,7 @@ use Rattle.pb_rounds.specs.MostVotes.{is_taken}
 use Rattle.pb_price.specs.Price.{largest_share}
 use Rattle.pb_price.specs.Supporters.{SupportView, support_of}
 use Rattle.pb_rounds.proofs.Completing.{opening_of_nobody, opening_within}
-use Rattle.pb_rounds.proofs.Counted.{can_complete}
+use Rattle.pb_rounds.proofs.Counted.{can_complete, share_with_add1}
 use Rattle.pb_rounds.proofs.RunIs.{only_run}
 use Rattle.pb_rounds.proofs.TrialRounds.{spent_small}
 use Rattle.pb_rounds.specs.Cheapest.{IsRun}
@@ -84,6 +84,10 @@ pub same_elected : (m : Measure) (s : SupportView) (share : ℕ) (one two : RunV
 same_elected m s share one two of_one of_two = ap (λ (r : RunView). r.elected) (only_run m s share one of_one ∙ sym (only_run m s share two of_two))
 
 module _ (e : ElectionView) (options : CountOptions) (o : OutcomeView) (h : IsCountOf e options o) where
+  -- with Add1 the share is the opening one, raised
+  pub raised_share_is : options.completion ≡ Add1 → o.share ≡ opening_share e + o.raised * options.step
+  raised_share_is add1 = h.share_is ∙ share_with_add1 options add1 e o.raised
+
   -- what holds of whom a run after so many raises elects, holds of whom this run at its share elects
   pub such_are : (raises share : ℕ) (run : RunView) (IsSuch : List ElectedView → Type 0) → share ≡ opening_share e + raises * options.step
       → IsRun options.measure (support_of e) share run.elected run.rests → After options.measure e options.step raises IsSuch → IsSuch run.elected
@@ -100,12 +104,12 @@ module _ (e : ElectionView) (options : CountOptions) (o : OutcomeView) (h : IsCo
   pub next_is_over : options.completion ≡ Add1 → ¬ IsExhausted (support_of e) e.budget o.elected
       → (o.raised < options.max_raises) × After options.measure e options.step (o.raised + 1) (λ elected. e.budget < spent_on (support_of e) elected)
   next_is_over add1 not_yet = elim (h.completed add1).ends [
-    | inl now ↦ absurd (not_yet (such_are o.raised o.share (record { elected = o.elected; rests = o.rests }) (IsExhausted (support_of e) e.budget) h.share_is h.run_is now))
+    | inl now ↦ absurd (not_yet (such_are o.raised o.share (record { elected = o.elected; rests = o.rests }) (IsExhausted (support_of e) e.budget) (raised_share_is add1) h.run_is now))
     | inr next ↦ next_of next
   ]
 
-  next_share_is : o.share + options.step ≡ opening_share e + (o.raised + 1) * options.step
-  next_share_is = omega (arith, h.share_is)
+  next_share_is : options.completion ≡ Add1 → o.share + options.step ≡ opening_share e + (o.raised + 1) * options.step
+  next_share_is add1 = omega (arith, raised_share_is add1)
 
   pub next_share_small : IsElection e → options.completion ≡ Add1 → ¬ IsExhausted (support_of e) e.budget o.elected → o.share + options.step ≤ largest_share
   next_share_small is_election add1 not_yet =
@@ -113,7 +117,7 @@ module _ (e : ElectionView) (options : CountOptions) (o : OutcomeView) (h : IsCo
       let ranges = can_complete e (support_of e) refl options h.in_range options.max_raises (omega arith) in
       let few : o.raised + 1 ≤ 1000000 = omega (arith, below, ranges.few_raises) in
       let product = mul-le-mul few ranges.small_step in
-      omega (arith, next_share_is, opening_small, product, is_election.budget_bounded)
+      omega (arith, next_share_is add1, opening_small, product, is_election.budget_bounded)
     where
       opening_small : opening_share e ≤ e.budget
       opening_small = elim (cases_eq (length e.voters) 0) [
@@ -133,6 +137,6 @@ module _ (e : ElectionView) (options : CountOptions) (o : OutcomeView) (h : IsCo
       → raise.no_more.items ≡ map (λ w. w.place) (filter (λ w. not (is_elected next.elected w.place)) o.elected)
       → IsRaiseEnd e options o (Over raise)
   over_is_told add1 not_yet next run raise share cost only_then no_more =
-      let over = such_are (o.raised + 1) _ next (λ elected. e.budget < spent_on (support_of e) elected) next_share_is run (next_is_over add1 not_yet).1 in
-      let here = subst (λ (n : ℕ). IsRun options.measure (support_of e) n next.elected next.rests) next_share_is run in
+      let over = such_are (o.raised + 1) _ next (λ elected. e.budget < spent_on (support_of e) elected) (next_share_is add1) run (next_is_over add1 not_yet).1 in
+      let here = subst (λ (n : ℕ). IsRun options.measure (support_of e) n next.elected next.rests) (next_share_is add1) run in
       (add1, not_yet, share, omega (arith, over, cost), (next.elected, next.rests, here, (cost, only_then, no_more)))

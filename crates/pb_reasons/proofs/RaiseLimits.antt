@@ -24,7 +24,7 @@ use Rattle.pb_reasons.specs.Inner.Raises.{TellsExhausted}
 use Rattle.pb_reasons.specs.Inner.Strides.{by_strides}
 use Rattle.pb_reasons.specs.declared.raise_limit.RaiseLimit.TheVariants.{Enough, Least}
 use Rattle.pb_reasons.specs.declared.raise_limit.Strides.{Strides}
-use Rattle.pb_reasons.proofs.RaiseEnds.{same_elected, such_are}
+use Rattle.pb_reasons.proofs.RaiseEnds.{raised_share_is, same_elected, such_are}
 
 module _ (m : Measure) (e : ElectionView) where
   -- two runs after as many raises elect the same
@@ -93,7 +93,7 @@ module _ (e : ElectionView) (options : CountOptions) (o : OutcomeView) (h : IsCo
         enough = record {
           within_limit = omega arith;
           fewer_go_on = completed.fewer_go_on;
-          ends = inl (o.elected, o.rests, subst (λ (n : ℕ). IsRun options.measure (support_of e) n o.elected o.rests) h.share_is h.run_is, exhausted);
+          ends = inl (o.elected, o.rests, subst (λ (n : ℕ). IsRun options.measure (support_of e) n o.elected o.rests) (raised_share_is e options o h add1) h.run_is, exhausted);
         };
         least = λ fewer less raises within. completed.fewer_go_on raises (omega arith);
       }
@@ -103,7 +103,7 @@ module _ (e : ElectionView) (options : CountOptions) (o : OutcomeView) (h : IsCo
   least_over not_yet =
       let completed = h.completed add1 in
       elim completed.ends [
-        | inl now ↦ absurd (not_yet (such_are e options o h o.raised o.share (record { elected = o.elected; rests = o.rests }) (IsExhausted (support_of e) e.budget) h.share_is h.run_is now))
+        | inl now ↦ absurd (not_yet (such_are e options o h o.raised o.share (record { elected = o.elected; rests = o.rests }) (IsExhausted (support_of e) e.budget) (raised_share_is e options o h add1) h.run_is now))
         | inr next ↦ record {
           enough = record {
             within_limit = omega arith;
@@ -119,7 +119,7 @@ module _ (e : ElectionView) (options : CountOptions) (o : OutcomeView) (h : IsCo
 
   pub next_allowed : (¬ IsExhausted (support_of e) e.budget o.elected) → o.raised < options.max_raises
   next_allowed not_yet = elim (h.completed add1).ends [
-    | inl now ↦ absurd (not_yet (such_are e options o h o.raised o.share (record { elected = o.elected; rests = o.rests }) (IsExhausted (support_of e) e.budget) h.share_is h.run_is now))
+    | inl now ↦ absurd (not_yet (such_are e options o h o.raised o.share (record { elected = o.elected; rests = o.rests }) (IsExhausted (support_of e) e.budget) (raised_share_is e options o h add1) h.run_is now))
     | inr next ↦ next.1
   ]
 

@@ -1,5 +1,5 @@
 -- Why the raises of a count ended.
-use Rattle.std.specs.Prelude.{◌≡◌, ◌+◌, ◌<◌, filter, map, not}
+use Rattle.std.specs.Prelude.{◌≡◌, ◌≢◌, ◌+◌, ◌<◌, filter, map, not}
 use Rattle.pb_core.specs.Election.{ElectionView}
 use Rattle.pb_price.specs.Supporters.{support_of}
 use Rattle.pb_rounds.specs.Completed.{After, IsExhausted}
@@ -11,11 +11,11 @@ use Rattle.pb_rounds.specs.declared.options.CountOptions.{CountOptions}
 use Rattle.pb_reasons.specs.declared.raise_end.RaiseEnd.{RaiseEnd}
 use Rattle.pb_reasons.specs.declared.raise_end.RaiseEnd.TheVariants.{Plain, Exhausted, Over}
 
--- Why the raises ended of a count by these options that has this outcome: a plain count has none; with Add1
+-- Why the raises ended of a count by these options that has this outcome: without Add1 there are none; with it
 -- the outcome is exhausted; or it is not, and one raise more, to this share, elects projects that cost this
 -- much together, more than the budget: these only then, and these of the outcome's no more.
 abbrev pub IsRaiseEnd : ElectionView → CountOptions → OutcomeView → RaiseEnd → Type 0
-IsRaiseEnd e options o Plain = options.completion ≡ completion.Plain
+IsRaiseEnd e options o Plain = options.completion ≢ completion.Add1
 IsRaiseEnd e options o Exhausted = (options.completion ≡ completion.Add1) × IsExhausted (support_of e) e.budget o.elected
 IsRaiseEnd e options o (Over next) = (options.completion ≡ completion.Add1) × (¬ IsExhausted (support_of e) e.budget o.elected)
     × (next.share ≡ o.share + options.step) × (e.budget < next.cost)

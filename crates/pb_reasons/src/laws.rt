@@ -1,12 +1,13 @@
 //! Laws over what a count comes to, each as the contract of a function that does nothing.
 
-ghost use Rattle.std.specs.Prelude.{◌≡◌, ◌≢◌, ◌⊎◌, ◌↔◌, ◌+◌, ◌-◌, ◌*◌, ◌<◌, ◌≤◌, ℕ, All, AllPairs, Contains, false, length, sum_by};
+ghost use Rattle.std.specs.Prelude.{◌≡◌, ◌≢◌, [], ◌⊎◌, ◌↔◌, ◌+◌, ◌-◌, ◌*◌, ◌<◌, ◌≤◌, ℕ, All, AllPairs, Contains, false, length, sum_by};
 ghost use Rattle.std.specs.List.{Any};
 ghost use Rattle.std.specs.List.Sorted.{IsStrictlyIncreasing};
 ghost use Rattle.pb_core.specs.Election.{ElectionView};
 ghost use Rattle.pb_price.specs.Supporters.{SupportView, cost_at, support_of, supporters_at};
 ghost use Rattle.pb_rounds.specs.Fairness.{paid_within};
 ghost use Rattle.pb_rounds.specs.MostVotes.{fits, is_taken, votes_at};
+ghost use Rattle.pb_reasons.specs.BesideVotes.{elected_by_votes};
 ghost use Rattle.pb_reasons.specs.Counted.{CountedView, counted, is_selected, winners_of};
 ghost use Rattle.pb_reasons.specs.CountedElection.{CountedElectionView, IsCountedElection};
 ghost use Rattle.pb_reasons.specs.Fairness.{losers, needed, spent};
@@ -16,6 +17,7 @@ ghost use Rattle.pb_reasons.specs.declared.tie.Tie.{Tie};
 ghost use Rattle.pb_rounds.specs.Counted.{IsCountOf};
 ghost use Rattle.pb_rounds.specs.Outcome.{OutcomeView};
 ghost use Rattle.pb_rounds.specs.declared.measure.Measure.{Measure};
+ghost use Rattle.pb_rounds.specs.declared.options.Completion.TheVariants.{NoShares};
 ghost use Rattle.pb_rounds.specs.declared.rule.FillUp.TheVariants.{MostVotes};
 ghost use Rattle.pb_rounds.specs.declared.rule.Rule.{Rule};
 
@@ -37,6 +39,14 @@ pub fn winners_share_the_budget()
     ensures none_fits { (c : CountedElectionView) (place : ℕ) → IsCountedElection c → c.rule.fill_up ≡ MostVotes
         → fits (support_of c.election) (winners_of c.counted)
         (c.election.budget - (totals_of c.election c.counted).spent) place ≡ false }
+{}
+
+/// Most votes first as a rule of its own: where nobody has a share and what is left is filled up, nobody is elected
+/// by shares, and the winners are those of most votes first, from an empty list and over the whole budget.
+pub fn most_votes_is_its_rule()
+    ensures { (c : CountedElectionView) → IsCountedElection c → c.rule.options.completion ≡ NoShares
+        → c.rule.fill_up ≡ MostVotes
+        → (c.counted.outcome.elected ≡ []) × (winners_of c.counted ≡ elected_by_votes c.election) }
 {}
 
 /// Only the order of the file decided the ties of a count: its winner comes before the other project.

@@ -43,7 +43,7 @@ pub struct NextRaise {
 /// Why the raises of a count ended.
 #[derive(Drop)]
 pub enum RaiseEnd {
-    /// A plain count raises no share.
+    /// The count raises no share.
     Plain,
     /// The outcome is exhausted: each other project that has a supporter costs more than what is left of the
     /// budget.
@@ -66,7 +66,7 @@ impl RaiseEnd {
     {
         let options = count.rule().options;
         match options.completion {
-            Completion::Plain => Ok(RaiseEnd::Plain),
+            Completion::Plain | Completion::NoShares => Ok(RaiseEnd::Plain),
             Completion::Add1 => {
                 completed_end(rt, alloc, count.election(), &options, count.outcome(), gate)
             }

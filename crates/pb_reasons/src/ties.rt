@@ -4,7 +4,7 @@ ghost use Rattle.std.specs.Prelude.{◌≡◌, ◌<◌, ◌≤◌, ◌++◌, All
 ghost use Rattle.std.specs.List.{range_with_len};
 ghost use Rattle.pb_price.specs.Price.{largest_share};
 ghost use Rattle.pb_price.specs.Supporters.{support_of};
-ghost use Rattle.pb_reasons.specs.Inner.Rounds.{AreOpeningBounds, is_tied_with_added};
+ghost use Rattle.pb_reasons.specs.Inner.Rounds.{AreOpeningBounds, HasLosers, is_tied_with_added, votes_and_cost};
 ghost use Rattle.pb_reasons.specs.Ties.{ties_in, ties_of, ties_with_added};
 
 use crate::counted_election::CountedElection;
@@ -18,6 +18,7 @@ use pb_price::supporters::Supporters;
 use pb_rounds::measure::Measure;
 use pb_rounds::outcome::Elected;
 use std::alloc::Global;
+use std::collections::BTreeSet;
 
 /// The ties of a count that the order of the file decided, in order of the rounds and then of the file: where a
 /// project that is not elected in the end had a price in a round as good as that of the project that the round
@@ -25,7 +26,8 @@ use std::alloc::Global;
 /// win has as many votes as an added one, and the same cost. The first hundred are told.
 ///
 /// It replays the rounds. In a round it looks only at projects whose last known price, which never falls, is
-/// not already above a tie: a queue has them by that price. For each added project it looks at all projects.
+/// not already above a tie: a queue has them by that price. It looks at all projects for an added one only where
+/// one that did not win has its votes and its cost: for a hundred of the added at most.
 pub fn ties_of(alloc: Global, count: &CountedElection) -> Result<Vec<Tie>, NoMemory>
     ensures { IfOk result (λ ties. ties.items
         ≡ ties_of count.now.rule.options.measure count.now.election count.now.counted) }
@@ -34,21 +36,73 @@ pub fn ties_of(alloc: Global, count: &CountedElection) -> Result<Vec<Tie>, NoMem
     let elected = outcome.elected.as_slice();
     let (supporters, measure) = (count.supporters(), rule.options.measure);
     let mut ties = replay_ties(alloc, supporters, measure, outcome.share, elected)?;
-    put_added_ties(&mut ties, count)?;
+    put_added_ties(alloc, &mut ties, count)?;
     Ok(ties)
 }
 
 /// Puts the ties of filling up behind those of the rounds, as far as so many are told.
-fn put_added_ties(ties: &mut Vec<Tie>, count: &CountedElection) -> Result<(), NoMemory>
+fn put_added_ties(
+    alloc: Global,
+    ties: &mut Vec<Tie>,
+    count: &CountedElection,
+) -> Result<(), NoMemory>
     requires { length ties.old.items ≤ 100 }
     ensures { OnOk result (ties.new.items ≡ take 100 (ties.old.items ++ flat_map
         (ties_with_added (support_of count.now.election) count.now.counted) count.now.counted.added)) }
 {
     // What is true of every count is true of the places of the added.
     let _election = count.election();
+    let losers = losers(alloc, count)?;
     let added = count.added();
     for winner in added {
-        put_ties_with(ties, count, *winner)?;
+        put_ties_if_any(ties, count, &losers, *winner)?;
+    }
+    Ok(())
+}
+
+/// The votes and the cost of each project that did not win, as one number.
+fn losers(alloc: Global, count: &CountedElection) -> Result<BTreeSet<u128>, NoMemory>
+    ensures { IfOk result (λ losers. HasLosers (support_of count.now.election) count.now.counted
+        (length (support_of count.now.election).costs) losers) }
+{
+    let supporters = count.supporters();
+    let mut losers = BTreeSet::new(alloc);
+    for place in 0..supporters.projects() {
+        if !count.has_won(place) {
+            let number = votes_and_cost(supporters, place);
+            losers.insert(number)?;
+        }
+    }
+    Ok(losers)
+}
+
+/// The votes and the cost of the project at this place, as one number.
+fn votes_and_cost(supporters: &Supporters, place: u32) -> u128
+    requires { place < length supporters.now.costs }
+    ensures { result ≡ votes_and_cost supporters.now place }
+{
+    let votes = supporters.of(place).len() as u128;
+    votes * 18_446_744_073_709_551_616 + u128::from(supporters.cost(place).0)
+}
+
+/// Puts the ties of the added project at this place behind the others, if a project that did not win has its votes
+/// and its cost.
+fn put_ties_if_any(
+    ties: &mut Vec<Tie>,
+    count: &CountedElection,
+    losers: &BTreeSet<u128>,
+    winner: u32,
+) -> Result<(), NoMemory>
+    requires known { winner < length count.now.election.projects }
+    requires few { length ties.old.items ≤ 100 }
+    requires losers { HasLosers (support_of count.now.election) count.now.counted
+        (length (support_of count.now.election).costs) losers.now }
+    ensures { OnOk result (ties.new.items ≡ take 100 (ties.old.items
+        ++ ties_with_added (support_of count.now.election) count.now.counted winner)) }
+{
+    let number = votes_and_cost(count.supporters(), winner);
+    if losers.contains(&number) {
+        put_ties_with(ties, count, winner)?;
     }
     Ok(())
 }

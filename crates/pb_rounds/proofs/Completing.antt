@@ -8,9 +8,9 @@ use Rattle.pb_core.specs.Election.{ElectionView}
 use Rattle.pb_price.proofs.FirstInRange.{IsFirstInRange, NoneInRange, find-range_with_len, find_from_first}
 use Rattle.pb_price.specs.Supporters.{SupportView, IsSupport, support_of}
 use Rattle.pb_rounds.specs.declared.measure.Measure.{Measure}
-use Rattle.pb_rounds.specs.Count.{spent_on, is_over, is_over_after, is_exhausted_after, is_decisive, first_decisive, add1_of, opening_share, share_after, elected_after, settled_after}
-use Rattle.pb_rounds.specs.Outcome.{OutcomeView, Settled, settled}
-use Rattle.pb_rounds.specs.Run.{ElectedView}
+use Rattle.pb_rounds.specs.Count.{spent_on, is_over, is_over_after, is_exhausted_after, is_decisive, first_decisive, add1_of, opening_share, share_after, elected_after}
+use Rattle.pb_rounds.specs.Outcome.{OutcomeView, Settled, settled, settled_by}
+use Rattle.pb_rounds.specs.Run.{ElectedView, outcome_of}
 use Rattle.pb_rounds.specs.Inner.PriceSystem.{HasPriceSystem}
 use Rattle.pb_rounds.specs.Inner.RaiseEnds.{IsCompletion, IsOutcomeAt}
 use Rattle.pb_rounds.proofs.Exhausted.{over_from_within}
@@ -39,14 +39,18 @@ opening_largest e some = shares_above (length e.voters) e.budget some
 pub opening_of_nobody : (e : ElectionView) → length e.voters ≡ 0 → opening_share e ≡ 0
 opening_of_nobody e none = no_share (length e.voters) e.budget none
 
+-- the outcome at shares that are together within the budget is not over
+pub shares_not_over : (m : Measure) (e : ElectionView) → IsSupport (support_of e) → (share : ℕ) → length e.voters * share ≤ e.budget
+    → is_over (support_of e) e.budget (outcome_of m e share).elected ≡ false
+shares_not_over m e h share small =
+    over_from_within (support_of e) e.budget (outcome_of m e share).elected
+    (let within = run_within_shares m (support_of e) h share in omega (arith, within, small))
+
 -- the outcome at the opening share is never over
 pub opening_not_over : (m : Measure) (e : ElectionView) → IsSupport (support_of e) → (step : ℕ) → is_over_after m e step 0 ≡ false
 opening_not_over m e h step =
     let same : share_after e step 0 ≡ opening_share e = omega arith in
-    over_from_within (support_of e) e.budget (elected_after m e step 0)
-    (let within = run_within_shares m (support_of e) h (opening_share e) in
-    let small = shares_within (length e.voters) e.budget in
-    rw (same, elected_after) (omega (arith, within, small)))
+    shares_not_over m e h (share_after e step 0) (rw same (opening_within e))
 
 none_found : (test : ℕ → Bool) (high : ℕ) → NoneInRange test 0 high → (o : Option ℕ) → MatchOption o (NoneInRange test 0 high) (IsFirstInRange test 0 high) → o ≡ None
 none_found test high none None found = refl
@@ -125,14 +129,14 @@ pub within_from_not_over : (s : SupportView) (budget : ℕ) (elected : List Elec
 unfolding is_over
 within_from_not_over s budget elected e = ltb-false budget (spent_on s elected) e
 
--- what is settled after raises that are not over is within the budget, and has a price system
-pub settled_within : (m : Measure) (e : ElectionView) (step raises : ℕ) → is_over_after m e step raises ≡ false → (o : OutcomeView) → settled o ≡ settled_after m e step raises
-    → spent_on (support_of e) o.elected ≤ e.budget
-settled_within m e step raises not_over o is =
-    rw (ap (λ (x : Settled). x.elected) is) (within_from_not_over (support_of e) e.budget (elected_after m e step raises) not_over)
+-- what is settled at a share at which the outcome is not over is within the budget, and has a price system
+pub settled_within : (m : Measure) (e : ElectionView) (share raises : ℕ) → is_over (support_of e) e.budget (outcome_of m e share).elected ≡ false
+    → (o : OutcomeView) → settled o ≡ settled_by share raises (outcome_of m e share) → spent_on (support_of e) o.elected ≤ e.budget
+settled_within m e share raises not_over o is =
+    rw (ap (λ (x : Settled). x.elected) is) (within_from_not_over (support_of e) e.budget (outcome_of m e share).elected not_over)
 
-pub settled_priced : (m : Measure) (e : ElectionView) → IsSupport (support_of e) → (step raises : ℕ) (o : OutcomeView) → settled o ≡ settled_after m e step raises
-    → HasPriceSystem (support_of e) o.share o.elected o.rests
-settled_priced m e h step raises o is =
+pub settled_priced : (m : Measure) (e : ElectionView) → IsSupport (support_of e) → (share raises : ℕ) (o : OutcomeView)
+    → settled o ≡ settled_by share raises (outcome_of m e share) → HasPriceSystem (support_of e) o.share o.elected o.rests
+settled_priced m e h share raises o is =
     rw (ap (λ (x : Settled). x.share) is, ap (λ (x : Settled). x.elected) is, ap (λ (x : Settled). x.rests) is)
-    (run_has_price_system m (support_of e) h (share_after e step raises))
+    (run_has_price_system m (support_of e) h share)

@@ -24,6 +24,7 @@ pub mod FrontSteps
 pub mod Fronts
 pub mod Listed
 pub mod NamesApart
+pub mod NoShares
 pub mod BestKey
 pub mod BestIs
 pub mod CheapestRounds

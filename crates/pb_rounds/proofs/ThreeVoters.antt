@@ -5,7 +5,7 @@ use Rattle.pb_core.specs.Election.{ElectionView}
 use Rattle.pb_price.specs.Price.{price_of}
 use Rattle.pb_price.specs.Supporters.{supporters_of, support_of}
 use Rattle.pb_rounds.specs.declared.measure.Measure.TheVariants.{Votes, Cost}
-use Rattle.pb_rounds.specs.declared.options.Completion.TheVariants.{Plain, Add1}
+use Rattle.pb_rounds.specs.declared.options.Completion.TheVariants.{Plain, Add1, NoShares}
 use Rattle.pb_rounds.specs.Count.{is_over, is_exhausted, first_decisive, count_of}
 use Rattle.pb_rounds.specs.Fairness.{paid_within}
 use Rattle.pb_rounds.specs.Payments.{paid_in_turn, payments_of}
@@ -35,6 +35,12 @@ raised : count_of three (record { step = 100; max_raises = 5; workers = 1; compl
     })
 unfolding best_of charged run_from run_of price_of supporters_of is_over is_exhausted first_decisive
 raised = refl
+
+-- nobody has a share, so nothing is elected
+without_shares : count_of three (record { step = 100; max_raises = 0; workers = 1; completion = NoShares; measure = Votes })
+    ≡ Some (record { share = 0; raised = 0; elected = []; rests = 0 ∷ 0 ∷ 0 ∷ [] })
+unfolding best_of run_from run_of price_of supporters_of
+without_shares = refl
 
 -- The second project would have cost each of its supporters 30.00. With no raise one of them paid 15.00, for the first project: more
 -- than what 33.33 leave beside 30.00. By cost these 15.00 are just what 30.00 for 60.00 come to for 30.00; they count at no less.

@@ -1,5 +1,5 @@
 -- The count: the opening share, the raises, and where they end.
-use Rattle.std.specs.Prelude.{ℕ, Bool, Option, Some, List, ◌+◌, ◌-◌, ◌*◌, ◌/◌, ◌&&◌, ◌||◌, ◌==◌, not, nat_lt}
+use Rattle.std.specs.Prelude.{ℕ, Bool, true, false, Option, Some, List, ◌+◌, ◌-◌, ◌*◌, ◌/◌, ◌&&◌, ◌||◌, ◌==◌, not, nat_lt}
 use Rattle.std.specs.Prelude.{nat_le, find, length, option_map, sum_by, if◌then◌else◌}
 use Rattle.std.specs.List.{list_any, range_with_len}
 use Rattle.pb_core.specs.Election.{ElectionView}
@@ -7,7 +7,7 @@ use Rattle.pb_price.specs.Supporters.{SupportView, support_of, supporters_at, co
 use Rattle.pb_rounds.specs.Outcome.{Settled, settled_by}
 use Rattle.pb_rounds.specs.Run.{ElectedView, is_elected, outcome_of}
 use Rattle.pb_rounds.specs.declared.options.Completion.{Completion}
-use Rattle.pb_rounds.specs.declared.options.Completion.TheVariants.{Plain, Add1}
+use Rattle.pb_rounds.specs.declared.options.Completion.TheVariants.{Add1, NoShares}
 use Rattle.pb_rounds.specs.declared.options.CountOptions.{CountOptions}
 use Rattle.pb_rounds.specs.declared.measure.Measure.{Measure}
 
@@ -39,6 +39,15 @@ opening_share e = if length e.voters == 0 then 0 else e.budget / length e.voters
 abbrev pub share_after : ElectionView → ℕ → ℕ → ℕ
 share_after e step raises = opening_share e + raises * step
 
+-- nobody has a share
+abbrev pub no_shares : Completion → Bool
+no_shares NoShares = true
+no_shares completion = false
+
+-- the share by this completion: none at all, or the opening share raised by so many steps
+abbrev pub share_by : Completion → ElectionView → ℕ → ℕ → ℕ
+share_by c e step raises = if no_shares c then 0 else opening_share e + raises * step
+
 abbrev pub elected_after : Measure → ElectionView → ℕ → ℕ → List ElectedView
 elected_after m e step raises = (outcome_of m e (share_after e step raises)).elected
 
@@ -64,17 +73,17 @@ add1_of m e step limit =
 
 -- how many raises a completion decides on, if it does within the limit
 abbrev pub raises_of : Completion → Measure → ElectionView → ℕ → ℕ → Option ℕ
-raises_of Plain m e step limit = Some 0
 raises_of Add1 m e step limit = add1_of m e step limit
+raises_of completion m e step limit = Some 0
 
 -- the outcome after this many raises
-abbrev pub settled_after : Measure → ElectionView → ℕ → ℕ → Settled
-settled_after m e step raises =
-    settled_by (share_after e step raises) raises (outcome_of m e (share_after e step raises))
+abbrev pub settled_after : Completion → Measure → ElectionView → ℕ → ℕ → Settled
+settled_after completion m e step raises =
+    let share = share_by completion e step raises in settled_by share raises (outcome_of m e share)
 
 -- the count: the outcome after as many raises as the completion decides on; none where it does not decide
 -- within the limit
 abbrev pub count_of : ElectionView → CountOptions → Option Settled
 count_of e options =
-    option_map (settled_after options.measure e options.step)
+    option_map (settled_after options.completion options.measure e options.step)
     (raises_of options.completion options.measure e options.step options.max_raises)

@@ -1,28 +1,29 @@
 -- What a count promises: of its outcome, and of each refusal.
-use Rattle.std.specs.Prelude.{◌≡◌, ℕ, ◌+◌, ◌*◌, ◌≤◌, List, None, Some}
+use Rattle.std.specs.Prelude.{◌≡◌, ◌≢◌, ℕ, ◌+◌, ◌*◌, ◌≤◌, List, None, Some, if◌then◌else◌}
 use Rattle.pb_core.specs.Election.{ElectionView}
 use Rattle.pb_price.specs.Supporters.{support_of}
 use Rattle.pb_rounds.specs.Cheapest.{IsRun}
 use Rattle.pb_rounds.specs.Completed.{AreSpent, IsCompleted}
-use Rattle.pb_rounds.specs.Count.{opening_share, spent_on}
+use Rattle.pb_rounds.specs.Count.{no_shares, opening_share, spent_on}
 use Rattle.pb_rounds.specs.CountFault.{refusal_of}
 use Rattle.pb_rounds.specs.Outcome.{OutcomeView}
 use Rattle.pb_rounds.specs.PriceSystem.{IsPriceSystem}
 use Rattle.pb_rounds.specs.PricingRecord.{HasPricing}
 use Rattle.pb_rounds.specs.declared.count_fault.CountFault.{CountFault}
 use Rattle.pb_rounds.specs.declared.count_fault.CountFault.TheVariants.{NoMemory, RaisesSpent}
-use Rattle.pb_rounds.specs.declared.options.Completion.TheVariants.{Plain, Add1}
+use Rattle.pb_rounds.specs.declared.options.Completion.TheVariants.{Add1}
 use Rattle.pb_rounds.specs.declared.options.CountOptions.{CountOptions}
 
--- The outcome is that of a run at its share, which is the opening share raised by so many steps: by none for
--- a plain count, and with Add1 by as many as complete it. So it is one outcome, for any number of workers.
+-- The outcome is that of a run at its share, which is 0 without shares, else the opening share raised by so
+-- many steps: with Add1 by as many as complete it, else by none. So it is one outcome, for any number of workers.
 -- What is elected is within the budget, and a price system explains it; and the numbers of prices are the
 -- lengths of a pricing record.
 pub record IsCountOf (e : ElectionView) (options : CountOptions) (o : OutcomeView) : Type 0 where
   pub in_range : refusal_of options ≡ None
-  pub share_is : o.share ≡ opening_share e + o.raised * options.step
+  pub share_is : o.share
+      ≡ (if no_shares options.completion then 0 else opening_share e + o.raised * options.step)
   pub run_is : IsRun options.measure (support_of e) o.share o.elected o.rests
-  pub plain : options.completion ≡ Plain → o.raised ≡ 0
+  pub unraised : options.completion ≢ Add1 → o.raised ≡ 0
   pub completed : options.completion ≡ Add1
       → IsCompleted options.measure e options.step options.max_raises o.raised
   pub within_budget : spent_on (support_of e) o.elected ≤ e.budget

@@ -1,25 +1,26 @@
 -- What rules are called: on the command line, by one name, in an exported file by Pabulib's word, and there in words.
 use Rattle.std.specs.Prelude.{ℕ, ◌++◌, Bool, false, true, List, [], codes, decimal, if◌then◌else◌}
 use Rattle.pb_core.specs.MoneyText.{money_text}
+use Rattle.pb_rounds.specs.Count.{no_shares}
 use Rattle.pb_rounds.specs.declared.measure.Measure.{Measure}
 use Rattle.pb_rounds.specs.declared.measure.Measure.TheVariants.{Votes, Cost}
 use Rattle.pb_rounds.specs.declared.options.Completion.{Completion}
-use Rattle.pb_rounds.specs.declared.options.Completion.TheVariants.{Plain, Add1}
+use Rattle.pb_rounds.specs.declared.options.Completion.TheVariants.{Add1}
 use Rattle.pb_rounds.specs.declared.rule.FillUp.{FillUp}
 use Rattle.pb_rounds.specs.declared.rule.FillUp.TheVariants.{Nothing, MostVotes}
 use Rattle.pb_rounds.specs.declared.rule.Rule.{Rule}
-use Rattle.pb_rounds.specs.declared.rule_names.TheConstants.{VOTES, COST, NONE, ADD1, UTILITARIAN, ADD1U}
+use Rattle.pb_rounds.specs.declared.rule_names.TheConstants.{VOTES, COST, NONE, ADD1, UTILITARIAN, ADD1U, MV}
 
--- one thing for each measure; and one for each completion, in the order of their names
+-- one thing for each measure; and one for each completion, in the order of their names (without shares, as without raises)
 abbrev pub by_measure : {A : Type 0} → Measure → (votes cost : A) → A
 by_measure Votes votes cost = votes
 by_measure Cost votes cost = cost
 
 abbrev pub by_completion : {A : Type 0} → Completion → FillUp → (none add1 utilitarian add1u : A) → A
-by_completion Plain Nothing none add1 utilitarian add1u = none
 by_completion Add1 Nothing none add1 utilitarian add1u = add1
-by_completion Plain MostVotes none add1 utilitarian add1u = utilitarian
 by_completion Add1 MostVotes none add1 utilitarian add1u = add1u
+by_completion completion Nothing none add1 utilitarian add1u = none
+by_completion completion MostVotes none add1 utilitarian add1u = utilitarian
 
 -- whether projects may be added to the elected
 abbrev pub fills_up : FillUp → Bool
@@ -31,25 +32,28 @@ abbrev pub measure_name : Measure → List ℕ
 measure_name m = by_measure m VOTES.now COST.now
 
 abbrev pub completion_name : Completion → FillUp → List ℕ
-completion_name c f = by_completion c f NONE.now ADD1.now UTILITARIAN.now ADD1U.now
+completion_name c f = if no_shares c then MV.now else by_completion c f NONE.now ADD1.now UTILITARIAN.now ADD1U.now
 
 -- one name for a rule, which says nothing of the most raises
 abbrev pub profile_name : Rule → List ℕ
 profile_name rule = let o = rule.options in let step = codes "/step=" ++ money_text o.step in
+    if no_shares o.completion then (if fills_up rule.fill_up then codes "MV/ties=file" else codes "NS/ties=file") else
     codes "ES/" ++ (measure_name o.measure ++ (codes "/" ++ (completion_name o.completion rule.fill_up ++ (codes "/hundredths"
     ++ (by_completion o.completion rule.fill_up [] step [] step ++ codes "/ties=file")))))
 
 -- Pabulib's word for a rule, if it has one
 abbrev pub rule_word : Completion → FillUp → List ℕ
-rule_word c f = by_completion c f (codes "equalshares") (codes "equalshares/add1") (codes "unknown") (codes "unknown")
+rule_word c f = if no_shares c then (if fills_up f then codes "greedy" else codes "unknown") else
+    by_completion c f (codes "equalshares") (codes "equalshares/add1") (codes "unknown") (codes "unknown")
 
 -- a rule in words: its measure, its raises, and whether what is left is filled up
 abbrev pub completion_text : Completion → ℕ → ℕ → List ℕ
-completion_text Plain step most = codes ", no raises"
 completion_text Add1 step most = codes ", raises of " ++ money_text step ++ codes ", at most " ++ decimal most
+completion_text completion step most = codes ", no raises"
 
 abbrev pub rule_text : Rule → List ℕ
 rule_text rule = let o = rule.options in
+    if no_shares o.completion then (if fills_up rule.fill_up then codes "most votes first" else codes "no shares") else
     by_measure o.measure (codes "equal shares by price") (codes "equal shares by price over cost")
     ++ (completion_text o.completion o.step o.max_raises
     ++ (if fills_up rule.fill_up then codes ", filled up by votes" else []))

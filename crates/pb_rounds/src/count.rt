@@ -174,6 +174,10 @@ fn count_in_range<R: Threads + Sync, G: Gate, A: Allocator + Copy + Send + Sync,
             let outcome = outcome_after(&pricing, election, options.step, 0)?;
             Ok(outcome)
         }
+        Completion::NoShares => {
+            let outcome = whole_run(&pricing, Money(0), 0)?;
+            Ok(outcome)
+        }
         Completion::Add1 => complete(&pricing, election, options.step, options.max_raises),
     }
 }

@@ -1,6 +1,6 @@
 //! Laws over counts and their rules, each as the contract of a function that does nothing.
 
-ghost use Rattle.std.specs.Prelude.{◌≡◌, ◌↔◌, ◌+◌, ◌*◌, ◌<◌, ◌≤◌, ◌==◌, ℕ, List, None, Some, filter};
+ghost use Rattle.std.specs.Prelude.{◌≡◌, ◌≢◌, ◌↔◌, ◌+◌, ◌*◌, ◌<◌, ◌≤◌, ◌==◌, ℕ, List, None, Some, filter};
 ghost use Rattle.std.specs.Prelude.{length, sum_by};
 ghost use Rattle.std.specs.List.{list_any};
 ghost use Rattle.pb_core.specs.Election.{ElectionView, IsElection};
@@ -16,7 +16,7 @@ ghost use Rattle.pb_rounds.specs.RuleNames.{profile_name};
 ghost use Rattle.pb_rounds.specs.Run.{ElectedView, RunView, outcome_of, weight_of};
 ghost use Rattle.pb_rounds.specs.declared.count_fault.CountFault.TheVariants.{RaisesSpent};
 ghost use Rattle.pb_rounds.specs.declared.measure.Measure.{Measure};
-ghost use Rattle.pb_rounds.specs.declared.options.Completion.TheVariants.{Add1};
+ghost use Rattle.pb_rounds.specs.declared.options.Completion.TheVariants.{Add1, NoShares};
 ghost use Rattle.pb_rounds.specs.declared.options.CountOptions.{CountOptions};
 ghost use Rattle.pb_rounds.specs.declared.rule.Rule.{Rule};
 
@@ -80,12 +80,12 @@ pub fn outcomes_are_fair_to_groups()
         o.share * weight place < amount * (sum_by (λ w. weight w.place) supported + weight place)) }
 {}
 
-/// Two rules of one name have the same measure, raise shares or not, fill up or not, and where they raise shares
-/// have the same step.
+/// Two rules of one name give shares or not, raise them or not and fill up or not. Where they give shares they have
+/// the same measure, and where they raise them the same step.
 pub fn names_tell_rules_apart()
     ensures { (first second : Rule) → first.options.step ≤ largest_step → second.options.step ≤ largest_step
         → profile_name first ≡ profile_name second
-        → (first.options.measure ≡ second.options.measure) × (first.options.completion ≡ second.options.completion)
-        × (first.fill_up ≡ second.fill_up)
+        → (first.options.completion ≢ NoShares → first.options.measure ≡ second.options.measure)
+        × (first.options.completion ≡ second.options.completion) × (first.fill_up ≡ second.fill_up)
         × (first.options.completion ≡ Add1 → first.options.step ≡ second.options.step) }
 {}

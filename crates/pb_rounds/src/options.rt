@@ -14,7 +14,7 @@ pub const LARGEST_STEP: Money = Money(1_000_000_000);
 /// The most raises.
 pub const MOST_RAISES: u32 = 1_000_000;
 
-/// What is done with the money that a first run leaves.
+/// What is done with the money that a first run leaves; or that no shares are given.
 #[derive(Clone, Copy)]
 pub enum Completion {
     /// Nothing: the outcome at the opening share stands.
@@ -22,6 +22,8 @@ pub enum Completion {
     /// Everyone's share is raised step by step, until the elected cost too much or nothing more could be
     /// bought.
     Add1,
+    /// Nobody has a share, so nothing is elected: with filling up, most votes first as a rule of its own.
+    NoShares,
 }
 
 /// How to count.

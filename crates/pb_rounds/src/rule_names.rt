@@ -2,6 +2,8 @@
 
 ghost use Rattle.std.specs.Prelude.{◌≡◌, ◌≢◌, IfSome, None};
 ghost use Rattle.pb_rounds.specs.RuleNames.{completion_name, measure_name};
+ghost use Rattle.pb_rounds.specs.declared.options.Completion.TheVariants.{NoShares};
+ghost use Rattle.pb_rounds.specs.declared.rule.FillUp.TheVariants.{MostVotes};
 
 use crate::measure::Measure;
 use crate::options::Completion;
@@ -21,6 +23,9 @@ pub(crate) const ADD1: &str = "add1";
 pub(crate) const UTILITARIAN: &str = "utilitarian";
 
 pub(crate) const ADD1U: &str = "add1u";
+
+/// What stands in a rule's name where nobody has a share; no option has this name.
+pub(crate) const MV: &str = "MV";
 
 /// The completions by their names: what is done with the money that a first run leaves.
 pub const COMPLETIONS: &[&str] = &[NONE, ADD1, UTILITARIAN, ADD1U];
@@ -58,12 +63,14 @@ pub fn completion_name(completion: Completion, fill_up: FillUp) -> &'static str
         (Completion::Add1, FillUp::Nothing) => ADD1,
         (Completion::Plain, FillUp::MostVotes) => UTILITARIAN,
         (Completion::Add1, FillUp::MostVotes) => ADD1U,
+        (Completion::NoShares, FillUp::Nothing | FillUp::MostVotes) => MV,
     }
 }
 
 /// The completion with this name, if one has it.
 pub fn completion_named(name: &str) -> Option<(Completion, FillUp)>
     ensures some { IfSome result (λ x. completion_name x.0 x.1 ≡ name.now) }
+    ensures filled_up { IfSome result (λ x. x.0 ≡ NoShares → x.1 ≡ MostVotes) }
     ensures none { result ≡ None → (c : Completion) (f : FillUp) → completion_name c f ≢ name.now }
 {
     if name == NONE {
@@ -74,6 +81,8 @@ pub fn completion_named(name: &str) -> Option<(Completion, FillUp)>
         Some((Completion::Plain, FillUp::MostVotes))
     } else if name == ADD1U {
         Some((Completion::Add1, FillUp::MostVotes))
+    } else if name == MV {
+        Some((Completion::NoShares, FillUp::MostVotes))
     } else {
         None
     }

@@ -21,11 +21,14 @@ impl Rule {
             (Completion::Plain, FillUp::Nothing) => "equalshares",
             (Completion::Add1, FillUp::Nothing) => "equalshares/add1",
             (Completion::Plain | Completion::Add1, FillUp::MostVotes) => "unknown",
+            (Completion::NoShares, FillUp::Nothing) => "unknown",
+            (Completion::NoShares, FillUp::MostVotes) => "greedy",
         }
     }
 
     /// Its name, such as `ES/votes/add1/hundredths/step=1.00/ties=file`: the measure, the completion, and where
-    /// shares are raised by how much. The most raises is no part of it.
+    /// shares are raised by how much; where nobody has a share `MV/ties=file`, or `NS/ties=file` if nothing is
+    /// filled up. The most raises is no part of it.
     pub fn profile(&self, alloc: Global) -> Result<String, NoMemory>
         ensures { IfOk result (λ text. string_bytes text ≡ profile_name self.now) }
     {
@@ -43,6 +46,13 @@ impl Rule {
                 drop(step);
                 Ok(name?)
             }
+            Completion::NoShares => {
+                let name = match self.fill_up {
+                    FillUp::Nothing => "NS/ties=file",
+                    FillUp::MostVotes => "MV/ties=file",
+                };
+                Ok(String::from_str(alloc, name)?)
+            }
         }
     }
 
@@ -50,13 +60,20 @@ impl Rule {
     pub fn text(&self, alloc: Global) -> Result<String, NoMemory>
         ensures { IfOk result (λ text. string_bytes text ≡ rule_text self.now) }
     {
+        if let Completion::NoShares = self.options.completion {
+            let words = match self.fill_up {
+                FillUp::Nothing => "no shares",
+                FillUp::MostVotes => "most votes first",
+            };
+            return Ok(String::from_str(alloc, words)?);
+        }
         let words = match self.options.measure {
             Measure::Votes => "equal shares by price",
             Measure::Cost => "equal shares by price over cost",
         };
         let mut text = String::from_str(alloc, words)?;
         match self.options.completion {
-            Completion::Plain => text.push_str(", no raises")?,
+            Completion::Plain | Completion::NoShares => text.push_str(", no raises")?,
             Completion::Add1 => put_raises(alloc, &mut text, &self.options)?,
         }
         put_fill_up(&mut text, self.fill_up)?;

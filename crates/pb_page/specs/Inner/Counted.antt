@@ -1,15 +1,17 @@
 -- Words of private contracts on what is counted.
 use Rattle.std.specs.Prelude.{ℕ, ◌<◌, ◌-◌, ◌==◌, List, [], ◌∷◌, ◌++◌, All, ⊤, codes, decimal, filter}
-use Rattle.std.specs.Prelude.{Option, flat_map, if◌then◌else◌, length, not, sum_by, Bool, None, Some, nat_lt}
+use Rattle.std.specs.Prelude.{Option, flat_map, if◌then◌else◌, length, map, not, sum_by, Bool, None, Some, nat_lt}
 use Rattle.std.specs.Borrow.{Bor}
 use Rattle.std.specs.Option.{option_map_or}
 use Rattle.pb_core.specs.Election.{ElectionView, ProjectView}
 use Rattle.pb_core.specs.MoneyText.{money_text}
-use Rattle.pb_page.specs.Amount.{shown}
-use Rattle.pb_page.specs.Content.{Part, amount, attribute, block, columns, element, figure, item, nameless, noun_at, number, own, paragraph, said, say, section, table, text}
+use Rattle.pb_page.specs.Amount.{grouped, shown}
+use Rattle.pb_page.specs.Content.{Part, amount, attribute, block, columns, digits, element, figure, item, nameless, noun_at, number, own, paragraph, said, say, section, table, text, under}
 use Rattle.pb_page.specs.Page.{added, at_least, ballots_row, beside, besides, budget, by_raises, categories, category_of, check, compared_row, entry, exactly, linked, others, row_at, rule, source}
 use Rattle.pb_page.specs.Inner.Value.{files_link}
-use Rattle.pb_page.specs.Page.{voters, winners, money_told}
+use Rattle.pb_page.specs.Page.{voters, width, winners, money_told, raises_ended}
+use Rattle.pb_page.specs.Inner.Filling.{cut}
+use Rattle.pb_page.specs.Words.{sentence}
 use Rattle.pb_page.specs.declared.categories.Categories.{Categories}
 use Rattle.pb_page.specs.declared.facts.Facts.{Facts}
 use Rattle.pb_page.specs.declared.facts.ReadText.{ReadText}
@@ -18,6 +20,7 @@ use Rattle.pb_page.specs.declared.in_category.InCategory.{InCategory}
 use Rattle.pb_page.specs.declared.keys.TheConstants as key
 use Rattle.pb_page.specs.declared.language.Language.{Language}
 use Rattle.pb_page.specs.declared.project_row.ProjectRow.{ProjectRow}
+use Rattle.pb_page.specs.declared.templates.TheConstants.{OTHERS_OPENING, PASSED_OVER_OPENING, VOTERS_ROW_CLOSING}
 use Rattle.pb_price.specs.Supporters.{cost_at, support_of}
 use Rattle.pb_reasons.specs.BesideVotes.{beside_votes, elected_by_votes}
 use Rattle.pb_reasons.specs.Counted.{winners_of}
@@ -26,9 +29,11 @@ use Rattle.pb_reasons.specs.Money.{MoneyView, money_of, paid_together}
 use Rattle.pb_reasons.specs.Totals.{totals_of}
 use Rattle.pb_reasons.specs.declared.payment.Payment.{Payment}
 use Rattle.pb_reasons.specs.declared.project_reason.Ending.{Ending}
-use Rattle.pb_reasons.specs.declared.project_reason.Ending.TheVariants.{Won, Added, Lost}
+use Rattle.pb_reasons.specs.declared.project_reason.Ending.TheVariants as ending
+use Rattle.pb_reasons.specs.declared.project_reason.Lost.{Lost}
 use Rattle.pb_reasons.specs.declared.raise_end.RaiseEnd.{RaiseEnd}
 use Rattle.pb_reasons.specs.declared.raise_end.RaiseEnd.TheVariants.{Plain, Exhausted, Over}
+use Rattle.pb_rounds.specs.Count.{no_shares}
 use Rattle.pb_rounds.specs.MostVotes.{is_taken}
 use Rattle.pb_rounds.specs.RuleNames.{by_completion, by_measure, completion_name, measure_name}
 use Rattle.pb_rounds.specs.declared.rule.Rule.{Rule}
@@ -43,6 +48,7 @@ figures_of x = let e = x.election in let totals = totals_of e x.counted in recor
   spent = totals.spent;
   left = e.budget - totals.spent;
   surplus = totals.surplus;
+  by_votes = no_shares x.rule.options.completion;
 }
 
 -- how many won and what was spent, or that no project won: the second sentence of the summary
@@ -50,12 +56,12 @@ abbrev pub result_said : Language → Figures → List Part
 result_said l f = if f.won == 0
     then figure (codes "won") (decimal f.won) [] ++ (figure (codes "spent") (money_text f.spent) []
     ++ (figure (codes "surplus") (money_text f.surplus) [] ++ say l key.NONE_WON (amount l.costs (codes "left") f.left ∷ [])))
-    else say l key.WON (number (codes "won") f.won ∷ amount l.costs (codes "spent") f.spent
+    else say l key.WON (number l (codes "won") f.won ∷ amount l.costs (codes "spent") f.spent
     ∷ amount l.costs (codes "left") f.left ∷ noun_at l key.WINNERS f.won ∷ [])
 
 -- what is said of the whole, in and below the picture of the budget, and of the share
 abbrev pub voted_said : Language → Figures → List Part
-voted_said l f = say l key.VOTED (number (codes "voters") f.voters ∷ number (codes "projects") f.projects
+voted_said l f = say l key.VOTED (number l (codes "voters") f.voters ∷ number l (codes "projects") f.projects
     ∷ amount l.costs (codes "budget") f.budget ∷ noun_at l key.PEOPLE f.voters ∷ noun_at l key.TOPICS f.projects ∷ [])
 
 abbrev pub picture_said : Language → Figures → List Part
@@ -63,19 +69,34 @@ picture_said l f = say l key.PICTURE
     (text (shown l.costs f.budget) ∷ text (shown l.costs f.spent) ∷ text (shown l.costs f.left) ∷ [])
 
 abbrev pub spent_said : Language → Figures → List Part
-spent_said l f = say l (if f.won == 0 then key.BUDGET_NONE else key.BUDGET_CAPTION) (amount l.costs (codes "spent") f.spent
+spent_said l f = say l (if f.won == 0 then key.BUDGET_NONE else if f.by_votes then key.BUDGET_BY_VOTES
+    else key.BUDGET_CAPTION) (amount l.costs (codes "spent") f.spent
     ∷ amount l.costs (codes "left") f.left ∷ amount l.amounts (codes "surplus") f.surplus ∷ [])
 
 abbrev pub share_said : Language → (k step share raises : ℕ) → List Part
-share_said l k step share raises = item (say l k (amount l.amounts (codes "share") share ∷ number (codes "raises") raises
+share_said l k step share raises = item (say l k (amount l.amounts (codes "share") share ∷ number l (codes "raises") raises
     ∷ nameless (money_text step) (text (shown l.amounts step)) ∷ noun_at l key.TIMES raises ∷ []))
+
+abbrev pub items_said : Language → (keys : List ℕ) → List Part
+items_said l keys = flat_map (λ k. item (said l k)) keys
+
+-- how the projects were elected: the share, two sentences on the rounds, one on the raises, and why these ended
+abbrev pub rounds_said : Language → CountedElectionView → RaiseEnd → List Part
+rounds_said l x end = let r = x.rule in let o = r.options in let raised = x.counted.outcome.raised in
+    let raises = if raised == 0 then key.UNRAISED else key.RAISED in
+    share_said l (by_raises r key.SHARE_UNRAISED key.SHARE) o.step x.counted.outcome.share raised
+    ++ (items_said l (key.SUPPORTERS ∷ by_measure o.measure key.BY_VOTES key.BY_COST
+    ∷ by_completion o.completion r.fill_up key.PLAIN raises key.FILLED_UP raises ∷ []) ++ raises_ended l x end)
+
+abbrev pub rounds_told : Language → CountedElectionView → RaiseEnd → List Part
+rounds_told l x end = if length x.election.voters == 0 then [] else rounds_said l x end
 
 abbrev pub filled_up : Language → Rule → List Part
 filled_up l r = flat_map (λ k. item (said l k)) (by_completion r.options.completion r.fill_up [] [] [] (key.FILLED_UP ∷ []))
 
 abbrev pub works_said : Language → (k budget voters opening : ℕ) → List Part
 works_said l k budget voters opening = paragraph (say l k (amount l.costs (codes "budget") budget
-    ∷ number (codes "voters") voters ∷ amount l.amounts (codes "opening_share") opening ∷ []))
+    ∷ number l (codes "voters") voters ∷ amount l.amounts (codes "opening_share") opening ∷ []))
 
 -- the parts of how to check a result
 abbrev pub journal_source : Option ReadText → List Part
@@ -98,7 +119,7 @@ begun journal = option_map_or (λ j. own (codes "pb_app audit FILE JOURNAL --dig
 
 abbrev pub options_put : Language → (k by : ℕ) → (measure : List ℕ) → (after : ℕ) → (completion : List ℕ) → (step limit : ℕ) → List Part
 options_put l k by measure after completion step limit = paragraph (say l k (said l by ∷ text measure ∷ said l after ∷ text completion
-    ∷ amount l.amounts (codes "step") step ∷ number (codes "limit") limit ∷ []))
+    ∷ amount l.amounts (codes "step") step ∷ number l (codes "limit") limit ∷ []))
 
 abbrev pub options_said : Language → Rule → List Part
 options_said l r = let o = r.options in options_put l (by_raises r key.OPTIONS_UNRAISED key.OPTIONS)
@@ -106,15 +127,32 @@ options_said l r = let o = r.options in options_put l (by_raises r key.OPTIONS_U
     key.COMPLETION_NONE key.COMPLETION_ADD1 key.COMPLETION_UTILITARIAN key.COMPLETION_ADD1U) (completion_name o.completion r.fill_up)
     o.step o.max_raises
 
+-- the options of the command, and in words
+abbrev pub chosen : Rule → List Part
+chosen r = let o = r.options in text (by_measure o.measure [] (codes " --measure cost")) ++ (text (by_completion o.completion r.fill_up
+    (codes " --plain") [] (codes " --completion utilitarian") (codes " --completion add1u"))
+    ++ (own (codes " --step ") ++ (text (decimal o.step) ++ (own (codes " --raises ") ++ text (decimal o.max_raises)))))
+
+abbrev pub options_given : Rule → List Part
+options_given r = if no_shares r.options.completion then own (codes " --rule most-votes") else chosen r
+
+abbrev pub options_told : Language → Rule → List Part
+options_told l r = if no_shares r.options.completion then [] else options_said l r
+
 abbrev pub name_said : Language → List ℕ → List Part
 name_said l name = paragraph (say l key.RULE_NAME (element (codes "code") [] (text name) ∷ []))
 
 abbrev pub made_by : Language → List ℕ → List Part
 made_by l program = paragraph (say l key.MADE_BY (text program ∷ []))
 
+-- the added beside what is elected
+unfoldable pub added_apart : Facts → CountedElectionView → List Part
+added_apart facts x = if no_shares x.rule.options.completion then []
+    else added facts x (codes "added") key.ADDED_HEADING key.ADDED_CAPTION []
+
 -- the sections, one after the other
 abbrev pub sections : Facts → CountedElectionView → RaiseEnd → List Part
-sections facts x end = let l = facts.language in budget l x ++ (winners facts x ++ (added facts x ++ (others facts x
+sections facts x end = let l = facts.language in budget l x ++ (winners facts x ++ (added_apart facts x ++ (others facts x
     ++ (categories facts x ++ (voters l x ++ (besides facts x ++ (rule l x end ++ check facts x.rule)))))))
 
 -- the list of places, where there are any; and the comparison, where it is asked for
@@ -135,18 +173,22 @@ compared l x = let rules = beside_votes x.election x.counted in
 
 -- how many voters have a winner among theirs; and the row of so many winners
 abbrev pub got_said : Language → List ℕ → List Part
-got_said l won = paragraph (say l key.GOT (text (decimal (at_least 1 won)) ∷ number (codes "voters") (length won)
-    ∷ text (decimal (exactly 0 won)) ∷ noun_at l key.ALL (length won) ∷ noun_at l key.HAVE (at_least 1 won)
+got_said l won = paragraph (say l key.GOT (digits l (at_least 1 won) ∷ number l (codes "voters") (length won)
+    ∷ digits l (exactly 0 won) ∷ noun_at l key.ALL (length won) ∷ noun_at l key.HAVE (at_least 1 won)
     ∷ noun_at l key.LACK (exactly 0 won) ∷ []))
+
+abbrev pub ballots_end : Language → (ballots voters : ℕ) → List Part
+ballots_end l ballots voters =
+    cut VOTERS_ROW_CLOSING.now (decimal (width ballots voters) ∷ decimal ballots ∷ grouped l.costs.group.now (decimal ballots) ∷ [])
 
 abbrev pub exact_row : Language → List ℕ → ℕ → List Part
 exact_row l won n = ballots_row l key.EXACTLY n (exactly n won) won
 
 -- what is told of where the money of a project's supporters went, and how
 abbrev pub told_of : CountedElectionView → (place votes : ℕ) → Ending → Option MoneyView
-told_of x place votes (Won w) = None
-told_of x place votes (Added a) = None
-told_of x place votes (Lost lost) =
+told_of x place votes (ending.Won w) = None
+told_of x place votes (ending.Added a) = None
+told_of x place votes (ending.Lost lost) =
     if nat_lt votes 5 then None else Some (money_of (paid_together x.election x.counted.outcome place))
 
 abbrev pub went_as : Language → ElectionView → Option MoneyView → (left : ℕ) → List Part
@@ -183,3 +225,15 @@ abbrev pub in_category : ElectionView → Categories → List ℕ → ℕ → In
 in_category e g winners k =
     let those = winners_in g winners k in
     record { winners = length those; cost = sum_by (cost_at (support_of e)) those }
+
+-- the cells of a loser behind its head: its cost and votes, what its supporters have left, and what is missing
+abbrev pub lacking : Language → (short : ℕ) → ProjectView → (votes : ℕ) → Lost → List Part
+lacking l short p votes lost = own (codes "</th>") ++ ((under l key.COST (amount l.costs (codes "cost") p.cost)
+    ++ under l key.VOTES (number l (codes "votes") votes)) ++ (under l key.LEFT (amount l.amounts (codes "left") lost.left)
+    ++ under l short (figure (codes "missing") (money_text lost.missing) (say l key.SHORT (text (shown l.amounts lost.missing) ∷ [])))))
+
+-- the head of the table of the others
+abbrev pub others_opening : Language → (short : Option ℕ) → List Part
+others_opening l short = option_map_or (λ k. cut OTHERS_OPENING.now (map (sentence l.words) (key.OTHERS_HEADING ∷ key.OTHERS_CAPTION
+    ∷ key.PROJECT ∷ key.COST ∷ key.VOTES ∷ key.LEFT ∷ k ∷ []))) short
+    (cut PASSED_OVER_OPENING.now (map (sentence l.words) (key.OTHERS_HEADING ∷ key.PASSED_OVER ∷ key.PROJECT ∷ key.COST ∷ key.VOTES ∷ [])))

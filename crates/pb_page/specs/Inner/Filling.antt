@@ -3,13 +3,11 @@ use Rattle.std.specs.Prelude.{ℕ, ◌==◌, Bool, true, false, List, [], ◌∷
 use Rattle.pb_page.specs.Content.{Part, Own, Text}
 use Rattle.pb_page.specs.Markup.{written}
 
--- a piece of markup in which texts, as they stand in a page, take the places of `~`, one after the other; `^`
--- is the text of the next `~` as well
+-- a piece of markup in which texts, as they stand in a page, take the places of `~`, one after the other
 abbrev pub filled : List ℕ → List (List ℕ) → List ℕ
 filled [] texts = []
 filled (c ∷ cs) texts =
-    if c == 126 then written (slice_index_or texts 0 []) ++ filled cs (drop 1 texts)
-    else (if c == 94 then written (slice_index_or texts 0 []) ++ filled cs texts else c ∷ filled cs texts)
+    if c == 126 then written (slice_index_or texts 0 []) ++ filled cs (drop 1 texts) else c ∷ filled cs texts
 
 -- one of two, of which only that one is computed
 abbrev pub lazily : {X : Type 0} → Bool → (ℕ → X) → (ℕ → X) → X
@@ -20,7 +18,7 @@ lazily false one other = other 0
 abbrev pub cut_at_places : List ℕ → List (List ℕ) → List Part
 cut_at_places [] texts = []
 cut_at_places (c ∷ cs) texts = lazily (c == 126) (λ _. Text (slice_index_or texts 0 []) ∷ cut_at_places cs (drop 1 texts))
-    (λ _. lazily (c == 94) (λ _. Text (slice_index_or texts 0 []) ∷ cut_at_places cs texts) (λ _. Own (c ∷ []) ∷ cut_at_places cs texts))
+    (λ _. Own (c ∷ []) ∷ cut_at_places cs texts)
 
 unfoldable pub cut : (piece : List ℕ) → (texts : List (List ℕ)) → List Part
 cut piece texts = cut_at_places piece texts

@@ -1,8 +1,8 @@
 -- The values that fill the places of markup, and what stands at the places of a sentence.
 use Rattle.std.specs.Prelude.{ℕ, List, [], ◌∷◌, ◌++◌, codes, decimal, if◌then◌else◌, nat_lt, slice_index_or}
 use Rattle.pb_core.specs.MoneyText.{money_text}
-use Rattle.pb_page.specs.Amount.{shown}
-use Rattle.pb_page.specs.Content.{Part, amount, attribute, element, nameless, noun_at, number, own, said, text}
+use Rattle.pb_page.specs.Amount.{grouped, shown}
+use Rattle.pb_page.specs.Content.{Part, amount, attribute, digits, element, nameless, noun_at, number, own, said, text}
 use Rattle.pb_page.specs.Page.{titled, width}
 use Rattle.pb_page.specs.Words.{sentence}
 use Rattle.pb_page.specs.Inner.Nouns.{noun}
@@ -21,6 +21,7 @@ text_of w (value.Said k) = sentence w k
 text_of w (value.Noun k n) = noun w k n
 text_of w (value.Number n) = decimal n
 text_of w (value.Small n) = decimal n
+text_of w (value.Grouped n group) = grouped group.now (decimal n)
 text_of w (value.Width a whole) = decimal (width a whole)
 text_of w (value.Amount h) = money_text h
 text_of w (value.Shown h form) = shown form h
@@ -32,10 +33,10 @@ files_link l address =
 
 abbrev pub at_place : Language → Place → List Part
 at_place l (place.Text t) = text t.now
-at_place l (place.Digits n) = text (decimal n)
+at_place l (place.Digits n) = digits l n
 at_place l (place.Noun k n) = noun_at l k n
 at_place l (place.Shown h form) = text (shown form h)
-at_place l (place.Number name n) = number name.now n
+at_place l (place.Number name n) = number l name.now n
 at_place l (place.Amount name h form) = amount form name.now h
 at_place l (place.Nameless h form) = nameless (money_text h) (text (shown form h))
 at_place l (place.Said k) = said l k

@@ -1,6 +1,6 @@
-//! Amounts of money as people write them.
+//! Amounts of money, and other numbers, as people write them.
 
-ghost use Rattle.std.specs.Prelude.{◌≡◌, ◌++◌, ◌<◌, OnOk};
+ghost use Rattle.std.specs.Prelude.{◌≡◌, ◌++◌, ◌<◌, OnOk, decimal};
 ghost use Rattle.pb_page.specs.Amount.{decimals, grouped, shown};
 ghost use Rattle.pb_page.specs.Inner.Digits.{grouped_digit};
 ghost use Rattle.pb_page.specs.Markup.{written};
@@ -16,10 +16,17 @@ pub(crate) fn write_amount(page: &mut Vec<u8>, amount: Money, form: &Form) -> Re
     ensures { OnOk result (page.new.items ≡ page.old.items ++ written (shown form.now amount)) }
 {
     write_text(page, form.before)?;
-    let mut digits = Buffer::new();
-    write_grouped(page, digits.format(amount.0 / 100), form.group)?;
+    write_count(page, amount.0 / 100, form.group)?;
     write_decimals(page, amount.0 % 100, form)?;
     write_text(page, form.after)
+}
+
+/// Writes a number in groups of three digits.
+pub(crate) fn write_count(page: &mut Vec<u8>, number: u64, group: &str) -> Result<(), NoMemory>
+    ensures { OnOk result (page.new.items ≡ page.old.items ++ written (grouped group.now (decimal number))) }
+{
+    let mut digits = Buffer::new();
+    write_grouped(page, digits.format(number), group)
 }
 
 /// Writes digits in groups of three.

@@ -6,7 +6,7 @@ ghost use Rattle.pb_page.specs.Inner.Value.{text_of};
 ghost use Rattle.pb_page.specs.Markup.{written};
 
 use crate::forms::width;
-use crate::markup::amounts::write_amount;
+use crate::markup::amounts::{write_amount, write_count};
 use crate::markup::value::Value;
 use crate::markup::words::Words;
 use crate::markup::written::write_text;
@@ -16,11 +16,8 @@ use pb_core::no_memory::NoMemory;
 /// Stands in a piece of markup where a value goes.
 const PLACE: u8 = b'~';
 
-/// Stands in a piece of markup where the value of the next place goes as well.
-const NEXT: u8 = b'^';
-
 /// Writes a piece of the program's own markup after a page, with these values in the places of its `~`, one
-/// after the other; each `^` is the value of the next `~` as well. A place without a value stays empty.
+/// after the other. A place without a value stays empty.
 pub(crate) fn fill(
     page: &mut Vec<u8>,
     words: &Words,
@@ -33,14 +30,12 @@ pub(crate) fn fill(
     let mut used = 0;
     let bytes = piece.as_bytes();
     for byte in bytes {
-        if *byte != PLACE && *byte != NEXT {
+        if *byte != PLACE {
             page.push(*byte)?;
         } else if used < values.len() {
             let value = &values[used];
             write_value(page, words, value)?;
-            if *byte == PLACE {
-                used += 1;
-            }
+            used += 1;
         }
     }
     Ok(())
@@ -56,6 +51,7 @@ fn write_value(page: &mut Vec<u8>, words: &Words, value: &Value) -> Result<(), N
         Value::Noun(key, number) => write_text(page, words.noun(*key, *number)),
         Value::Number(number) => write_number(page, *number),
         Value::Small(number) => write_number(page, u64::from(*number)),
+        Value::Grouped(number, group) => write_count(page, *number, group),
         Value::Width(amount, whole) => write_number(page, width(*amount, *whole)),
         Value::Amount(amount) => {
             let text = amount.text(*page.allocator())?;

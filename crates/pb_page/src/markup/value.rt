@@ -16,6 +16,8 @@ pub(crate) enum Value<'a> {
     Number(u64),
     /// A number below 2^32, in decimal.
     Small(u32),
+    /// A number in groups of three digits, with this between them.
+    Grouped(u64, &'a str),
     /// How wide an amount is, in ten thousandths of a whole.
     Width(u64, u64),
     /// An amount of money, as reports have it.

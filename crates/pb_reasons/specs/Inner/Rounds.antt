@@ -1,7 +1,9 @@
 -- How the ties of a round are looked for, with a lower bound of each price; private contracts speak of it.
-use Rattle.std.specs.Prelude.{◌≡◌, ℕ, ◌*◌, ◌<◌, ◌≤◌, ◌==◌, ◌&&◌, Bool, false, List, Option, Some, None, filter}
+use Rattle.std.specs.Prelude.{◌≡◌, ℕ, ◌+◌, ◌*◌, ◌<◌, ◌≤◌, ◌==◌, ◌&&◌, Bool, true, false, List, Option, Some, None, filter}
 use Rattle.std.specs.Prelude.{if◌then◌else◌, length, map, not, slice_index_or}
+use Rattle.std.specs.BTreeSet.{BTreeSet, contains_by}
 use Rattle.std.specs.List.{range_with_len}
+use Rattle.std.specs.Ordering.{nat_cmp}
 use Rattle.pb_price.specs.Price.{price_at}
 use Rattle.pb_price.specs.Supporters.{SupportView, cost_at}
 use Rattle.pb_rounds.specs.MostVotes.{is_taken, votes_at}
@@ -64,3 +66,12 @@ is_tied_with_added s c winner place = not (is_taken (winners_of c) place)
 abbrev pub added_ties_among : SupportView → CountedView → (winner : ℕ) → (places : List ℕ) → List Tie
 added_ties_among s c winner places =
     map (λ place. record { round = None; winner = winner; other = place }) (filter (is_tied_with_added s c winner) places)
+
+-- the votes and the cost of a project as one number; a set of such numbers has those of each of the first projects
+-- that did not win
+abbrev pub votes_and_cost : SupportView → ℕ → ℕ
+votes_and_cost s place = votes_at s place * 18446744073709551616 + cost_at s place
+
+abbrev pub HasLosers : SupportView → CountedView → (projects : ℕ) → BTreeSet ℕ → Type 0
+HasLosers s c projects losers = (place : ℕ) → place < projects → is_taken (winners_of c) place ≡ false
+    → contains_by (nat_cmp (votes_and_cost s place)) losers ≡ true

@@ -14,7 +14,7 @@ returns c =
     (then_put _ _ _ _ _ _ c.in_ok-put_own-2.ensures
     (then_put _ _ _ _ _ _ c.in_ok-put_command.ensures
     (then_put _ _ _ _ _ _ c.in_ok-put_own-3.ensures
-    (then_put _ _ _ _ _ _ c.in_ok-say_options.ensures
+    (then_put _ _ _ _ _ _ c.in_ok-tell_options.ensures
     (then_put _ _ _ _ _ _ c.in_ok-put_name.ensures
     (then_put _ _ _ _ _ _ c.in_ok-say_made_by.ensures
     c.put_own-4.ensures))))))))))))

@@ -1,5 +1,3 @@
-use Rattle.std.proofs.Common.{ℕ, List, ap, length}
-use Rattle.std.specs.Prelude.{nat_lt}
 use Rattle.pb_page.specs.Page.{contents}
 use Rattle.pb_page.proofs.Grown.{alike_put, then_put}
 use Rattle.pb_page.proofs.Parts.{contents_are}
@@ -18,5 +16,5 @@ returns c =
     (then_put _ _ _ _ _ _ c.in_ok-put_link-5.ensures
     (then_put _ _ _ _ _ _ c.in_ok-put_link-6.ensures
     c.put_own.ensures))))))))))
-    (contents_are c.args.facts.now c.args.count.now _ _ (ap (λ (places : List ℕ). nat_lt 0 (length places)) c.added.ensures)
+    (contents_are c.args.facts.now c.args.count.now _ _ c.has_added-has_added.ensures
     c.is_some-has_categories.ensures)

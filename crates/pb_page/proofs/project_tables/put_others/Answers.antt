@@ -23,7 +23,7 @@ returns c =
     let all = ap length (c.projects-projects.ensures.projects ∙ ap (λ (e : ElectionView). e.projects) c.election.ensures.election) in
     let some : length (winners_of x.counted) == length x.election.projects ≡ false =
     ne_eqb (length (winners_of x.counted)) (length x.election.projects) (λ e. c.if-winners-projects.false (won ∙ e ∙ sym all)) in
-    alike_put _ _ (others c.args.facts.now x) _ _ (then_put _ _ _ _ _ _ c.in_ok-put.ensures
+    alike_put _ _ (others c.args.facts.now x) _ _ (then_put _ _ _ _ _ _ c.in_ok-put_others_opening.ensures
     (then_put _ _ _ _ _ _ c.in_ok-put_head_category.ensures
     (then_put _ _ _ _ _ _ c.in_ok-put_own.ensures
     (then_put _ _ _ _ _ _ c.in_ok-put_lost_rows.ensures

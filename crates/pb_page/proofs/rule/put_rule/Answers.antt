@@ -1,32 +1,11 @@
-use Rattle.std.proofs.Common.{◌∙◌, ℕ, ap}
-use Rattle.pb_rounds.specs.Outcome.{OutcomeView}
-use Rattle.pb_page.specs.Content.{item, said}
-use Rattle.pb_page.specs.Inner.Counted.{filled_up}
-use Rattle.pb_page.specs.Page.{rule}
-use Rattle.pb_page.proofs.Answered.{share_is}
-use Rattle.pb_page.proofs.Grown.{alike_put, then_put}
-use Rattle.pb_page.proofs.Parts.{rule_is}
+use Rattle.std.proofs.Common.{◌∙◌, sym}
 use Rattle.pb_page.proofs.rule.put_rule.Goals as goal
 
-pub returns : goal.returns
-returns c =
-    let x = c.args.count.now in let l = c.args.language.now in
-    let share = c.share_of-share.ensures ∙ ap (λ (o : OutcomeView). o.share) c.outcome.ensures.outcome in
-    let raised = c.raised_by-raised.ensures ∙ ap (λ (o : OutcomeView). o.raised) c.outcome-2.ensures.outcome in
-    let said_at = λ (k : ℕ). item (said l k) in
-    alike_put _ _ (rule l x c.args.end.now) _ _ (then_put _ _ _ _ _ _ c.in_ok-put.ensures
-    (then_put _ _ _ _ _ _ c.in_ok-put_works.ensures
-    (then_put _ _ _ _ _ _ c.in_ok-put_own.ensures
-    (then_put _ _ _ _ _ _ c.in_ok-put_share.ensures
-    (then_put _ _ _ _ _ _ c.in_ok-put_item.ensures
-    (then_put _ _ _ _ _ _ c.in_ok-put_item-2.ensures
-    (then_put _ _ _ _ _ _ c.in_ok-put_item-3.ensures
-    (then_put _ _ _ _ _ _ c.in_ok-put_end.ensures
-    (then_put _ _ _ _ _ _ c.in_ok-put_item-4.ensures
-    (then_put _ _ _ _ _ _ c.in_ok-put_filled_up.ensures
-    (then_put _ _ _ _ _ _ c.in_ok-put_ties.ensures
-    c.put_own-2.ensures)))))))))))
-    (rule_is l x c.args.end.now _ _ _ _ _ (share_is l _ _ _ _ _ _ c.rule-rule.ensures share raised)
-    (ap said_at (rw c.rule-rule.ensures at c.order_key.ensures))
-    (ap said_at (rw (c.rule-rule.ensures, raised) at c.raises_key.ensures))
-    (ap said_at (rw c.rule-rule.ensures at c.method_key.ensures)) (ap (filled_up l) c.rule-rule.ensures))
+pub put_by_votes-requires : goal.put_by_votes-requires
+put_by_votes-requires c = sym (rw c.rule.ensures at c.has_no_shares.ensures) ∙ c.if-has_no_shares.true
+
+pub returns-then-has_no_shares : goal.returns-then-has_no_shares
+returns-then-has_no_shares c = c.put_by_votes.ensures c.args.end.now
+
+pub put_by_shares-requires-clause-shared : goal.put_by_shares-requires-clause-shared
+put_by_shares-requires-clause-shared c = sym (rw c.rule.ensures at c.has_no_shares.ensures) ∙ c.if-has_no_shares.false

@@ -19,6 +19,6 @@ returns-in-None c =
     let l = c.args.language.now in let x = c.args.count.now in let t = c.args.told.now in
     let at = c.election-election.ensures.election in
     alike_put _ _ (tie l x t) _ _ c.say_item-in-None.ensures
-    (added_tie_is l x t _ _ c.in-None.is
+    (added_tie_is l x t _ _ _ (rw c.rule-in-None.ensures at c.added_key.ensures) c.in-None.is
     (link_is c.election-election.result.now t.winner _ _ c.id_at.ensures c.name_at.ensures ∙ ap (λ (e : ElectionView). linked e t.winner) at)
     (link_is c.election-election.result.now t.other _ _ c.id_at-2.ensures c.name_at-2.ensures ∙ ap (λ (e : ElectionView). linked e t.other) at))

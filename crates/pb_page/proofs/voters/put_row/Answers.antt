@@ -8,5 +8,5 @@ pub returns : goal.returns
 returns c =
     alike_put _ _ (ballots_row c.args.language.now c.args.row.said c.args.row.number c.args.row.ballots c.args.won.now) _ _ (then_put _ _ _ _ _ _ c.in_ok-put.ensures
     (then_put _ _ _ _ _ _ c.in_ok-say.ensures
-    c.put-2.ensures))
+    c.put_ballots.ensures))
     (ballots_are c.args.language.now c.args.row.said c.args.row.number c.args.row.ballots c.args.won.now _ _ c.from.ensures refl (λ none. c.if-at_least-eq0.false (c.at_least.ensures ∙ none)))

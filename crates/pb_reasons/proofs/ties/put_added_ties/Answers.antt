@@ -11,22 +11,22 @@ use Rattle.pb_reasons.proofs.ties.put_added_ties.Goals as goal
 pub loop-winner-init : goal.loop-winner-init
 loop-winner-init c = sym (take_all 100 c.args.ties.now.items c.requires) ∙ ap (take {A = Tie} 100) (sym (append-nil c.args.ties.now.items))
 
-pub put_ties_with-requires-clause-known : goal.put_ties_with-requires-clause-known
-put_ties_with-requires-clause-known c =
+pub put_ties_if_any-requires-clause-known : goal.put_ties_if_any-requires-clause-known
+put_ties_if_any-requires-clause-known c =
     let x = c.args.count.now in
     let is = c.election-election.ensures.is_counted in
     let known : All (λ place. place < length x.election.projects) c.added-added.result.now =
     rw c.added-added.ensures ((result_is_added x.election x.counted is.is_election (counted_is_result x is)).known) in
     known c.loop-winner.winner-index 0 c.loop-winner-test.true
 
-pub put_ties_with-requires-clause-few : goal.put_ties_with-requires-clause-few
-put_ties_with-requires-clause-few c = short_take 100 c.loop-winner.ties.items _ c.loop-winner.invariant
+pub put_ties_if_any-requires-clause-few : goal.put_ties_if_any-requires-clause-few
+put_ties_if_any-requires-clause-few c = short_take 100 c.loop-winner.ties.items _ c.loop-winner.invariant
 
 pub loop-winner-preserved : goal.loop-winner-preserved
 loop-winner-preserved c =
     let x = c.args.count.now in
     added_more (ties_with_added (support_of x.election) x.counted) c.added-added.result.now c.loop-winner.winner-index c.loop-winner-test.true
-    c.args.ties.now.items c.loop-winner.ties.items _ c.loop-winner.invariant c.in_ok-put_ties_with.ensures
+    c.args.ties.now.items c.loop-winner.ties.items _ c.loop-winner.invariant c.in_ok-put_ties_if_any.ensures
 
 pub returns : goal.returns
 returns c =

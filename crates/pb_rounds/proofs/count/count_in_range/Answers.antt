@@ -2,7 +2,7 @@ use Rattle.std.proofs.Common.{refl, arith}
 use Rattle.pb_rounds.specs.Inner.Count.{IsCompletionFault}
 use Rattle.pb_rounds.specs.Counted.{IsCountFault, IsCountOf}
 use Rattle.pb_rounds.specs.Inner.RaiseEnds.{IsCompletion}
-use Rattle.pb_rounds.proofs.Counted.{add1_counted, add1_fault, can_complete, each_err, each_ok, plain_counted}
+use Rattle.pb_rounds.proofs.Counted.{add1_counted, add1_fault, can_complete, each_err, each_ok, no_shares_counted, plain_counted}
 use Rattle.pb_rounds.proofs.count.count_in_range.Goals as goal
 
 pub outcome_after-requires-clause-given : goal.outcome_after-requires-clause-given
@@ -16,6 +16,10 @@ complete-requires-clause-given g c =
 pub returns-in-Plain-clause-counted : goal.returns-in-Plain-clause-counted
 returns-in-Plain-clause-counted g c =
     plain_counted c.args.election.now c.args.options.now c.in_ok-outcome-in-Plain.outcome c.requires.in_range c.in-Plain.is c.in_ok-outcome-in-Plain.ensures
+
+pub returns-in-NoShares-clause-counted : goal.returns-in-NoShares-clause-counted
+returns-in-NoShares-clause-counted g c =
+    no_shares_counted c.args.election.now c.args.options.now c.in_ok-outcome-in-NoShares.outcome c.requires.in_range c.in-NoShares.is c.in_ok-supporters.supporters c.in_ok-supporters.ensures c.in_ok-outcome-in-NoShares.ensures
 
 pub returns-clause-counted : goal.returns-clause-counted
 returns-clause-counted g c =

@@ -1,0 +1,17 @@
+META
+key;value
+budget;60
+vote_type;approval
+PROJECTS
+project_id;cost
+a;25
+b;20
+c;20
+d;30
+e;15
+VOTES
+voter_id;vote
+v1;a,b,c
+v2;a,b,c
+v3;a,d
+v4;d,e

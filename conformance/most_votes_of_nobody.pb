@@ -1,0 +1,16 @@
+META
+key;value
+budget;10
+vote_type;approval
+PROJECTS
+project_id;cost
+a;2
+b;4
+c;4
+d;11
+VOTES
+voter_id;vote
+v1;d,c
+v2;d
+v3;b
+v4;

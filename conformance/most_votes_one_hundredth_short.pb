@@ -1,0 +1,14 @@
+META
+key;value
+budget;10.01
+vote_type;approval
+PROJECTS
+project_id;cost
+a;5.01
+b;5.00
+c;5.01
+VOTES
+voter_id;vote
+v1;a,c
+v2;a,c
+v3;a,b

@@ -1,0 +1,21 @@
+use Rattle.std.proofs.Common.{ℕ, ap}
+use Rattle.pb_page.specs.Content.{item, said}
+use Rattle.pb_page.specs.Inner.Counted.{filled_up}
+use Rattle.pb_page.specs.Page.{rule}
+use Rattle.pb_page.proofs.Grown.{alike_put, then_put}
+use Rattle.pb_page.proofs.Parts.{rule_is}
+use Rattle.pb_page.proofs.rule.put_by_shares.Goals as goal
+
+pub returns : goal.returns
+returns c =
+    let x = c.args.count.now in let l = c.args.language.now in
+    let said_at = λ (k : ℕ). item (said l k) in
+    alike_put _ _ (rule l x c.args.end.now) _ _ (then_put _ _ _ _ _ _ c.in_ok-put.ensures
+    (then_put _ _ _ _ _ _ c.in_ok-put_works.ensures
+    (then_put _ _ _ _ _ _ c.in_ok-put_own.ensures
+    (then_put _ _ _ _ _ _ c.in_ok-put_voted.ensures
+    (then_put _ _ _ _ _ _ c.in_ok-put_item.ensures
+    (then_put _ _ _ _ _ _ c.in_ok-put_filled_up.ensures
+    (then_put _ _ _ _ _ _ c.in_ok-put_ties.ensures
+    c.put_own-2.ensures)))))))
+    (rule_is l x c.args.end.now _ _ (ap said_at (rw c.rule-rule.ensures at c.method_key.ensures)) (ap (filled_up l) c.rule-rule.ensures) c.requires.shared)
