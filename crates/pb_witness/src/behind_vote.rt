@@ -20,7 +20,7 @@ const OF_VOTES: &str = "vote|choice|second|third|preference|project|option|selec
 /// Words of a name that hold no votes, though another word of it is one of those.
 const OF_NO_VOTES: &str =
     "channel|type|method|mode|place|station|date|time|at|status|code|count|number|num|total|form|\
-    against";
+    against|used|many|left|order|group|manager";
 
 /// What a voter writes who makes no further choice.
 const NOTHING: &str = "-|none|nan|null|nil|n/a|na|no|nie|brak";
@@ -80,7 +80,8 @@ impl BehindVote {
             let name = text_at(names, place);
             let is_again = voters > 1 && name.eq_ignore_ascii_case(Column::Vote.name());
             let mut column = VoteColumn::of(place, name, projects);
-            column.is_open = place > vote && !column.holds_none && !is_again;
+            let is_of_row = name.eq_ignore_ascii_case(Column::ProjectId.name());
+            column.is_open = (place > vote || is_of_row) && !column.holds_none && !is_again;
             is_open |= column.is_open;
             columns.push(column)?;
         }
@@ -119,11 +120,11 @@ impl BehindVote {
                 (false, false),
                 |column| (column.holds_none, column.is_of_voters),
             );
-            let is_other = *place != odd.id_place && *place != odd.value_place;
-            is_other
-                && !holds_none
+            let is_id = *place == odd.id_place;
+            *place != odd.value_place
+                && (is_id || !holds_none)
                 && !is_digits(value)
-                && (value.contains(',') || !is_of_voters)
+                && (value.contains(',') || !(is_id || is_of_voters))
                 && names_other(value, &[], row.projects).is_some()
         };
         let Some(place) = (0..row.record.len()).find(may_be) else {

@@ -27,8 +27,7 @@ pub enum Cause {
     NamesAgain,
     /// It is several ids with this between them, or with nothing.
     OnLines,
-    /// It is several ids with a line end between them, and votes have commas: a line may be another vote, or
-    /// the rest of an id.
+    /// It has a line end: behind it may be another vote, the rest of an id, or a note.
     TwoLines,
     Blanks,
     Bars,
@@ -225,8 +224,10 @@ fn plain_cause(id: &str, ids: &Ids, projects: &Projects, has_columns: bool) -> O
         Cause::Cut
     } else if ids.are_apart_by(id, '\n') {
         Cause::OnLines
-    } else if id.contains('\n') {
+    } else if id.contains('\n') && id.contains(';') {
         Cause::Lines
+    } else if id.contains('\n') {
+        Cause::TwoLines
     } else if id.ends_with('=') {
         Cause::Mail
     } else if id.eq_ignore_ascii_case(Column::Vote.name()) {

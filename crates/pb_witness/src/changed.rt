@@ -306,6 +306,11 @@ pub(crate) fn form_of(alloc: Global, id: &str, is_exact: bool) -> Result<String,
     Ok(out)
 }
 
+/// Whether two ids have different forms, where numbers need not be as long.
+pub(crate) fn differ_in_form(alloc: Global, one: &str, other: &str) -> Result<bool, AllocError> {
+    Ok(form_of(alloc, one, false)?.as_str() != form_of(alloc, other, false)?.as_str())
+}
+
 /// How two ids differ that are alike, and whether it is the second that seems to be changed.
 pub(crate) fn how_differs(one: &str, other: &str) -> (Difference, bool) {
     let has_space = |text: &str| text.contains(|c: char| c.is_whitespace());

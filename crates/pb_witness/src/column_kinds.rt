@@ -12,12 +12,15 @@ pub(crate) const NUMBERS: &str =
 pub(crate) const POINTS: usize = 2;
 
 /// What columns are called that say which rows are valid, and how names of further ones begin, such as one
-/// with the day on which a project was withdrawn.
+/// with the day on which a project was withdrawn, but for those with a word of something else.
 const VALID: &str =
     "valid|is_valid|invalid|accepted|status|withdrawn|cancelled|deleted|duplicate|counted|finished|\
-    completed|round|wazny|ważny|gueltig|gültig|platny|platný|geldig|valide";
+    completed|round|wazny|ważny|gueltig|gültig|platny|platný|geldig|valide|validation_status|\
+    _validation_status|eligible|feasible|feasibility|decision|ocena|is_current|submitdate|signature|resident";
 
 const BEGINNINGS: &str = "withdrawn|cancelled|invalid|removed|rejected_|deleted_|revoked|voided";
+
+const OF_OTHERS: &str = "newsletter|last|previous|before|earlier";
 
 /// What columns of votes are called that say of some rows that they are trials, or no longer true.
 const MARKED: &str =
@@ -88,7 +91,7 @@ pub(crate) enum Has {
 /// Whether a column of this name says which rows are valid, or has remarks.
 pub(crate) fn is_of_validity(name: &str) -> bool {
     let is_begun = BEGINNINGS.split('|').any(|word| begins(name, word));
-    is_one_of(VALID, name) || is_one_of(NOTES, name) || is_begun
+    is_one_of(VALID, name) || is_one_of(NOTES, name) || (is_begun && !has_one_of(OF_OTHERS, name))
 }
 
 impl Has {

@@ -10,7 +10,9 @@ use crate::prelude::*;
 const STATES: &str =
     "valid|invalid|yes|no|1|0|true|false|accepted|rejected|refused|approved|withdrawn|cancelled|\
     canceled|deleted|removed|counted|not counted|void|ok|eligible|ineligible|disqualified|duplicate|\
-    blank|spoiled|spoilt|tak|nie|ja|nein|oui|non|si|ano|ne|nee|y|n|t|f|x";
+    blank|spoiled|spoilt|tak|nie|ja|nein|oui|non|si|ano|ne|nee|y|n|t|f|x|wahr|falsch|prawda|fałsz|falsz|\
+    vrai|faux|vero|falso|not approved|not accepted|feasible|unfeasible|infeasible|not feasible|positive|\
+    negative|pozytywna|negatywna|missing|preview|survey preview|spam";
 
 /// What a mark says of votes that are trials, and how it begins where they are true for ever.
 const TRIALS: &str = "test|testing|tests|staging|stage|demo|training|trial|sandbox|dev|development";
@@ -287,19 +289,14 @@ impl FurtherColumn {
 
     /// Whether all that it has are ids of projects, or of voters.
     fn are_others(&self, election: &Election, subject: Subject) -> bool {
-        let mut named = 0u64;
-        if subject == Subject::Voter {
-            for voter in election.voters() {
-                let is_named = self.values.get(voter.id.text()).is_some();
-                named = named.saturating_add(u64::from(is_named));
-            }
+        let is_named = |id: &str| self.values.get(id).is_some();
+        let (voters, projects) = (election.voters().iter(), election.projects().iter());
+        let named = if subject == Subject::Voter {
+            voters.filter(|voter| is_named(voter.id.text())).count()
         } else {
-            for project in election.projects() {
-                let is_named = self.values.get(project.id()).is_some();
-                named = named.saturating_add(u64::from(is_named));
-            }
-        }
-        named == self.count
+            projects.filter(|project| is_named(project.id())).count()
+        };
+        named as u64 == self.count
     }
 
     /// Whether it has the id of each project, in another order. If it numbers the rows, these have to be
@@ -367,9 +364,5 @@ fn is_number(value: &str, projects: u64) -> bool {
 /// Whether a value may be the number of a card: it has a digit, and at most one sign, as no time or address
 /// has.
 fn is_card_number(value: &str) -> bool {
-    let mut signs = 0u64;
-    for c in value.chars() {
-        signs = signs.saturating_add(u64::from(!c.is_alphanumeric()));
-    }
-    signs <= 1 && has_digit(value)
+    value.chars().filter(|c| !c.is_alphanumeric()).count() <= 1 && has_digit(value)
 }

@@ -89,12 +89,7 @@ impl FaultyRecord {
     fn has<P: Fn(&str) -> bool>(&self, is_so: P) -> bool
         requires { P.IsAlwaysCallable is_so }
     {
-        for place in 0..self.record.len() {
-            if is_so(self.at(place)) {
-                return true;
-            }
-        }
-        false
+        (0..self.record.len()).any(|place| is_so(self.at(place)))
     }
 
     /// Whether it is a row of PROJECTS, or of VOTES.
@@ -314,11 +309,8 @@ impl FaultyRecord {
         if self.seen.last.at > self.seen.names.at && self.is_other_half(before.len()) {
             return Some(self.seen.last);
         }
-        let mut behind = text.record_at(self.mark)?;
-        let is_it = behind.advance() && self.is_other_half(behind.last.len());
-        let mark = behind.mark();
-        drop(behind);
-        is_it.then_some(mark)
+        let (behind, mark) = text.find(self.mark, |_| true)?;
+        self.is_other_half(behind.len()).then_some(mark)
     }
 
     /// Whether a row with so many fields is short, and has with this one as many as there are column names,

@@ -6,9 +6,6 @@ use crate::faulty_record::is_hidden;
 use crate::fields::joined;
 use crate::prelude::*;
 
-/// META's head is looked for in so many records after a first one that is none.
-const MOST_BEFORE_META: u64 = 1_000;
-
 /// A row that seems to be meant as the head of a section, and is none.
 #[derive(Clone, Copy)]
 pub struct OddHead {
@@ -92,12 +89,10 @@ pub fn odd_head_of(record: &ByteRecord, mark: Mark) -> Option<OddHead> {
 
 /// Where META's head stands behind the record with this mark, and whether another head is before it.
 pub fn late_meta<R: Files>(text: &Text<'_, R>, first: Mark) -> Option<(Mark, bool)> {
-    let mut records = text.record_at(first)?;
+    let (head, mark) = text.find(first, |row| is_head(text_at(row, 0)))?;
     let is_meta = |row: &ByteRecord| text_at(row, 0).eq_ignore_ascii_case("META");
-    let _ = records.find(MOST_BEFORE_META, |row| is_head(text_at(row, 0)));
-    let is_behind = !is_meta(&records.last);
-    let is_found = !is_behind || records.find(MOST_BEFORE_META, is_meta);
-    let mark = records.mark();
-    drop(records);
-    is_found.then_some((mark, is_behind))
+    if is_meta(&head) {
+        return Some((mark, false));
+    }
+    Some((text.find(mark, is_meta)?.1, true))
 }

@@ -26,7 +26,7 @@ pub struct ReadAgain {
     /// How many votes META says there are.
     claimed: Option<u32>,
     /// If each row names one project, a further column that differs between the rows of a voter.
-    varying: Option<usize>,
+    pub varying: Option<usize>,
 }
 
 /// Why an id is unknown.
@@ -151,11 +151,6 @@ impl Known<'_> {
         } else {
             self.beside_earlier(text, faulty)
         }
-    }
-
-    /// If each row names one project, a further column that differs between the rows of a voter.
-    pub fn varying(&self) -> Option<usize> {
-        self.again.varying
     }
 
     /// The rows among the first that are refused which repeat a voter's id for this reason.

@@ -189,11 +189,9 @@ impl MetaOddities {
         } else if let Some(sum) = sum_below_budget(election) {
             found.take(below.as_a(Oddity::BudgetAboveCosts).by(sum));
         }
-        if let Some(odd) = self.further {
-            if self.has_budget_per || has_districts || odd.number > 1 {
-                found.take(odd.by(0));
-            }
-        }
+        let are_of_parts = self.has_budget_per || has_districts;
+        let further = self.further.filter(|odd| are_of_parts || odd.number > 1);
+        found.take_some(further.map(|odd| odd.by(0)));
     }
 }
 
@@ -234,11 +232,8 @@ fn above_budget(election: &Election) -> usize {
 
 /// What all projects cost together.
 pub(crate) fn sum_of_costs(election: &Election) -> u64 {
-    let mut sum = 0u64;
-    for project in election.projects() {
-        sum = sum.saturating_add(project.cost().0);
-    }
-    sum
+    let projects = election.projects().iter();
+    projects.fold(0, |sum: u64, project| sum.saturating_add(project.cost().0))
 }
 
 /// What all projects cost together, if there are any and it is less than a hundredth of the budget.
@@ -293,11 +288,11 @@ fn claim_of(
 
 /// How many approvals all ballots have.
 fn approvals_of(election: &Election) -> u64 {
-    let mut sum = 0u64;
-    for voter in election.voters() {
-        sum = sum.saturating_add(voter.ballot.places().len() as u64);
-    }
-    sum
+    let lengths = election
+        .voters()
+        .iter()
+        .map(|voter| voter.ballot.places().len());
+    lengths.fold(0, |sum: u64, length| sum.saturating_add(length as u64))
 }
 
 /// The hundredths of the amount that a value is; none if it is no amount or 0, which sets no limit.

@@ -273,6 +273,13 @@ impl Oddities {
         }
     }
 
+    /// Takes an odd record, if there is one.
+    pub(crate) fn take_some(&mut self, odd: Option<Odd>) {
+        if let Some(odd) = odd {
+            self.take(odd);
+        }
+    }
+
     /// Takes these, by where they stand.
     pub(crate) fn take_in_order(&mut self, mut all: Vec<Odd>) -> Result<(), AllocError> {
         let sorted = all.sort_by_key(|odd: &Odd| odd.mark.at);

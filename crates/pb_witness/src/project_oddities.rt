@@ -15,6 +15,11 @@ const TOTALS: &str =
 /// The fewest projects above a last one that is their sum by its cost alone.
 const MANY: usize = 4;
 
+/// The largest amounts that some columns of databases can hold, and how many costs have to be so.
+const LARGEST: &str = "32767|65535|2147483647";
+
+const FEWEST: u64 = 3;
+
 /// What columns are called that name a part of the city.
 const DISTRICTS: &str = "district|subdistrict|neighborhood|subunit";
 
@@ -58,8 +63,10 @@ pub(crate) struct ProjectOddities {
     fewest: Option<u64>,
     twins: Twins,
     further: FurtherColumns,
-    /// The first project whose name says that it is withdrawn, measured by how many there are.
+    /// The first project whose name says that it is withdrawn, measured by how many there are, and the first
+    /// with such a cost.
     withdrawn: Option<Odd>,
+    largest: Option<Odd>,
     accepted: Vec<CheckedProject>,
 }
 
@@ -83,6 +90,7 @@ impl ProjectOddities {
             twins: Twins::new(alloc),
             further: FurtherColumns::of(alloc, names, header, Section::Projects)?,
             withdrawn: None,
+            largest: None,
             accepted: Vec::new(alloc),
         })
     }
@@ -103,6 +111,10 @@ impl ProjectOddities {
             let odd = row.odd(Oddity::ValidColumn).in_form(4);
             let odd = odd.at(self.name.unwrap_or(usize::MAX));
             self.withdrawn = Some(odd.behind(self.withdrawn));
+        }
+        if is_one_of(LARGEST, row.value()) {
+            let odd = row.odd(Oddity::BudgetAboveCosts).in_form(1);
+            self.largest = Some(odd.behind(self.largest));
         }
         self.further.take(row, found)?;
         self.accepted.push(CheckedProject {
@@ -138,9 +150,8 @@ impl ProjectOddities {
         election: &Election,
         found: &mut Oddities,
     ) -> Result<(), AllocError> {
-        if let Some(odd) = self.withdrawn {
-            found.take(odd);
-        }
+        found.take_some(self.withdrawn);
+        found.take_some(self.largest.filter(|odd| odd.number >= FEWEST));
         self.further.end(election, found)
     }
 

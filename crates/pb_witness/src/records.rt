@@ -49,11 +49,11 @@ impl<F: Read> TextRecords<F> {
         true
     }
 
-    /// Reads on to the next record that is so, among so many, and answers whether there is one.
-    pub fn find<P: Fn(&ByteRecord) -> bool>(&mut self, most: u64, is_so: P) -> bool
+    /// Reads on to the next record that is so, and answers whether there is one.
+    pub fn find<P: Fn(&ByteRecord) -> bool>(&mut self, is_so: P) -> bool
         requires { P.IsAlwaysCallable is_so }
     {
-        for _ in 0..most {
+        for _ in 0..u64::MAX {
             if !self.advance() {
                 return false;
             }

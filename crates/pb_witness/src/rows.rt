@@ -11,7 +11,8 @@ const FEWEST: u64 = 3;
 /// The rows of VOTES that were read.
 #[derive(Drop)]
 pub struct VoteRows {
-    /// How many rows are accepted, and how many are refused.
+    /// Where the first row stands that is accepted, how many rows are, and how many are refused.
+    pub(crate) first: Option<Mark>,
     pub accepted: u64,
     pub refused: u64,
     /// How many of these name no project, and something else than words for nothing: without their unknown
@@ -46,6 +47,7 @@ impl VoteRows {
     /// No row yet.
     pub(crate) fn new(alloc: Global) -> VoteRows {
         VoteRows {
+            first: None,
             accepted: 0,
             refused: 0,
             emptied: 0,

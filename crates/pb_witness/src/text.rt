@@ -74,10 +74,22 @@ impl<'a, R: Files> Text<'a, R> {
     /// The record behind the one with this mark, if there is one that can be read again. Behind the start of
     /// the text it is the first record.
     pub fn row_behind(&self, mark: Mark) -> Option<ByteRecord> {
+        Some(self.find(mark, |_| true)?.0)
+    }
+
+    /// The first record behind the one with this mark that is so, and where it stands.
+    pub fn find<P: Fn(&ByteRecord) -> bool>(
+        &self,
+        mark: Mark,
+        is_so: P,
+    ) -> Option<(ByteRecord, Mark)>
+        requires { P.IsAlwaysCallable is_so }
+    {
         let mut records = self.record_at(mark)?;
-        let has_next = records.advance();
+        let is_found = records.find(is_so);
+        let mark = records.mark();
         let row = records.last;
-        if has_next { Some(row) } else { None }
+        if is_found { Some((row, mark)) } else { None }
     }
 
     /// Why the record with this mark is one field that seems to be a whole row, if it is one.
@@ -90,18 +102,13 @@ impl<'a, R: Files> Text<'a, R> {
         joined(&self.row_behind(mark)?)
     }
 
-    /// Whether the record with this mark begins with this word, in any case.
-    pub fn begins_with(&self, mark: Mark, word: &str) -> bool {
-        self.row_at(mark)
-            .is_some_and(|row| text_at(&row, 0).eq_ignore_ascii_case(word))
-    }
-
-    /// The number that the last row of META with this key gives, if it gives one.
+    /// The number that the first row of META with this key gives, if it gives one.
     pub fn number_of(&self, key: &str) -> Option<u32> {
-        let mut records = self.records_from(Mark::start())?;
-        let number = last_number(&mut records, key);
-        drop(records);
-        number
+        let is_so = |row: &ByteRecord| {
+            let word = text_at(row, 0);
+            word.eq_ignore_ascii_case("PROJECTS") || word.eq_ignore_ascii_case(key)
+        };
+        number_in(text_at(&self.find(Mark::start(), is_so)?.0, 1).as_bytes())
     }
 
     /// Whether the record with this mark is the last one.
@@ -149,19 +156,6 @@ fn last_of_section<F: Read>(records: &mut TextRecords<F>) -> Mark {
         mark = records.mark();
     }
     mark
-}
-
-fn last_number<F: Read>(records: &mut TextRecords<F>, key: &str) -> Option<u32> {
-    let mut number = None;
-    for _ in 0..u64::MAX {
-        if !records.advance() || text_at(&records.last, 0).eq_ignore_ascii_case("PROJECTS") {
-            return number;
-        }
-        if text_at(&records.last, 0).eq_ignore_ascii_case(key) {
-            number = number_in(text_at(&records.last, 1).as_bytes());
-        }
-    }
-    number
 }
 
 /// Whether a path names a file. A pipe or a device is none: it has given what it had.

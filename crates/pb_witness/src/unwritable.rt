@@ -6,14 +6,10 @@ use pb_read::read_pb;
 
 /// The first voter of a journal, if it is a file that can be read again, whose id is the name of a section.
 pub fn voter_like_a_heading<R: Files>(journal: &Text<'_, R>) -> Result<Option<String>, AllocError> {
-    let Some(mut records) = journal.records_from(Mark::start()) else {
+    let is_so = |row: &ByteRecord| is_head(text_at(row, 3));
+    let Some((row, _)) = journal.find(Mark::start(), is_so) else {
         return Ok(None);
     };
-    let is_found = records.find(u64::MAX, |row| is_head(text_at(row, 3)));
-    let row = records.last;
-    if !is_found {
-        return Ok(None);
-    }
     Ok(Some(String::from_str(journal.alloc, text_at(&row, 3))?))
 }
 

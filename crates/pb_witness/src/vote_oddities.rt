@@ -8,7 +8,7 @@ use crate::meta_oddities::whole_number;
 use crate::prelude::*;
 use crate::project_oddities::has_total;
 use crate::rankings::Rankings;
-use crate::voter_lists::are_lists;
+use crate::voter_lists::{are_lists, ends_in_projects};
 
 /// What stands in place of an id below a list that was signed.
 const SIGNED: &str = "signed|signature|podpis|unterschrift";
@@ -129,8 +129,10 @@ impl VoteOddities {
         let is_vote = |place: usize| names_other(row.at(place), &[], row.projects).is_some();
         let is_text = |place: usize| !row.at(place).is_empty();
         let has_vote = (self.names..row.record.len()).any(is_vote);
-        let has_text = (self.names..row.record.len()).any(is_text);
-        let form = if has_text && !has_vote { 2 } else { 0 };
+        if !(self.names..row.record.len()).any(is_text) {
+            return;
+        }
+        let form = if has_vote { 0 } else { 2 };
         let odd = row.odd(Oddity::SurplusFields).named_in(self.header);
         found.take(odd.by(self.names as u64).in_form(form));
     }
@@ -185,21 +187,19 @@ impl VoteOddities {
         }
     }
 
-    /// Takes the end of the file, whose accepted rows give this election.
+    /// Takes the end of the file, whose accepted rows give this election with these projects.
     pub(crate) fn end(
         &mut self,
         election: &Election,
+        projects: &Firsts,
         found: &mut Oddities,
     ) -> Result<(), AllocError> {
         let voters = election.voters().len() as u64;
         found.are_numbered = voters > 1 && self.numbered == voters;
         found.has_nothing = self.empty > 0 && has_nothing(election);
         found.are_grouped = self.empty.saturating_mul(2) > voters && are_grouped(election);
-        if let Some(odd) = self.left_out {
-            if odd.number.saturating_mul(2) <= voters {
-                found.take(odd);
-            }
-        }
+        let are_few = |odd: &Odd| odd.number.saturating_mul(2) <= voters;
+        found.take_some(self.left_out.filter(are_few));
         let may_be = self.last_empty > 0 && self.last_empty == self.empty;
         let are_last = may_be && self.are_notes(election)?;
         let is_voter = self.first_has_more && have_spaces(election);
@@ -210,16 +210,18 @@ impl VoteOddities {
                 found.take(odd.as_a(Oddity::NoteRows).by(self.empty));
             }
         }
-        if let (Some(odd), false) = (self.first_note, are_last) {
-            if !have_spaces(election) {
-                found.take(odd.as_a(Oddity::NoteRows).in_form(1));
-            }
-        }
+        let is_note = |_: &Odd| !are_last && !have_spaces(election);
+        let note = self.first_note.filter(is_note);
+        found.take_some(note.map(|odd| odd.as_a(Oddity::NoteRows).in_form(1)));
         let last = self
             .last_row
             .map(|(mark, part)| Odd::of_row(Oddity::FooterRow, mark, part));
         self.last.end(election, last, found);
+        let are_projects = ends_in_projects(self.alloc, election, projects)?;
         let projects = election.projects().len() as u64;
+        if let (Some(odd), true) = (last, are_projects) {
+            found.take(odd.as_a(Oddity::NoteRows).in_form(3).by(projects));
+        }
         if let (Some(odd), true) = (last, self.rankings.are_rankings(projects)) {
             let odd = Odd::of_column(Oddity::VotesWithPoints, self.header, odd.value_place);
             found.take(odd.in_form(1).by(projects));
@@ -319,10 +321,8 @@ fn take_cost(row: &Row<'_>, found: &mut Oddities) {
 
 /// Whether a row whose vote approves so many projects names more.
 fn names_twice(row: &ByteRecord, vote: usize, length: usize) -> bool {
-    let mut commas = 0usize;
-    for byte in bytes_at(row, vote) {
-        commas = commas.saturating_add(usize::from(*byte == b','));
-    }
+    let bytes = bytes_at(row, vote).iter();
+    let commas = bytes.filter(|byte| **byte == b',').count();
     if commas < length {
         return false;
     }
@@ -365,35 +365,22 @@ fn is_note_id(id: &str) -> bool {
 /// Whether the id of the last row is how many there are above, and they are not numbered up to it: no id of
 /// theirs is as long, or the number before it.
 fn is_number_of_rows(election: &Election, above: usize, id: &str) -> bool {
-    let number = above as u64;
-    if number < FEWEST_ROWS || whole_number(id) != Some(number) {
-        return false;
-    }
-    for voter in election.voters().iter().take(above) {
-        let other = voter.id.text();
-        if other.len() == id.len() || whole_number(other) == Some(number.saturating_sub(1)) {
-            return false;
-        }
-    }
-    above.saturating_add(1) == election.voters().len()
+    let (number, mut voters) = (above as u64, election.voters().iter().take(above));
+    let is_like = |other: &str| {
+        other.len() == id.len() || whole_number(other) == Some(number.saturating_sub(1))
+    };
+    number >= FEWEST_ROWS
+        && whole_number(id) == Some(number)
+        && above.saturating_add(1) == election.voters().len()
+        && !voters.any(|voter| is_like(voter.id.text()))
 }
 
 /// Whether a project's id is one that programs read as nothing, and no ballot names it alone.
 fn has_nothing(election: &Election) -> bool {
-    let mut alone = None;
-    for (place, project) in election.projects().iter().enumerate() {
-        if is_one_of(NOTHING, project.id()) {
-            alone = u32::try_from(place).ok();
-        }
-    }
-    let Some(place) = alone else {
-        return false;
-    };
-    let is_it = |vote: &[u32]| matches!(vote, [one] if *one == place);
-    !election
-        .voters()
-        .iter()
-        .any(|voter| is_it(voter.ballot.places()))
+    let (mut projects, mut voters) = (election.projects().iter(), election.voters().iter());
+    let is_nothing = projects.position(|project| is_one_of(NOTHING, project.id()));
+    let is_it = |vote: &[u32]| matches!(vote, [one] if Some(*one as usize) == is_nothing);
+    is_nothing.is_some() && !voters.any(|voter| is_it(voter.ballot.places()))
 }
 
 /// Whether the first ballot is not empty, and each further one is empty or another than the last that is not.

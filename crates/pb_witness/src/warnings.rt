@@ -93,7 +93,7 @@ impl Warnings {
         match part {
             Part::Other | Part::Head(_) => Ok(()),
             Part::Names(section) => self.take_names(row, mark, section, election),
-            Part::Key => self.meta.take(row, mark, self.witness.keys(), found),
+            Part::Key => self.meta.take(row, mark, &self.witness.seen.keys, found),
             Part::Project(_) | Part::Vote(_) => {
                 let row = Row {
                     record: row,
@@ -168,7 +168,7 @@ impl Warnings {
             projects.end(election, self.has_fault, ids, found)?;
         }
         match &mut self.votes {
-            Some(votes) => votes.end(election, found),
+            Some(votes) => votes.end(election, &self.witness.ids.projects, found),
             None => Ok(()),
         }
     }

@@ -3,7 +3,6 @@
 use crate::changed::{is_base64, is_nothing};
 use crate::faulty_record::{FaultyRecord, piece_of};
 use crate::ids::Ids;
-use crate::keys::Keys;
 use crate::prelude::*;
 use crate::rows::VoteRows;
 use crate::seen::Seen;
@@ -62,11 +61,6 @@ impl Witness {
         self.is_of_other_projects() && self.unknown.found.iter().any(is_code)
     }
 
-    /// The rows of META that gave keys so far.
-    pub fn keys(&self) -> &Keys {
-        &self.seen.keys
-    }
-
     /// Takes a record that is accepted, and begins here.
     pub(crate) fn take(&mut self, record: &ByteRecord, mark: Mark, part: Part) {
         self.seen.take(record, mark, part);
@@ -74,6 +68,7 @@ impl Witness {
             self.is_whole = false;
         }
         if let Part::Vote(columns) = part {
+            self.rows.first = self.rows.first.or(Some(mark));
             self.rows.accepted = self.rows.accepted.saturating_add(1);
             let is_cut = bytes_at(record, columns.vote).last() == Some(&b',');
             self.rows.cut = self.rows.cut.saturating_add(u64::from(is_cut));
@@ -100,9 +95,7 @@ impl Witness {
         self.seen.leave_out(record, mark, stage);
         self.ids.leave_out(record, mark, stage)
     }
-}
 
-impl Witness {
     /// Counts a row of VOTES that is refused.
     fn count(
         &mut self,

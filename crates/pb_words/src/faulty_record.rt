@@ -159,12 +159,8 @@ impl<R: Files> Case<'_, R> {
         let has = |row: &ByteRecord, is_other: bool| {
             column_of(row, missing(section, is_other)).is_some()
         };
-        let Some(mut records) = self.text.record_at(self.faulty.mark) else {
-            return false;
-        };
-        let is_found = records.find(u64::MAX, |row| has(row, false) && has(row, true));
-        drop(records);
-        is_found
+        let has_both = |row: &ByteRecord| has(row, false) && has(row, true);
+        self.text.find(self.faulty.mark, has_both).is_some()
     }
 
     /// Whether the row below these column names begins with the needed one that they lack.
@@ -187,17 +183,11 @@ impl<R: Files> Case<'_, R> {
         let section = section_of(&self.faulty.stage);
         let first = missing(section, false);
         let is_first = self.faulty.at(0).eq_ignore_ascii_case(first);
-        let is_one = self.faulty.record.len() == 1;
         let other = missing(section, is_first);
         let is_other = |row: &ByteRecord| {
             row.len() == 1 && text_at(row, 0).eq_ignore_ascii_case(other)
         };
-        let Some(mut records) = self.text.record_at(self.faulty.mark).filter(|_| is_one) else {
-            return false;
-        };
-        let is_found = records.find(u64::MAX, is_other);
-        drop(records);
-        is_found
+        self.faulty.record.len() == 1 && self.text.find(self.faulty.mark, is_other).is_some()
     }
 
     /// Puts what is wrong with a record by itself.
@@ -270,7 +260,7 @@ impl<R: Files> Case<'_, R> {
         match nearly(0) {
             Ok(Some(place)) => match nearly(place.saturating_add(1)) {
                 Ok(Some(other)) => out.fill(
-                    "Find out which of {} and {} is this column, and write `{}` in its place.\n",
+                    "Find out whether {} or {} is this column, and write `{}` in its place. If both are parts of it (costs to be added up, or several choices), make one column of them.\n",
                     &[
                         Quoted(self.faulty.at(place)),
                         Quoted(self.faulty.at(other)),

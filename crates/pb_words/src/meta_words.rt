@@ -52,7 +52,8 @@ impl<R: Files> Case<'_, R> {
     pub(crate) fn put_missing_key(&self, out: &mut WordsWriter) {
         let seen = &self.faulty.seen;
         let (key, remedy) = missing_key(seen.keys.given(MetaKey::Budget).is_some());
-        if self.text.begins_with(seen.names, key.text()) {
+        let names = self.text.row_at(seen.names);
+        if names.is_some_and(|row| text_at(&row, 0).eq_ignore_ascii_case(key.text())) {
             let _ = put_mark(out, self.text, seen.names);
             return out.fill(
                 ": this row, with the key `{}`, was taken for META's row of column names.\nWrite `key;value` on a line of its own above it.\n",
@@ -161,42 +162,34 @@ pub(crate) const ONE_CHOICE: &str = "choose-1";
 /// Puts which row of META seems to be meant as this key, which no row has, and what to do; answers whether
 /// one seems to be.
 fn put_like_key<R: Files>(out: &mut WordsWriter, text: &Text<R>, key: &'static str) -> bool {
-    let Some(mut records) = text.records_from(Mark::start()) else {
+    let is_head = |row: &ByteRecord| text_at(row, 0).eq_ignore_ascii_case("PROJECTS");
+    let found = text.find(Mark::start(), |row| is_head(row) || is_like(row, key));
+    let Some((row, mark)) = found.filter(|(row, _)| !is_head(row)) else {
         return false;
     };
-    let is_head = |row: &ByteRecord| text_at(row, 0).eq_ignore_ascii_case("PROJECTS");
-    let is_found = records.find(u64::MAX, |row| is_head(row) || is_like(row, key));
-    let has_one = is_found && !is_head(&records.last);
-    if has_one {
-        let field = text_at(&records.last, 0);
-        let _ = put_mark(out, text, records.mark());
-        out.fill(
-            ": this row seems to give `{}`, but its key is {}.\nWrite only `{}` before the `;`, and the value behind it.\n",
-            &[Own(key), Quoted(field), Own(key)],
-        );
-        if without_hidden(field).len() == key.len() {
-            put_clean(out, text, "");
-        }
+    let field = text_at(&row, 0);
+    let _ = put_mark(out, text, mark);
+    out.fill(
+        ": this row seems to give `{}`, but its key is {}.\nWrite only `{}` before the `;`, and the value behind it.\n",
+        &[Own(key), Quoted(field), Own(key)],
+    );
+    if without_hidden(field).len() == key.len() {
+        put_clean(out, text, "");
     }
-    drop(records);
-    has_one
+    true
 }
 
 /// Puts which row has this key in another section, and what to do; answers whether one has it.
 fn put_key_elsewhere<R: Files>(out: &mut WordsWriter, text: &Text<R>, key: &'static str) -> bool {
-    let Some(mut records) = text.records_from(Mark::start()) else {
+    let is_it = |row: &ByteRecord| row.len() > 1 && text_at(row, 0).eq_ignore_ascii_case(key);
+    let Some((_, mark)) = text.find(Mark::start(), is_it) else {
         return false;
     };
-    let is_it = |row: &ByteRecord| row.len() > 1 && text_at(row, 0).eq_ignore_ascii_case(key);
-    let is_found = records.find(u64::MAX, is_it);
-    if is_found {
-        out.fill(
-            "The row on line {} has this key, in another section. If it is not a project or a voter, move it into META.\n",
-            &[Number(line_of(text, records.mark()))],
-        );
-    }
-    drop(records);
-    is_found
+    out.fill(
+        "The row on line {} has this key, in another section. If it is not a project or a voter, move it into META.\n",
+        &[Number(line_of(text, mark))],
+    );
+    true
 }
 
 /// Whether a row of META has this key and more.
@@ -279,11 +272,8 @@ pub(crate) fn put_late_meta<R: Files>(out: &mut WordsWriter, text: &Text<R>, fir
 /// Whether a record from the one with this mark on has a key of META, before the one with the other mark.
 fn has_keys<R: Files>(text: &Text<R>, first: Mark, meta: Mark) -> bool {
     let is_key = |row: &ByteRecord| MetaKey::of(text_at(row, 0)).is_some();
-    let is_first = text.row_at(first).is_some_and(|row| is_key(&row));
-    let Some(mut records) = text.record_at(first) else {
-        return false;
-    };
-    let is_found = records.find(u64::MAX, is_key) && records.mark().at < meta.at;
-    drop(records);
-    is_first || is_found
+    text.row_at(first).is_some_and(|row| is_key(&row))
+        || text
+            .find(first, is_key)
+            .is_some_and(|(_, mark)| mark.at < meta.at)
 }

@@ -169,12 +169,10 @@ fn shown<'t>(text: &'t str, otherwise: &'t str) -> PlaceholderValue<'t> {
 
 /// Which markup a sentence has; the empty text where it has none.
 fn markup_in(sentence: &str) -> &'static str {
-    for mark in ["<", ">", "&"] {
-        if sentence.contains(mark) {
-            return mark;
-        }
-    }
-    ""
+    let found = ["<", ">", "&"]
+        .iter()
+        .find(|mark| sentence.contains(**mark));
+    found.copied().unwrap_or("")
 }
 
 /// What a sentence has that could be taken for markup and is none of these; of a line that could not be read

@@ -54,5 +54,5 @@ A file with more than 1,000,000 voters can't be counted.\n",
     "memory ran out.
 Run again on a machine with more memory.\n",
     "`max_length` is not a whole number in digits.
-Write `max_length` in digits, or leave its value empty.\n",
+Write `max_length` in digits. If it means that there is no limit, leave its value empty.\n",
 ];

@@ -161,7 +161,7 @@ impl<R: Files> Case<'_, R> {
         }
         let is_list =
             matches!(self.known.cause_of(self.faulty.piece()), Some(found) if matches!(found.cause, Cause::OnLines | Cause::TwoLines));
-        if !is_list {
+        if !is_list || self.faulty.value().contains(';') {
             let _ = put_over(out, span, true);
         }
     }

@@ -54,7 +54,7 @@ impl<R: Files> Case<'_, R> {
     fn put_apart(&self, out: &mut WordsWriter) {
         out.put("Each row names one project, and ids repeat. ");
         let names = self.text.row_at(self.faulty.seen.names);
-        if let (Some(place), Some(names)) = (self.known.varying(), names) {
+        if let (Some(place), Some(names)) = (self.known.again.varying, names) {
             return out.fill(
                 "But the rows of a voter differ in column {}. Look at a ballot before you change anything: this column may say which rows are votes, or whose they are.\n",
                 &[Quoted(text_at(&names, place))],

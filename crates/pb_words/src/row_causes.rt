@@ -66,18 +66,19 @@ impl<R: Files> Case<'_, R> {
     /// Where a row of PROJECTS, or its column names, has more fields than the row below, and one that ends
     /// with this id.
     fn joined_project(&self, id: &str) -> Option<Mark> {
-        let mut records = self.text.record_at(self.faulty.seen.project_names)?;
+        let names = self.text.row_at(self.faulty.seen.project_names)?;
         let is_end = |field: &str| field.len() > id.len() && field.ends_with(id);
         let ends = |row: &ByteRecord| (1..row.len()).any(|place| is_end(text_at(row, place)));
-        let columns = records.last.len();
+        let columns = names.len();
         let is_long = |row: &ByteRecord| row.len() > columns && ends(row);
-        let is_found = ends(&records.last) || records.find(u64::MAX, is_long);
-        let mark = records.mark();
-        let fields = records.last.len();
-        drop(records);
+        let (row, mark) = if ends(&names) {
+            (names, self.faulty.seen.project_names)
+        } else {
+            self.text.find(self.faulty.seen.project_names, is_long)?
+        };
         let below = self.text.row_behind(mark)?;
         let is_before = mark.at < self.faulty.seen.names.at;
-        (is_found && is_before && below.len() < fields).then_some(mark)
+        (is_before && below.len() < row.len()).then_some(mark)
     }
 
     /// Where a row of PROJECTS was refused whose id is missing, an amount, or this one and more, if no other

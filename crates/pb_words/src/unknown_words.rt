@@ -13,6 +13,10 @@ use pb_witness::unknown::Votes;
 pub(crate) const LATE_PROJECT: &str =
     "This row looks like a project. If it is one, move it above the heading VOTES. If not, ask whoever made the file.\n";
 
+/// What to do about rows of VOTES whose ids are those of projects.
+const LISTED: &str =
+    "This row and one beside it have ids of projects in place of voters: they may be a list or a tally, and no votes. If so, delete all of its rows. If not, ask whoever made the file what is meant.\n";
+
 /// Whether a text ends in a code of a web page without its `;`.
 pub(crate) fn is_cut_code(text: &str) -> bool {
     match text.rsplit_once('&') {
@@ -118,7 +122,7 @@ fn list_remedy(cause: Cause) -> &'static str {
         Cause::NamesAgain => "If this line has the column names again, delete it.\n",
         Cause::OnLines => "The ids are on lines of their own: write `,` between them.\n",
         Cause::TwoLines =>
-            "A line end stands in the vote. It may part two ballots, or an old vote and a new one, or break an id. Look at the voter's ballot, and write all ids that are meant, with `,` between them.\n",
+            "A line end stands in the vote. It may part two ballots, or an old vote and a new one, or break an id, or begin a note. Look at the voter's ballot, and write all ids that are meant, with `,` between them. If a note says that the vote is not valid, delete the row.\n",
         Cause::Blanks => "The vote has spaces between the ids: write `,` instead.\n",
         Cause::Bars => "The vote has `|` between the ids: write `,` instead.\n",
         Cause::Marks => "The vote has another character between the ids: write `,` instead.\n",
@@ -161,7 +165,8 @@ fn difference(difference: Difference) -> &'static str {
         Difference::Spaces => "differs only by spaces",
         Difference::Case => "differs only by capital and small letters",
         Difference::Letters => "differs only by letters that look like digits, such as O and 0",
-        Difference::Front => "has letters before this number",
+        Difference::Front =>
+            "has letters before this number, which may also be a place on the ballot paper, or how many projects are chosen. Look at a ballot first",
         Difference::Zeros =>
             "differs only by zeros before a number, which a spreadsheet takes away",
         Difference::Hidden => "",
@@ -173,13 +178,11 @@ fn difference(difference: Difference) -> &'static str {
 fn clean_of(place: &UnknownPiece) -> Option<&'static str> {
     let (vote, project) = (place.id, place.project);
     match place.cause {
-        Cause::Bars | Cause::Brackets | Cause::Quotes | Cause::PointZero | Cause::NamesAgain => {
-            Some("")
-        }
+        Cause::LeftOut => None,
         Cause::Nothing | Cause::Beside | Cause::Unknown => Some(DROP_UNKNOWN),
-        Cause::Alike(Hidden, false) if without_hidden(vote) == project => Some(""),
-        Cause::Alike(Hidden, true) if without_hidden(project) == vote => Some(""),
-        _ => None,
+        Cause::Alike(Hidden, false) => (without_hidden(vote) == project).then_some(""),
+        Cause::Alike(Hidden, true) => (without_hidden(project) == vote).then_some(""),
+        cause => is_mended(cause).then_some(""),
     }
 }
 
@@ -235,6 +238,10 @@ impl<R: Files> Case<'_, R> {
                     | Cause::Nothing
                     | Cause::Alike(Difference::Front, _)
             );
+        let may_be = is_open || found.cause == Cause::Name;
+        if may_be && self.faulty.is_listed(self.text, self.known.witness) {
+            return out.put(LISTED);
+        }
         if is_open && self.put_row_cause(out) {
             return;
         }

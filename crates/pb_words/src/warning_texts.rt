@@ -1,6 +1,6 @@
 //! What is said of each kind of warning, in the order in which `Oddity` declares them: a text for each form
 //! of it. A text has three lines: what is odd, with what is known of the row in place of names in braces; the
-//! same where the row can't be read again; and what to do.
+//! same where the row can't be read again, unless it is equal; and what to do.
 
 /// What to do about three digits behind a mark where other amounts have decimals.
 pub(crate) const BESIDE_DECIMALS: &str =
@@ -86,9 +86,8 @@ If the last field says that the vote is not valid, take the row out. If `;` is b
     &[TOO_SHORT, STRAY_VOTE, TOO_CHEAP],
     &[
         "the ballot is empty
-the ballot is empty
-It is counted, and its voter gets a share of the budget. If your rules do not allow it, and no other warning is \
-    about the row, delete the row.",
+It is counted, and by equal shares its voter gets a share of the budget. If your rules do not allow it, and no \
+    other warning is about the row, delete the row.",
         STRAY_VOTE,
     ],
     &[
@@ -178,15 +177,14 @@ Check whether the budget lacks digits, or is in another unit than the costs (tho
 the last {number} rows have no vote; every row above has one
 They are counted as voters. If they are totals or notes, delete these rows.",
         "the vote is empty, and the id looks like a note. This concerns {rows}
-the vote is empty, and the id looks like a note. This concerns {rows}
 It is counted as a voter. If it is a heading, a total or a note, delete the row.",
         "the id begins with a sign by which programs leave rows out. This concerns {rows}
-the id begins with a sign by which programs leave rows out. This concerns {rows}
 It is counted as a voter. If it should be left out, delete the row. If not, write the id without the sign.",
+        "the ids of the last {number} rows are those of all projects
+They are counted as voters. If these rows are a list of the projects or a tally, delete them.",
     ],
     &[
         "a field in quotation marks runs over several lines that look like rows
-a field in quotation marks runs over several lines that look like rows
 If each line should be a row of its own, delete the quotation marks.",
         "this row is taken for META's row of column names, so its value is ignored
 the first row of META is taken for its row of column names, so its value is ignored
@@ -289,6 +287,9 @@ If so, look at the ballots, and write a row for each voter. If not, delete the l
         "all projects together cost {sum}, which is less than a hundredth of it
 all projects together cost less than a hundredth of the budget
 Check whether the costs are in another unit than the budget (thousands, for example).",
+        "the cost {value} is the most that some columns of databases can hold, and {projects} have a cost like this
+several projects have a cost that is the most that some columns of databases can hold
+Check whether larger costs were cut. If so, get the costs again.",
     ],
     &[
         "its numbers are ignored: every row is counted as one ballot

@@ -5,6 +5,7 @@ use crate::prelude::*;
 use crate::warning_texts::{AS_ABOVE, BESIDE_DECIMALS, READ_AS_NOTHING, ROW_NUMBERS, TEXTS};
 use pb_core::money::Money;
 use pb_read::Oddity;
+use pb_rounds::options::Completion;
 use pb_rounds::rule::Rule;
 use pb_witness::changed::is_one_of;
 use pb_witness::fields::{column_of, number_in};
@@ -12,7 +13,10 @@ use pb_witness::firsts::twice_in;
 use pb_witness::oddities::{MOST, Odd, Oddities};
 use pb_witness::quote::span_of;
 
-/// What META writes that names no other rule than that of any count.
+/// What META writes that names no rule.
+const NO_RULE: &str = "unknown|-";
+
+/// What META writes that names no other rule than that of any count by equal shares.
 const NO_OTHER_RULE: &str = "unknown|-|mes|method of equal shares";
 
 /// What is said of a row that is odd: what, with what is known of the row; the same where the row is not
@@ -20,8 +24,8 @@ const NO_OTHER_RULE: &str = "unknown|-|mes|method of equal shares";
 fn said_of(odd: &Odd) -> (&'static str, &'static str, &'static str) {
     let forms = TEXTS.get(odd.oddity as usize).copied().unwrap_or(&[]);
     let said = forms.get(odd.form).copied().unwrap_or("");
-    let (what, rest) = said.split_once('\n').unwrap_or((said, ""));
-    let (alone, remedy) = rest.split_once('\n').unwrap_or((rest, ""));
+    let (what, remedy) = said.rsplit_once('\n').unwrap_or((said, ""));
+    let (what, alone) = what.split_once('\n').unwrap_or((what, what));
     (what, alone, remedy)
 }
 
@@ -50,7 +54,11 @@ pub fn rule_words<R: Files>(
 ) -> Said {
     let mut out = WordsWriter::new(alloc);
     let (rule, mark) = named;
-    let is_other = !is_one_of(NO_OTHER_RULE, rule);
+    let none_other = match counted.options.completion {
+        Completion::Plain | Completion::Add1 => NO_OTHER_RULE,
+        Completion::NoShares => NO_RULE,
+    };
+    let is_other = !is_one_of(none_other, rule);
     if is_other && !rule.eq_ignore_ascii_case(counted.word()) {
         let text = Text::new(rt, alloc, path);
         if text.is_file() {
@@ -116,15 +124,13 @@ fn put_more(out: &mut WordsWriter, oddity: Oddity, more: u64, is_of_check: bool)
         "more row"
     };
     out.fill("{} applies to {}", &[Own(oddity.name()), Count(more, unit)]);
-    if is_of_check {
-        out.put(", not listed here.\n");
-    } else if more == 1 {
-        out.put("; `pb_app check` lists it.\n");
-    } else if more < MOST {
-        out.put("; `pb_app check` lists them.\n");
-    } else {
-        out.fill("; `pb_app check` lists the first {}.\n", &[Number(MOST)]);
-    }
+    let form = match more {
+        _ if is_of_check => ", not listed here.\n",
+        1 => "; `pb_app check` lists it.\n",
+        _ if more < MOST => "; `pb_app check` lists them.\n",
+        _ => "; `pb_app check` lists the first {}.\n",
+    };
+    out.fill(form, &[Number(MOST)]);
 }
 
 /// Puts what is said of an odd record.
@@ -248,17 +254,16 @@ fn put_all_break(out: &mut WordsWriter, odd: &Odd, oddities: &Oddities) -> bool 
     let voters = oddities.voters;
     let are_nearly_all = count.saturating_mul(10) >= voters.saturating_mul(9);
     let is_long = odd.oddity == Oddity::TooLongBallot;
-    let form = match (is_long, count == voters) {
-        _ if oddities.has_no_length =>
-            "`min_length` is more than `max_length`, so no ballot keeps both: check these keys.\n",
-        (true, true) => "All ballots break `max_length` {}: check the key.\n",
-        (true, false) => "Nearly all ballots break `max_length` {}: check the key.\n",
-        (false, true) => "All ballots break `min_length` {}: check the key.\n",
-        (false, false) => "Nearly all ballots break `min_length` {}: check the key.\n",
-    };
+    let who = if count == voters { "All" } else { "Nearly all" };
+    let key = if is_long { "max_length" } else { "min_length" };
     let is_so = voters > 1 && (oddities.has_no_length || are_nearly_all);
+    let form = if oddities.has_no_length {
+        "`min_length` is more than `max_length`, so no ballot keeps both: check these keys.\n"
+    } else {
+        "{} ballots break `{}` {}: check the key.\n"
+    };
     if is_so {
-        out.fill(form, &[Number(odd.limit.unwrap_or(0))]);
+        out.fill(form, &[Own(who), Own(key), Number(odd.limit.unwrap_or(0))]);
     }
     is_so
 }
