@@ -170,10 +170,13 @@ def files_in_order(crate, reached):
 def print_definitions(crate, definitions, reached):
     for file in files_in_order(crate, reached.values()):
         print(f"\n-- {file}")
-        seen = set()
+        seen, module = set(), ()
         for definition in definitions[crate].values():
             if definition.file == file and definition.key() in reached and definition.key() not in seen:
                 seen.add(definition.key())
+                if definition.module != module:
+                    module = definition.module
+                    print("\n" + "\n".join(module or ["-- of no module"]))
                 print("\n" + "\n".join(definition.comment + definition.lines))
 
 
@@ -210,7 +213,10 @@ def print_book(crates, contracts, definitions, book):
 
 
 def lines_of(reached, crate):
-    return sum(len(d.lines) for d in reached.values() if d.crate == crate)
+    """How many lines the definitions have, with the heads of the modules that they stand in."""
+    own = [one for one in reached.values() if one.crate == crate]
+    modules = {(one.file, one.module) for one in own}
+    return sum(len(one.lines) for one in own) + sum(len(module) for _, module in modules)
 
 
 def words_named(rows):

@@ -27,6 +27,8 @@ class Definition:
     comment: list
     lines: list
     uses: list = field(default_factory=list)
+    # The lines at the head of the module with parameters that it stands in, if it stands in one.
+    module: tuple = ()
 
     def key(self):
         return (self.crate, self.file, self.name)
@@ -97,24 +99,31 @@ def definitions_of(crate):
         file = ".".join(path.relative_to(specs).with_suffix("").parts)
         text = path.read_text()
         imports = imports_of(text)
-        comment, current, within = [], None, ""
+        comment, current, within, module = [], None, "", ()
         for line in text.splitlines():
-            # The definitions of a module with parameters stand two columns in.
+            # The definitions of a module with parameters stand two columns in, behind its head.
             within = "  " if line.startswith("module ") else within if line[:2] in ("", "  ") else ""
+            if line.startswith("module "):
+                module = (line,)
+                continue
+            if within and module and not module[-1].endswith(" where"):
+                module += (line,)
+                continue
+            module = module if within else ()
             line = line.removeprefix(within)
             if line.startswith("--"):
                 comment.append(line)
                 current = None
             elif not line.strip():
                 comment, current = [], None
-            elif line.startswith(("use ", "pub mod ", "module ")):
+            elif line.startswith(("use ", "pub mod ")):
                 current = None
             elif current is not None:
                 current.lines.append(line)
             else:
                 match = DEFINITION.match(line)
                 name = match.group(1) if match else line.split()[0]
-                current = Definition(crate, file, name, comment, [line])
+                current = Definition(crate, file, name, comment, [line], module=module)
                 found[(file, name)] = current
                 comment = []
         for (other, _), definition in list(found.items()):

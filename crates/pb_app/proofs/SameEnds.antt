@@ -39,7 +39,7 @@ module _ {X Y : Type 0} (Gives : List ℕ → X → Y → Type 0) (Refuses : Lis
         (passed_on (λ x. x) Gives Refuses Gives Refuses files beside beside warning {T = Unit {0}} {A = T} fault (λ x is. is) (λ bytes x e refused. refused)
         (λ bytes x y gives. (y, gives)) apart ends)
     | inr is ↦ subst (EndsSo T) (sym (write is))
-        (let failed = subst (EndsSo (Unit {0})) is ends in memory_end Gives Refuses files beside warning {T = T} failed.judges.1 failed.judges.0)
+        (let failed = subst (EndsSo (Unit {0})) is ends in memory_end Gives Refuses files beside warning {T = T} failed.judges.0.1 failed.judges.0.0)
   ]
 
   -- something is said

@@ -14,6 +14,8 @@ pub(crate) struct KeepingWatch<'w, H, K> {
 }
 
 impl<H: Heed, K: Watch> Watch for KeepingWatch<'_, H, K> {
+    ghost shown = { λ watch. H.shown watch.warnings.now };
+
     fn see(&mut self, record: &ByteRecord, at: u32, part: Part, election: &Election) {
         self.warnings.see(record, at, part, election);
         self.keeper.see(record, at, part, election);

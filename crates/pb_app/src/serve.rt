@@ -121,8 +121,8 @@ fn serve_device<R: System, W: Write>(
     mut device: FileDevice<'_, R>,
     writer: &mut W,
 ) -> Result<u64, RunRefusal> {
-    let standing = match seen_on(serving, &mut device) {
-        Ok(standing) => standing,
+    let belonging = match seen_on(serving, &mut device) {
+        Ok(belonging) => belonging,
         Err(refusal) => {
             drop(device);
             drop(election);
@@ -132,7 +132,7 @@ fn serve_device<R: System, W: Write>(
     let failure = device.failure();
     let (desk, torn) = open_on(serving, election, device)?;
     let kinship = serving.run.kinship;
-    if let Err(refusal) = kinship.keep_belonging(serving.rt, serving.journal, standing) {
+    if let Err(refusal) = kinship.keep_belonging(serving.rt, serving.journal, belonging) {
         drop(desk);
         return Err(refusal);
     }
@@ -158,12 +158,12 @@ fn seen_on<R: System>(
             ));
         }
     };
-    let standing = serving
+    let belonging = serving
         .run
         .kinship
         .belonging_for_desk(serving.rt, serving.journal, bytes.as_slice());
     drop(bytes);
-    standing
+    belonging
 }
 
 /// Says the first id that is itself a number below the number of projects, where rows name projects by their

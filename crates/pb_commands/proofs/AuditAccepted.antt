@@ -81,6 +81,6 @@ pub one_audit : (demand : Demand) (rule : Rule) (bytes journal : List ℕ) (a b 
 one_audit demand rule bytes journal a b first second =
     let d = first.0 in
     let P : DeskView → Type 0 = λ d. IsTextOf rule d b in
-    let written = subst P (one_desk bytes journal second.0 d second.1 first.1) second.3 in
-    one_desk_text rule (standing_of d).is_shut (closed_election d) (text_of_row (entries_row d)) a b first.3.0 written.0
-    first.3.1 written.1 first.3.2 written.2
+    let written = subst P (one_desk bytes journal second.0 d second.1 first.1) second.2.1 in
+    one_desk_text rule (standing_of d).is_shut (closed_election d) (text_of_row (entries_row d)) a b first.2.1.0 written.0
+    first.2.1.1 written.1 first.2.1.2 written.2

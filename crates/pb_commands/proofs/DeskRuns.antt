@@ -1,6 +1,5 @@
 -- Runs of `desk` whose bytes may be known.
 use Rattle.std.proofs.Common.{◌≡◌, ◌≢◌, ℕ, Bool, List, [], ◌∷◌, ◌++◌, length, Option, Some, None, Err, refl, ap, subst, arith, length-append}
-use Rattle.std.proofs.lemmas.Option.{none-some}
 use Rattle.std.specs.List.{AllZip}
 use Rattle.std.specs.Prelude.{IfSome}
 use Rattle.pb_core.specs.Election.{ElectionView}
@@ -24,11 +23,11 @@ use Rattle.pb_commands.specs.Closed.{Leaves, LeavesNone}
 use Rattle.pb_commands.specs.DeskRun.{DeskRefuses, DeskWrites, admission_on}
 use Rattle.pb_commands.specs.declared.run_desk.Rules.{Rules}
 use Rattle.pb_commands.specs.Inner.DeskRun.{unserved}
-use Rattle.pb_commands.specs.Ends.{Ends, IfBothKnown, Judges}
+use Rattle.pb_commands.specs.Ends.{Ends, IfBothKnown}
 use Rattle.pb_commands.specs.Inner.Outside.{IsOutsideFault}
 use Rattle.pb_faults.specs.Fault.{merged}
 use Rattle.pb_faults.specs.declared.fault.AppFault.{AppFault}
-use Rattle.pb_faults.specs.declared.fault.AppFault.TheVariants.{Script, Warned, Write}
+use Rattle.pb_faults.specs.declared.fault.AppFault.TheVariants.{Script, Write}
 use Rattle.pb_commands.proofs.Accepted.{merged_again}
 use Rattle.pb_commands.proofs.Endings.{Bars, FailsAs, IsLate, given_end, late_end, passed_on}
 use Rattle.pb_commands.proofs.InputEnds.{is_file}
@@ -68,11 +67,9 @@ script_from_outside a clerks records said fault is fails = by fault fails.1 fail
     by script.TooManyRows (fields ∷ rest) are next = let few = is.few in absurd (omega (arith, next, ap length are, length-append fails.0 (fields ∷ rest)))
     by script.NoMemory left are next = refl
 
--- what refuses a file alone; no warning does
-own_refuses : (T : Type 0) (rules : Rules) (rows : List ℕ) (clerks : ℕ) (bytes : List ℕ) (e : ElectionView) (files : Option (List ℕ)) (fault : AppFault) → Judges {T = T} files None (Err fault)
-    → LeavesNone bytes None e fault → DeskRefuses rules rows clerks e fault
-own_refuses T rules rows clerks bytes e files (Warned warning) judges refused = absurd (none-some warning judges.0)
-own_refuses T rules rows clerks bytes e files fault judges refused = absurd refused
+-- nothing but its own fault refuses a file alone
+own_refuses : (rules : Rules) (rows : List ℕ) (clerks : ℕ) (bytes : List ℕ) (e : ElectionView) (fault : AppFault) → LeavesNone bytes None e fault → DeskRefuses rules rows clerks e fault
+own_refuses rules rows clerks bytes e fault refused = absurd refused
 
 unserved_late : (fault : ServeFault) → IsLate (unserved fault)
 unserved_late (serve.Script script.NoMemory) = tt
@@ -99,9 +96,9 @@ module _ (rules : Rules) (clerks : ℕ) (shuts : Bool) (files scripts : Option (
 
   pub own_passes : {T A : Type 0} (fault : AppFault) → fault ≢ Write → Ends {T = T} Leaves LeavesNone files (Some None) None (Err fault)
       → Ends {T = A} (λ bytes rows. DeskWrites rules bytes rows clerks shuts) (λ _ rows. DeskRefuses rules rows clerks) files scripts None (Err fault)
-  own_passes {T = T} fault reads ends =
+  own_passes fault reads ends =
       passed_on (λ (rows : List ℕ). None) Leaves LeavesNone Makes Refused files (Some None) scripts None fault (λ rows is. refl)
-      (λ bytes rows e refused. own_refuses T rules rows clerks bytes e files fault ends.judges refused) (λ bytes rows text writes. (writes.0, writes.1)) reads ends
+      (λ bytes rows e refused. own_refuses rules rows clerks bytes e fault refused) (λ bytes rows text writes. (writes.0, writes.1)) reads ends
 
   module _ (e : ElectionView) (stands : IfSome files (λ bytes. StandsFor (records_of bytes) e)) where
     not_served : (fault : ServeFault) (bytes rows : List ℕ) → StandsFor (records_of bytes) e → IsServeFault (admission_on rules e) clerks (records_of rows) fault

@@ -7,7 +7,7 @@ use Rattle.pb_core.specs.Election.{ElectionView}
 use Rattle.pb_read.specs.StandsFor.{StandsFor}
 use Rattle.pb_read.specs.declared.warning.Warning.{Warning}
 use Rattle.pb_rows.specs.Reading.{records_of}
-use Rattle.pb_commands.specs.Ends.{Ends, FailsBy, IfBothKnown, Judges, Runs}
+use Rattle.pb_commands.specs.Ends.{Ends, IfBothKnown, Judges, Runs}
 use Rattle.pb_commands.specs.Inner.Written.{HasWritten}
 use Rattle.pb_commands.specs.Inner.Outside.{IsOutsideFault}
 use Rattle.pb_faults.specs.Fault.{merged}
@@ -53,35 +53,23 @@ known_through f P Q None beside other is each holds = tt
 known_through f P Q (Some bytes) beside None is each holds = tt
 known_through f P Q (Some bytes) beside (Some z) is each holds = each bytes z (subst (λ x. IfSome x (P bytes)) (is z refl) holds)
 
--- the file is judged alike before every answer with this fault
-judges_too : (T A : Type 0) (files : Option (List ℕ)) (warning : Option Warning) (fault : AppFault) → Judges {T = T} files warning (Err fault) → Judges {T = A} files warning (Err fault)
-judges_too T A files warning (Read fault) is = is
-judges_too T A files warning (Open number) is = is
-judges_too T A files warning Memory is = is
-judges_too T A files warning (Warned other) is = is
-judges_too T A files warning fault is = is
-
-judges_late : (T : Type 0) (files : Option (List ℕ)) (warning : Option Warning) (fault : AppFault) → IsLate fault → IfSome files (λ bytes. IsElectionFile bytes) → warning ≡ None
-    → Judges {T = T} files warning (Err fault)
-judges_late T files warning (Read fault) late is none = absurd late
-judges_late T files warning (Open number) late is none = absurd late
-judges_late T files warning Memory late is none = tt
-judges_late T files warning (Warned other) late is none = absurd late
-judges_late T files warning (Serving why) late is none = absurd late
-judges_late T files warning fault late is none = (none, is)
-
--- what refuses one election refuses another in its way
-fails_too : {Y V : Type 0} (Refuses Others : ElectionView → AppFault → Type 0) (P : Y → Type 0) (Q : V → Type 0) (bytes : List ℕ) (fault : AppFault) → fault ≢ Write
-    → ((e : ElectionView) → Refuses e fault → Others e fault) → FailsBy Refuses P bytes fault → FailsBy Others Q bytes fault
-fails_too Refuses Others P Q bytes (Read fault) other each fails = fails
-fails_too Refuses Others P Q bytes Write other each fails = absurd (other refl)
-fails_too Refuses Others P Q bytes Memory other each fails = tt
-fails_too Refuses Others P Q bytes fault other each fails = (fails.0, fails.1, each fails.0 fails.2)
-
 module _ {X Y : Type 0} (Gives : List ℕ → X → Y → Type 0) (Refuses : List ℕ → X → ElectionView → AppFault → Type 0) where
-  -- the bytes bring this fault
+  -- the bytes bring this fault, which comes once the file has none
   abbrev pub FailsAs : AppFault → List ℕ → X → Type 0
-  FailsAs fault bytes x = FailsBy (Refuses bytes x) (Gives bytes x) bytes fault
+  FailsAs (Read fault) bytes x = ⊥
+  FailsAs Write bytes x = (y : Y) × Gives bytes x y
+  FailsAs Memory bytes x = ⊤
+  FailsAs fault bytes x = (e : ElectionView) × StandsFor (records_of bytes) e × Refuses bytes x e fault
+
+  judges_late : (T : Type 0) (files : Option (List ℕ)) (beside : Option X) (warning : Option Warning) (fault : AppFault) → IsLate fault → IfSome files (λ bytes. IsElectionFile bytes)
+      → warning ≡ None → IfBothKnown files beside (FailsAs fault) → Judges {T = T} Gives Refuses files beside warning (Err fault)
+  judges_late T files beside warning (Read fault) late is none fails = absurd late
+  judges_late T files beside warning (Open number) late is none fails = absurd late
+  judges_late T files beside warning Memory late is none fails = tt
+  judges_late T files beside warning (Warned other) late is none fails = absurd late
+  judges_late T files beside warning (Serving why) late is none fails = absurd late
+  judges_late T files beside warning Write late is none fails = ((none, is), fails)
+  judges_late T files beside warning fault late is none fails = ((none, is), fails)
 
   -- they give nothing, unless the fault comes from outside
   abbrev pub Bars : AppFault → List ℕ → X → Type 0
@@ -99,9 +87,8 @@ module _ {X Y : Type 0} (Gives : List ℕ → X → Y → Type 0) (Refuses : Lis
   pub late_end : {T : Type 0} (fault : AppFault) → IsLate fault → merged fault ≡ fault → IfSome files (λ bytes. IsElectionFile bytes) → warning ≡ None
       → IfBothKnown files beside (FailsAs Gives Refuses fault) → IfBothKnown files beside (Bars Gives Refuses fault) → Ends {T = T} Gives Refuses files beside warning (Err fault)
   late_end {T = T} fault late again is none fails bars = record {
-    fault = fails;
     accepts = λ _. bars;
-    judges = judges_late T files warning fault late is none;
+    judges = judges_late Gives Refuses T files beside warning fault late is none fails;
     one_memory = again;
   }
 
@@ -111,7 +98,6 @@ module _ {X Y : Type 0} (Gives : List ℕ → X → Y → Type 0) (Refuses : Lis
   -- something is given
   pub given : {T : Type 0} (value : T) → IfSome files (λ bytes. IsElectionFile bytes) → warning ≡ None → Ends {T = T} Gives Refuses files beside warning (Ok value)
   given {T = T} value is none = record {
-    fault = known_all (λ bytes x. IfErr {T = T} (Ok value) (FailsBy (Refuses bytes x) (Gives bytes x) bytes)) files beside (λ bytes x. tt);
     accepts = λ _. known_all (λ bytes x. (y : Y) → Gives bytes x y → IfErr {T = T} (Ok value) IsOutsideFault) files beside (λ bytes x y gives. tt);
     judges = (none, is);
     one_memory = tt;
@@ -126,13 +112,25 @@ module _ {X Z Y V : Type 0} (f : Z → X) (Gives : List ℕ → X → Y → Type
       → ((bytes : List ℕ) (z : Z) (v : V) → Makes bytes z v → (y : Y) × Gives bytes (f z) y)
       → fault ≢ Write → Ends {T = T} Gives Refuses files beside warning (Err fault) → Ends {T = A} Makes Others files other warning (Err fault)
   passed_on {T = T} {A = A} fault is refuses makes reads ends = record {
-    fault = known_through f (FailsAs Gives Refuses fault) (FailsAs Makes Others fault) files beside other is
-        (λ bytes z fails. fails_too (Refuses bytes (f z)) (Others bytes z) (Gives bytes (f z)) (Makes bytes z) bytes fault reads (refuses bytes z) fails) ends.fault;
     accepts = λ none. known_through f (Bars Gives Refuses fault) (Bars Makes Others fault) files beside other is
         (λ bytes z bars v made. let given = makes bytes z v made in bars given.0 given.1) (ends.accepts none);
-    judges = judges_too T A files warning fault ends.judges;
+    judges = judged fault refuses reads ends.judges;
     one_memory = ends.one_memory;
   }
+    where
+      judged : (fault : AppFault) → ((bytes : List ℕ) (z : Z) (e : ElectionView) → Refuses bytes (f z) e fault → Others bytes z e fault) → fault ≢ Write
+          → Judges {T = T} Gives Refuses files beside warning (Err fault) → Judges {T = A} Makes Others files other warning (Err fault)
+      judged (Read fault) refuses reads ends = ends
+      judged (Open number) refuses reads ends = ends
+      judged (Serving why) refuses reads ends = ends
+      judged Memory refuses reads ends = ends
+      judged (Warned warning) refuses reads ends = ends
+      judged Write refuses reads ends = absurd (reads refl)
+      judged fault refuses reads ends = (
+        ends.0,
+        known_through f (FailsAs Gives Refuses fault) (FailsAs Makes Others fault) files beside other is
+            (λ bytes z fails. (fails.0, fails.1, refuses bytes z fails.0 fails.2)) ends.1,
+      )
 
 -- where a journal is read it is one that may be
 module _ {X Y : Type 0} (Gives : List ℕ → Option X → Y → Type 0) (Refuses : List ℕ → Option X → ElectionView → AppFault → Type 0) (files : Option (List ℕ)) (beside : Option X)
@@ -140,12 +138,21 @@ module _ {X Y : Type 0} (Gives : List ℕ → Option X → Y → Type 0) (Refuse
   pub end_of_some : {T : Type 0} (r : Result T AppFault) → Ends {T = T} (λ bytes x. Gives bytes (Some x)) (λ bytes x. Refuses bytes (Some x)) files beside warning r
       → Ends {T = T} Gives Refuses files (option_map Some beside) warning r
   end_of_some (Ok value) ends = given Gives Refuses files (option_map Some beside) warning value ends.judges.1 ends.judges.0
-  end_of_some (Err fault) ends = record {
-    fault = known_some (FailsAs Gives Refuses fault) files beside ends.fault;
+  end_of_some {T = T} (Err fault) ends = record {
     accepts = λ none. known_some (Bars Gives Refuses fault) files beside (ends.accepts none);
-    judges = ends.judges;
+    judges = judged fault ends.judges;
     one_memory = ends.one_memory;
   }
+    where
+      judged : (fault : AppFault) → Judges {T = T} (λ bytes x. Gives bytes (Some x)) (λ bytes x. Refuses bytes (Some x)) files beside warning (Err fault)
+          → Judges {T = T} Gives Refuses files (option_map Some beside) warning (Err fault)
+      judged (Read fault) ends = ends
+      judged (Open number) ends = ends
+      judged (Serving why) ends = ends
+      judged Memory ends = ends
+      judged (Warned warning) ends = ends
+      judged Write ends = (ends.0, known_some (FailsAs Gives Refuses Write) files beside ends.1)
+      judged fault ends = (ends.0, known_some (FailsAs Gives Refuses fault) files beside ends.1)
 
 -- runs
 module _ {X W : Type 0} (IsText : List ℕ → X → List ℕ → Type 0) (Refuses : List ℕ → X → ElectionView → AppFault → Type 0)

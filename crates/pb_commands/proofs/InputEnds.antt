@@ -42,7 +42,7 @@ file_of bytes (Some journal) e leaves = (leaves.0.opening.election, leaves.1.sta
 pub one_left : (bytes : List ℕ) (journal : Option (List ℕ)) (a b : ElectionView) → Leaves bytes journal a → Leaves bytes journal b → a ≡ b
 one_left bytes None a b first second = one_election (records_of bytes) a b first second
 one_left bytes (Some journal) a b first second =
-    first.3 ∙ ap closed_election (one_desk bytes journal first.0 second.0 first.1 second.1) ∙ sym second.3
+    first.2.1 ∙ ap closed_election (one_desk bytes journal first.0 second.0 first.1 second.1) ∙ sym second.2.1
 
 -- the faults of reading are not the writer's, and say nothing of an open desk
 read_reads : (kind : ReadKind) (at : ℕ) → (merged (Read (record { kind = kind; at = at })) ≢ Write) × (merged (Read (record { kind = kind; at = at })) ≢ OpenDesk)
@@ -76,11 +76,7 @@ if_some P Q (Some bytes) each holds = each bytes holds
 
 -- the file's own election
 module _ (files : Option (List ℕ)) (warning : Option Warning) where
-  read_fails : (kind : ReadKind) (at : ℕ) (bytes : List ℕ) → IsFaultAt (records_of bytes) kind at → FailsAs Leaves LeavesNone (merged (Read (record { kind = kind; at = at }))) bytes None
-  read_fails NoMemory at bytes fails = tt
-  read_fails kind at bytes fails = fails
-
-  read_judges : (T : Type 0) (kind : ReadKind) (at : ℕ) → IfSome files (λ bytes. IsFaultAt (records_of bytes) kind at) → Judges {T = T} files warning (Err (merged (Read (record { kind = kind; at = at }))))
+  read_judges : (T : Type 0) (kind : ReadKind) (at : ℕ) → IfSome files (λ bytes. IsFaultAt (records_of bytes) kind at) → Judges {T = T} Leaves LeavesNone files (Some None) warning (Err (merged (Read (record { kind = kind; at = at }))))
   read_judges T NoMemory at fails = tt
   read_judges T kind at fails = fails
 
@@ -88,7 +84,6 @@ module _ (files : Option (List ℕ)) (warning : Option Warning) where
       → IfSome files (λ bytes. (e : ElectionView) → StandsFor (records_of bytes) e → IsFromOutside kind)
       → Ends {T = T} Leaves LeavesNone files (Some None) warning (Err (merged (Read (record { kind = kind; at = at }))))
   reader_end {T = T} kind at fails accepts = record {
-    fault = if_some (λ bytes. IsFaultAt (records_of bytes) kind at) (λ bytes. FailsAs Leaves LeavesNone (merged (Read (record { kind = kind; at = at }))) bytes None) files (read_fails kind at) fails;
     accepts = λ _. if_some (λ bytes. (e : ElectionView) → StandsFor (records_of bytes) e → IsFromOutside kind) (λ bytes. Bars Leaves LeavesNone (merged (Read (record { kind = kind; at = at }))) bytes None)
         files (λ bytes accepts e leaves. read_from_outside kind at (accepts e leaves)) accepts;
     judges = read_judges T kind at fails;
@@ -103,7 +98,6 @@ module _ (files : Option (List ℕ)) (warning : Option Warning) where
   pub warning_ends : {T : Type 0} (e : ElectionView) (other : Warning) → warning ≡ Some other → IfSome files (λ bytes. StandsFor (records_of bytes) e)
       → Ends {T = T} Leaves LeavesNone files (Some None) warning (Err (Warned other))
   warning_ends e other is stands = record {
-    fault = if_some (λ bytes. StandsFor (records_of bytes) e) (λ bytes. FailsAs Leaves LeavesNone (Warned other) bytes None) files (λ bytes stands. (e, stands, tt)) stands;
     accepts = λ none. absurd (none-some other (sym none ∙ is));
     judges = (is, is_file files e stands);
     one_memory = refl;
@@ -111,7 +105,6 @@ module _ (files : Option (List ℕ)) (warning : Option Warning) where
 
 -- what refuses the file alone refuses its desk
 own_refuses : (bytes rows : List ℕ) (e : ElectionView) (fault : AppFault) → LeavesNone bytes None e fault → LeavesNone bytes (Some rows) e fault
-own_refuses bytes rows e (Warned warning) refused = tt
 own_refuses bytes rows e fault refused = absurd refused
 
 -- the desk of a file and a journal
@@ -178,7 +171,7 @@ module _ (files journals : Option (List ℕ)) (warning : Option Warning) where
   open_bars : (d : DeskView) → (standing_of d).is_shut ≡ false → (bytes rows : List ℕ) → IsDeskOf bytes rows d → (e : ElectionView) → Leaves bytes (Some rows) e → IsOutsideFault OpenDesk
   open_bars d unshut bytes rows is e leaves =
       let same = one_desk bytes rows leaves.0 d leaves.1 is in
-      absurd (true≢false (sym leaves.2 ∙ ap (λ (d : DeskView). (standing_of d).is_shut) same ∙ unshut))
+      absurd (true≢false (sym leaves.2.0 ∙ ap (λ (d : DeskView). (standing_of d).is_shut) same ∙ unshut))
 
   pub open_ends : {T : Type 0} (d : DeskView) → IfBothKnown files journals (λ bytes rows. IsDeskOf bytes rows d) → (standing_of d).is_shut ≡ false
       → IfSome files (λ bytes. IsElectionFile bytes) → warning ≡ None
@@ -199,7 +192,7 @@ module _ (files journals : Option (List ℕ)) (warning : Option Warning) where
 
   pub left_is : (d : DeskView) (r : Result ElectionView AppFault) → IfOk r (λ e. e ≡ closed_election d) → IfBothKnown files journals (λ bytes rows. IsDeskOf bytes rows d)
       → (standing_of d).is_shut ≡ true → IfOk r (λ e. IfBothKnown files journals (λ bytes rows. Leaves bytes (Some rows) e))
-  left_is d (Ok e) is desk shut = known_map (λ bytes rows. IsDeskOf bytes rows d) (λ bytes rows. Leaves bytes (Some rows) e) files journals (λ bytes rows desk. (d, desk, shut, is)) desk
+  left_is d (Ok e) is desk shut = known_map (λ bytes rows. IsDeskOf bytes rows d) (λ bytes rows. Leaves bytes (Some rows) e) files journals (λ bytes rows desk. (d, desk, (shut, is))) desk
   left_is d (Err fault) is desk shut = tt
 
 pub left_reads : (r : Result ElectionView AppFault) → IfErr r (λ fault. fault ≡ Memory) → IfErr r (λ fault. fault ≢ Write)

@@ -28,7 +28,7 @@ use Rattle.pb_commands.specs.Inner.Ballots.{BallotsWrites}
 use Rattle.pb_commands.specs.Closed.{CountRefuses, Gives, Leaves, LeavesNone}
 use Rattle.pb_commands.specs.declared.demand.Demand.{Demand}
 use Rattle.pb_commands.specs.declared.demand.Demand.TheVariants.{Shut}
-use Rattle.pb_commands.specs.Ends.{Ends, FailsBy, IfBothKnown}
+use Rattle.pb_commands.specs.Ends.{Ends, IfBothKnown}
 use Rattle.pb_commands.specs.Inner.Outside.{IsOutsideFault}
 use Rattle.pb_commands.specs.Exported.{ExportRefuses, IsExportOf}
 use Rattle.pb_commands.specs.Inner.Audited.{IsRefusedDesk}
@@ -151,12 +151,6 @@ module _ (files journals : Option (List ℕ)) (warning : Option Warning) where
       → IfBothKnown files journals (λ bytes rows. BallotsWrites table bytes rows text)
   ballots_known d is table text told = known_map (λ bytes rows. IsDeskOf bytes rows d) (λ bytes rows. BallotsWrites table bytes rows text) files journals (λ bytes rows is. (d, is, told)) is
 
--- what refuses the count of a shut desk's ballots refuses its audit
-refused_count : (options : CountOptions) (bytes rows : List ℕ) (d : DeskView) (fault : CountFault) → IsRefusedDesk d options fault → IsDeskOf bytes rows d
-    → FailsBy (CountRefuses options bytes (Some rows)) (λ (text : List ℕ). ⊥) bytes (merged (Count fault))
-refused_count options bytes rows d count.NoMemory refused is = tt
-refused_count options bytes rows d fault refused is = (d.opening.election, is.stands, (closed_election d, (d, is, refused.0, refl), refused.1))
-
 module _ (demand : Demand) (rule : Rule) (files journals : Option (List ℕ)) (warning : Option Warning) where
   abbrev Writes : List ℕ → List ℕ → List ℕ → Type 0
   Writes = AuditWrites demand rule
@@ -172,16 +166,16 @@ module _ (demand : Demand) (rule : Rule) (files journals : Option (List ℕ)) (w
 
   module _ (d : DeskView) (is : IfBothKnown files journals (λ bytes rows. IsDeskOf bytes rows d)) where
     pub audit_known : (demand ≡ Shut → (standing_of d).is_shut ≡ true) → (text : List ℕ) → IsTextOf rule d text → IfBothKnown files journals (λ bytes rows. AuditWrites demand rule bytes rows text)
-    audit_known met text told = known_map (λ bytes rows. IsDeskOf bytes rows d) (λ bytes rows. AuditWrites demand rule bytes rows text) files journals (λ bytes rows is. (d, is, met, told)) is
+    audit_known met text told = known_map (λ bytes rows. IsDeskOf bytes rows d) (λ bytes rows. AuditWrites demand rule bytes rows text) files journals (λ bytes rows is. (d, is, (met, told))) is
 
     refused_fails : (fault : CountFault) (bytes rows : List ℕ) → IsRefusedDesk d rule.options fault → IsDeskOf bytes rows d → FailsAs Writes Refuses (merged (Count fault)) bytes rows
     refused_fails count.NoMemory bytes rows refused is = tt
-    refused_fails fault bytes rows refused is = refused_count rule.options bytes rows d fault refused is
+    refused_fails fault bytes rows refused is = (d.opening.election, is.stands, (closed_election d, (d, is, (refused.0, refl)), refused.1))
 
     refused_bars : (fault : CountFault) (bytes rows : List ℕ) → IsRefusedDesk d rule.options fault → IsDeskOf bytes rows d → (text : List ℕ) → AuditWrites demand rule bytes rows text
         → IsOutsideFault (merged (Count fault))
     refused_bars fault bytes rows refused is text writes =
-        let written = subst (λ (d : DeskView). IsTextOf rule d text) (one_desk bytes rows writes.0 d writes.1 is) writes.3 in
+        let written = subst (λ (d : DeskView). IsTextOf rule d text) (one_desk bytes rows writes.0 d writes.1 is) writes.2.1 in
         desk_from_outside rule d text written fault refused
 
     pub refused_audit : {T : Type 0} (fault : CountFault) → IsRefusedDesk d rule.options fault → IfSome files (λ bytes. IsElectionFile bytes) → warning ≡ None
@@ -196,7 +190,7 @@ module _ (demand : Demand) (rule : Rule) (files journals : Option (List ℕ)) (w
   open_bars : (bytes rows : List ℕ) → IsDeskOf bytes rows d → (text : List ℕ) → AuditWrites demand rule bytes rows text → IsOutsideFault OpenDesk
   open_bars bytes rows is text writes =
       let same = one_desk bytes rows writes.0 d writes.1 is in
-      absurd (true≢false (sym (writes.2 shut) ∙ ap (λ (d : DeskView). (standing_of d).is_shut) same ∙ unshut))
+      absurd (true≢false (sym (writes.2.0 shut) ∙ ap (λ (d : DeskView). (standing_of d).is_shut) same ∙ unshut))
 
   pub open_audit : {T : Type 0} → IfBothKnown files journals (λ bytes rows. IsDeskOf bytes rows d) → IfSome files (λ bytes. IsElectionFile bytes) → warning ≡ None
       → Ends {T = T} (AuditWrites demand rule) (λ bytes rows. CountRefuses rule.options bytes (Some rows)) files journals warning (Err OpenDesk)

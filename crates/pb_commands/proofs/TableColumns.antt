@@ -11,7 +11,7 @@ use Rattle.pb_core.specs.MoneyText.{money_text}
 use Rattle.pb_price.specs.Supporters.{support_of}
 use Rattle.pb_reasons.proofs.WinnerSums.{cost_at-known}
 use Rattle.pb_reasons.specs.BesideVotes.{elected_by_votes}
-use Rattle.pb_reasons.specs.Counted.{CountedView, winners_of}
+use Rattle.pb_reasons.specs.Counted.{winners_of}
 use Rattle.pb_reasons.specs.CountedElection.{CountedElectionView}
 use Rattle.pb_reasons.specs.Fairness.{needed, spent}
 use Rattle.pb_reasons.specs.Reasons.{project_reason, voter_payments, voter_reason}
@@ -29,7 +29,8 @@ use Rattle.pb_rows.specs.Writing.{text_of_row, text_of_rows}
 use Rattle.pb_commands.proofs.ReportSums.{id_at-known}
 use Rattle.pb_commands.proofs.RowsGrown.{none_grown, row_grown, rows_grown}
 use Rattle.pb_commands.specs.Inner.Tables.{all_columns, payments_text, row_of}
-use Rattle.pb_commands.specs.Tables.{fairness_columns, project_columns, ruled_columns, voter_columns}
+use Rattle.pb_commands.specs.Tables.{columns_of}
+use Rattle.pb_commands.specs.declared.table.Table.TheVariants.{Fairness, Projects, RuledProjects, Voters}
 
 module _ {X : Type 0} (columns : List (Column X)) where
   -- the names of the columns
@@ -83,53 +84,53 @@ pub name_at-known : (e : ElectionView) (place : ℕ) (p : ProjectView) → place
 name_at-known e place p known is = get_or-map (λ (q : ProjectView). q.name) e.projects place p [] known ∙ ap (λ (q : ProjectView). q.name) (sym is)
 
 -- the last column of projects is one where an outcome is filled up
-pub width_is : (e : ElectionView) (c : CountedView) (f : FillUp) → f ≡ c.fill_up → (if fills_up f then 12 else 11) ≡ length (project_columns e c)
-width_is e c MostVotes is = rw (← is) refl
-width_is e c Nothing is = rw (← is) refl
+pub width_is : (x : CountedElectionView) (f : FillUp) → f ≡ x.counted.fill_up → (if fills_up f then 12 else 11) ≡ length (columns_of Projects x)
+width_is x MostVotes is = rw (← is) refl
+width_is x Nothing is = rw (← is) refl
 
-names_taken_by : (e : ElectionView) (c : CountedView) (f : FillUp) → f ≡ c.fill_up → take (if fills_up f then 12 else 11) (map (λ k. k.0) (all_columns e c)) ≡ map (λ k. k.0) (project_columns e c)
-names_taken_by e c MostVotes is = rw (← is) refl
-names_taken_by e c Nothing is = rw (← is) refl
+names_taken_by : (x : CountedElectionView) (f : FillUp) → f ≡ x.counted.fill_up → take (if fills_up f then 12 else 11) (map (λ k. k.0) (all_columns x)) ≡ map (λ k. k.0) (columns_of Projects x)
+names_taken_by x MostVotes is = rw (← is) refl
+names_taken_by x Nothing is = rw (← is) refl
 
-row_taken_by : (e : ElectionView) (c : CountedView) (place : ℕ) (f : FillUp) → f ≡ c.fill_up → take (if fills_up f then 12 else 11) (row_of (all_columns e c) place) ≡ row_of (project_columns e c) place
-row_taken_by e c place MostVotes is = rw (← is) refl
-row_taken_by e c place Nothing is = rw (← is) refl
+row_taken_by : (x : CountedElectionView) (place : ℕ) (f : FillUp) → f ≡ x.counted.fill_up → take (if fills_up f then 12 else 11) (row_of (all_columns x) place) ≡ row_of (columns_of Projects x) place
+row_taken_by x place MostVotes is = rw (← is) refl
+row_taken_by x place Nothing is = rw (← is) refl
 
-pub names_taken : (e : ElectionView) (c : CountedView) (width : ℕ) → width ≡ length (project_columns e c) → take width (map (λ k. k.0) (all_columns e c)) ≡ map (λ k. k.0) (project_columns e c)
-names_taken e c width is = ap (λ n. take n (map (λ k. k.0) (all_columns e c))) (is ∙ sym (width_is e c c.fill_up refl)) ∙ names_taken_by e c c.fill_up refl
+pub names_taken : (x : CountedElectionView) (width : ℕ) → width ≡ length (columns_of Projects x) → take width (map (λ k. k.0) (all_columns x)) ≡ map (λ k. k.0) (columns_of Projects x)
+names_taken x width is = ap (λ n. take n (map (λ k. k.0) (all_columns x))) (is ∙ sym (width_is x x.counted.fill_up refl)) ∙ names_taken_by x x.counted.fill_up refl
 
 -- the row of a project, as it is written
-pub project_row_read : (e : ElectionView) (c : CountedView) (place : ℕ) (p : ProjectView) → place < length e.projects → p ≡ get_or e.projects place p
-    → (number cost votes : Field) → number ≡ Number place → cost ≡ Amount p.cost → votes ≡ Number (project_reason e c place).votes
-    → (id name : List ℕ) → id ≡ p.id → name ≡ p.name → (more : Fields) → more ≡ drop 5 (row_of (all_columns e c) place)
-    → (width : ℕ) → width ≡ length (project_columns e c)
-    → take width (field_text number ∷ id ∷ name ∷ field_text cost ∷ field_text votes ∷ more) ≡ row_of (project_columns e c) place
-project_row_read e c place p known is number cost votes number_is cost_is votes_is id name id_is name_is more more_is width width_is' =
-    let row : field_text number ∷ id ∷ name ∷ field_text cost ∷ field_text votes ∷ more ≡ row_of (all_columns e c) place =
-    rw (number_is, cost_is, votes_is, id_is, name_is, more_is, ← id_at-known e place p known is, ← name_at-known e place p known is, ← cost_at-known e place p known is) refl in
-    ap (take width) row ∙ ap (λ n. take n (row_of (all_columns e c) place)) (width_is' ∙ sym (width_is e c c.fill_up refl)) ∙ row_taken_by e c place c.fill_up refl
+pub project_row_read : (x : CountedElectionView) (place : ℕ) (p : ProjectView) → place < length x.election.projects → p ≡ get_or x.election.projects place p
+    → (number cost votes : Field) → number ≡ Number place → cost ≡ Amount p.cost → votes ≡ Number (project_reason x.election x.counted place).votes
+    → (id name : List ℕ) → id ≡ p.id → name ≡ p.name → (more : Fields) → more ≡ drop 5 (row_of (all_columns x) place)
+    → (width : ℕ) → width ≡ length (columns_of Projects x)
+    → take width (field_text number ∷ id ∷ name ∷ field_text cost ∷ field_text votes ∷ more) ≡ row_of (columns_of Projects x) place
+project_row_read x place p known is number cost votes number_is cost_is votes_is id name id_is name_is more more_is width width_is' =
+    let row : field_text number ∷ id ∷ name ∷ field_text cost ∷ field_text votes ∷ more ≡ row_of (all_columns x) place =
+    rw (number_is, cost_is, votes_is, id_is, name_is, more_is, ← id_at-known x.election place p known is, ← name_at-known x.election place p known is, ← cost_at-known x.election place p known is) refl in
+    ap (take width) row ∙ ap (λ n. take n (row_of (all_columns x) place)) (width_is' ∙ sym (width_is x x.counted.fill_up refl)) ∙ row_taken_by x place x.counted.fill_up refl
 
 -- the row of a project by both rules, as it is written
-pub ruled_row_read : (e : ElectionView) (c : CountedView) (place : ℕ) (p : ProjectView) → place < length e.projects → p ≡ get_or e.projects place p
-    → (number cost wins otherwise : Field) → number ≡ Number place → cost ≡ Amount p.cost → wins ≡ Number (if is_taken (winners_of c) place then 1 else 0)
-    → otherwise ≡ Number (if is_taken (elected_by_votes e) place then 1 else 0) → (id name : List ℕ) → id ≡ p.id → name ≡ p.name
-    → (votes : ℕ) → votes ≡ votes_at (support_of e) place
-    → field_text number ∷ id ∷ name ∷ field_text cost ∷ decimal votes ∷ field_text wins ∷ field_text otherwise ∷ [] ≡ row_of (ruled_columns e c) place
-ruled_row_read e c place p known is number cost wins otherwise number_is cost_is wins_is otherwise_is id name id_is name_is votes votes_is =
-    rw (number_is, cost_is, wins_is, otherwise_is, id_is, name_is, votes_is, ← id_at-known e place p known is, ← name_at-known e place p known is, ← cost_at-known e place p known is) refl
+pub ruled_row_read : (x : CountedElectionView) (place : ℕ) (p : ProjectView) → place < length x.election.projects → p ≡ get_or x.election.projects place p
+    → (number cost wins otherwise : Field) → number ≡ Number place → cost ≡ Amount p.cost → wins ≡ Number (if is_taken (winners_of x.counted) place then 1 else 0)
+    → otherwise ≡ Number (if is_taken (elected_by_votes x.election) place then 1 else 0) → (id name : List ℕ) → id ≡ p.id → name ≡ p.name
+    → (votes : ℕ) → votes ≡ votes_at (support_of x.election) place
+    → field_text number ∷ id ∷ name ∷ field_text cost ∷ decimal votes ∷ field_text wins ∷ field_text otherwise ∷ [] ≡ row_of (columns_of RuledProjects x) place
+ruled_row_read x place p known is number cost wins otherwise number_is cost_is wins_is otherwise_is id name id_is name_is votes votes_is =
+    rw (number_is, cost_is, wins_is, otherwise_is, id_is, name_is, votes_is, ← id_at-known x.election place p known is, ← name_at-known x.election place p known is, ← cost_at-known x.election place p known is) refl
 
 -- the row of a project that lost, as it is written
 pub loser_row_read : (x : CountedElectionView) (place : ℕ) (p : ProjectView) → place < length x.election.projects → p ≡ get_or x.election.projects place p
     → (id : List ℕ) → id ≡ p.id → (votes : ℕ) → votes ≡ votes_at (support_of x.election) place
     → (share need : Field) → share ≡ Amount x.counted.outcome.share → need ≡ Amount (needed (support_of x.election) place)
     → (most : ℕ) → most ≡ spent x.rule.options.measure (support_of x.election) x.counted.outcome place
-    → id ∷ decimal votes ∷ field_text share ∷ field_text need ∷ money_text most ∷ [] ≡ row_of (fairness_columns x) place
+    → id ∷ decimal votes ∷ field_text share ∷ field_text need ∷ money_text most ∷ [] ≡ row_of (columns_of Fairness x) place
 loser_row_read x place p known is id id_is votes votes_is share need share_is need_is most most_is =
     rw (id_is, votes_is, share_is, need_is, most_is, ← id_at-known x.election place p known is) refl
 
 -- the row of a voter, as it is written
-pub voter_row_read : (e : ElectionView) (c : CountedView) (voter : ℕ) (v : VoterView) → voter < length e.voters → v ≡ get_or e.voters voter v
-    → (id : List ℕ) → id ≡ v.id → (r : VoterReason) → r ≡ voter_reason e c voter → (payments : List Payment) → payments ≡ voter_payments e c.outcome voter
-    → id ∷ decimal r.votes ∷ decimal r.elected ∷ money_text r.paid ∷ money_text r.left ∷ payments_text payments ∷ [] ≡ row_of (voter_columns e c) voter
-voter_row_read e c voter v known is id id_is r r_is payments payments_is =
-    rw (r_is, payments_is, id_is ∙ ap (λ (u : VoterView). u.id) is ∙ sym (get_or-map (λ (u : VoterView). u.id) e.voters voter v [] known)) refl
+pub voter_row_read : (x : CountedElectionView) (voter : ℕ) (v : VoterView) → voter < length x.election.voters → v ≡ get_or x.election.voters voter v
+    → (id : List ℕ) → id ≡ v.id → (r : VoterReason) → r ≡ voter_reason x.election x.counted voter → (payments : List Payment) → payments ≡ voter_payments x.election x.counted.outcome voter
+    → id ∷ decimal r.votes ∷ decimal r.elected ∷ money_text r.paid ∷ money_text r.left ∷ payments_text payments ∷ [] ≡ row_of (columns_of Voters x) voter
+voter_row_read x voter v known is id id_is r r_is payments payments_is =
+    rw (r_is, payments_is, id_is ∙ ap (λ (u : VoterView). u.id) is ∙ sym (get_or-map (λ (u : VoterView). u.id) x.election.voters voter v [] known)) refl

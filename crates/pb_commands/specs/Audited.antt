@@ -32,5 +32,5 @@ IsTextOf rule d text = (report : List ℕ) × (text ≡ text_of_row (entries_row
 
 -- what these bytes make a run of `audit` write: of a shut desk, where one is demanded
 abbrev pub AuditWrites : Demand → Rule → List ℕ → List ℕ → List ℕ → Type 0
-AuditWrites demand rule bytes journal text =
-    (d : DeskView) × IsDeskOf bytes journal d × (demand ≡ Shut → (standing_of d).is_shut ≡ true) × IsTextOf rule d text
+AuditWrites demand rule =
+    OfDesk (λ d text. (demand ≡ Shut → (standing_of d).is_shut ≡ true) × IsTextOf rule d text)

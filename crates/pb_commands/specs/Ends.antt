@@ -1,5 +1,5 @@
 -- How a run of a command ends.
-use Rattle.std.specs.Prelude.{◌≡◌, ◌≢◌, ℕ, ⊤, List, IfErr, IfSome, OnOk, Option, Some, None, Result, Err}
+use Rattle.std.specs.Prelude.{◌≡◌, ◌≢◌, ℕ, ⊤, List, IfErr, IfSome, OnOk, Option, Some, None, Result, Ok, Err}
 use Rattle.std.specs.Io.KnownBytes.{Appends}
 use Rattle.std.specs.Option.{option_map, option_map_or}
 use Rattle.pb_core.specs.Election.{ElectionView}
@@ -19,40 +19,40 @@ IfBothKnown file beside P = IfSome file (λ bytes. IfSome beside (P bytes))
 abbrev pub known : {J : Type 0} → (J → Option (List ℕ)) → Option J → Option (Option (List ℕ))
 known remaining journal = option_map_or (λ journal. option_map Some (remaining journal)) journal (Some None)
 
--- why a run on this file ends: the file's first fault; or, of the election that it stands for, such a
--- refusal; or the writer failed, which is tried last, once there is something to write; or memory was refused
-abbrev pub FailsBy : {Y : Type 0} → (ElectionView → AppFault → Type 0) → (Y → Type 0) → List ℕ → AppFault → Type 0
-FailsBy Refuses IsIt bytes (Read fault) = IsFaultAt (records_of bytes) fault.kind fault.at
-FailsBy {Y = Y} Refuses IsIt bytes Write = (y : Y) × IsIt y
-FailsBy Refuses IsIt bytes Memory = ⊤
-FailsBy Refuses IsIt bytes fault = (e : ElectionView) × StandsFor (records_of bytes) e × Refuses e fault
+-- the file stands for an election, where its bytes are known, and this warning refuses it, or none does
+abbrev pub IsJudged : Option (List ℕ) → (warning refused : Option Warning) → Type 0
+IsJudged file warning refused =
+    (warning ≡ refused) × IfSome file (λ bytes. (e : ElectionView) × StandsFor (records_of bytes) e)
 
--- the file is judged first: its first fault is the answer; then the warning for which who looked on refuses
--- it, if there is one; and any other end, out of memory aside, says that the file stands for an election, and
--- that there is no such warning; the fault of a journal that is served comes in none of these runs
-abbrev pub Judges : {T : Type 0} → Option (List ℕ) → Option Warning → Result T AppFault → Type 0
-Judges file warning (Err (Read fault)) = IfSome file (λ bytes. IsFaultAt (records_of bytes) fault.kind fault.at)
-Judges file warning (Err (Open number)) = ⊥
-Judges file warning (Err (Serving why)) = ⊥
-Judges file warning (Err Memory) = ⊤
-Judges file warning (Err (Warned other)) =
-    (warning ≡ Some other) × IfSome file (λ bytes. (e : ElectionView) × StandsFor (records_of bytes) e)
-Judges file warning result =
-    (warning ≡ None) × IfSome file (λ bytes. (e : ElectionView) × StandsFor (records_of bytes) e)
+-- What reads a file, of whose bytes this is known, and of what is read beside it. The bytes say what they give (a
+-- run: the text that it writes), and which faults refuse the file's election.
+module _ {X Y T : Type 0} (Gives : List ℕ → X → Y → Type 0) (Refuses : List ℕ → X → ElectionView → AppFault → Type 0)
+    (file : Option (List ℕ)) (beside : Option X) (warning : Option Warning) where
+  -- How it ends. The file is judged first, whatever is known of the rest: its first fault is the answer; then the
+  -- warning for which who looked on refuses it, if there is one. Any other end, out of memory aside, comes once
+  -- that is done: the writer fails, which is tried last, once there is something to write; or the fault refuses
+  -- the election. The fault of a journal that is served comes in none of these runs.
+  abbrev pub Judges : Result T AppFault → Type 0
+  Judges (Ok value) = IsJudged file warning None
+  Judges (Err (Read fault)) = IfSome file (λ bytes. IsFaultAt (records_of bytes) fault.kind fault.at)
+  Judges (Err (Open number)) = ⊥
+  Judges (Err (Serving why)) = ⊥
+  Judges (Err Memory) = ⊤
+  Judges (Err (Warned other)) = IsJudged file warning (Some other)
+  Judges (Err Write) =
+      IsJudged file warning None × IfBothKnown file beside (λ bytes x. (y : Y) × Gives bytes x y)
+  Judges (Err fault) = IsJudged file warning None × IfBothKnown file beside (λ bytes x.
+      (e : ElectionView) × StandsFor (records_of bytes) e × Refuses bytes x e fault)
 
--- How what reads a file ends, and what is read beside it, of whose bytes this is known. The bytes say what
--- they give (a run: the text that it writes), and which faults refuse the file's election.
--- `fault`: they decide which fault comes.
--- `accepts`: where they give something, only a warning stands against it, or a fault from outside, of status 3.
--- `judges`: the file is judged first, whatever is known of the rest.
--- `one_memory`: out of memory is one fault.
-pub record Ends {X Y T : Type 0} (Gives : List ℕ → X → Y → Type 0) (Refuses : List ℕ → X → ElectionView → AppFault → Type 0)
-    (file : Option (List ℕ)) (beside : Option X) (warning : Option Warning) (result : Result T AppFault) : Type 0 where
-  pub fault : IfBothKnown file beside (λ bytes x. IfErr result (FailsBy (Refuses bytes x) (Gives bytes x) bytes))
-  pub accepts : warning ≡ None → IfBothKnown file beside (λ bytes x. (y : Y) → Gives bytes x y
-      → IfErr result (λ fault. (told fault).0 ≡ 3))
-  pub judges : Judges file warning result
-  pub one_memory : IfErr result (λ fault. merged fault ≡ fault)
+  -- `judges`: it ends so.
+  -- `accepts`: where the bytes give something, only a warning stands against it, or a fault from outside, of
+  -- status 3.
+  -- `one_memory`: out of memory is one fault.
+  pub record Ends (result : Result T AppFault) : Type 0 where
+    pub judges : Judges result
+    pub accepts : warning ≡ None → IfBothKnown file beside (λ bytes x. (y : Y) → Gives bytes x y
+        → IfErr result (λ fault. (told fault).0 ≡ 3))
+    pub one_memory : IfErr result (λ fault. merged fault ≡ fault)
 
 -- How a run ends that writes such a text.
 -- `writes`: it wrote the text alone, and the bytes decide which.

@@ -40,23 +40,6 @@ fields_of (ending.Won w) = decimal w.round ∷ money_text w.price ∷ money_text
 fields_of (ending.Lost l) = [] ∷ [] ∷ [] ∷ [] ∷ money_text l.left ∷ money_text l.missing ∷ []
 fields_of (ending.Added a) = [] ∷ [] ∷ [] ∷ [] ∷ [] ∷ [] ∷ decimal a.number ∷ []
 
--- the columns of projects: behind the first are those of endings; the number of an added project stands where an
--- outcome is filled up
-abbrev pub project_columns : ElectionView → CountedView → List (Column ℕ)
-project_columns e c = project_head e
-    ++ map (λ (k : ℕ × List ℕ). (k.1, λ (place : ℕ). slice_index_or (fields_of (project_reason e c place).ending) k.0 []))
-    (enumerate_from 0 (codes "round" ∷ codes "price" ∷ codes "collected" ∷ codes "in_full" ∷ codes "left"
-    ∷ codes "missing" ∷ (if fills_up c.fill_up then codes "added" ∷ [] else [])))
-
--- the columns of voters, each by its position; payments are each a place, `:` and an amount, with `,` between
-abbrev pub voter_columns : ElectionView → CountedView → List (Column ℕ)
-voter_columns e c = let told = voter_reason e c in
-    let payment = λ (p : Payment). decimal p.place ++ (codes ":" ++ money_text p.amount) in
-    (codes "voter_id", λ v. slice_index_or (voter_ids e) v []) ∷ (codes "votes", λ v. decimal (told v).votes)
-    ∷ (codes "elected", λ v. decimal (told v).elected) ∷ (codes "paid", λ v. money_text (told v).paid)
-    ∷ (codes "left", λ v. money_text (told v).left)
-    ∷ (codes "payments", λ v. join_with_byte 44 (map payment (voter_payments e c.outcome v))) ∷ []
-
 -- the columns of rules, each by its name and what its winners come to
 abbrev pub rule_columns : List (Column (List ℕ × RuleRow))
 rule_columns = (codes "rule", λ r. r.0) ∷ (codes "projects", λ r. decimal r.1.projects)
@@ -65,35 +48,46 @@ rule_columns = (codes "rule", λ r. r.0) ∷ (codes "projects", λ r. decimal r.
     ∷ (codes "worth", λ r. money_text r.1.worth) ∷ (codes "more_choices", λ r. decimal r.1.more_choices)
     ∷ (codes "more_worth", λ r. decimal r.1.more_worth) ∷ []
 
--- the columns of projects by rule: at the end 1 or 0 for each rule, as the project is among its winners or
--- not
-abbrev pub ruled_columns : ElectionView → CountedView → List (Column ℕ)
-ruled_columns e c = project_head e
-    ++ (codes "equal_shares", λ place. decimal (if is_taken (winners_of c) place then 1 else 0))
-    ∷ (codes "most_votes", λ place. decimal (if is_taken (elected_by_votes e) place then 1 else 0)) ∷ []
-
--- the columns of fairness, each by the place of a project that lost
-abbrev pub fairness_columns : CountedElectionView → List (Column ℕ)
-fairness_columns x = let s = support_of x.election in
+-- The columns of a table whose rows are places. Of projects: behind the first are those of endings; the number of
+-- an added project stands where an outcome is filled up. Of voters: payments are each a place, `:` and an amount,
+-- with `,` between. Of projects by rule: at the end 1 or 0 for each rule, as the project is among its winners or
+-- not. Of fairness: the places are those of projects that lost.
+abbrev pub columns_of : Table → CountedElectionView → List (Column ℕ)
+columns_of Projects x = project_head x.election
+    ++ map (λ (k : ℕ × List ℕ). (k.1, λ (place : ℕ). slice_index_or (fields_of (project_reason x.election x.counted place).ending) k.0 []))
+    (enumerate_from 0 (codes "round" ∷ codes "price" ∷ codes "collected" ∷ codes "in_full" ∷ codes "left"
+    ∷ codes "missing" ∷ (if fills_up x.counted.fill_up then codes "added" ∷ [] else [])))
+columns_of Voters x = let told = voter_reason x.election x.counted in
+    let payment = λ (p : Payment). decimal p.place ++ (codes ":" ++ money_text p.amount) in
+    (codes "voter_id", λ v. slice_index_or (voter_ids x.election) v []) ∷ (codes "votes", λ v. decimal (told v).votes)
+    ∷ (codes "elected", λ v. decimal (told v).elected) ∷ (codes "paid", λ v. money_text (told v).paid)
+    ∷ (codes "left", λ v. money_text (told v).left)
+    ∷ (codes "payments", λ v. join_with_byte 44 (map payment (voter_payments x.election x.counted.outcome v))) ∷ []
+columns_of RuledProjects x = project_head x.election
+    ++ (codes "equal_shares", λ place. decimal (if is_taken (winners_of x.counted) place then 1 else 0))
+    ∷ (codes "most_votes", λ place. decimal (if is_taken (elected_by_votes x.election) place then 1 else 0)) ∷ []
+columns_of Fairness x = let s = support_of x.election in
     (codes "project_id", λ place. slice_index_or (project_ids x.election) place [])
     ∷ (codes "votes", λ place. decimal (votes_at s place))
     ∷ (codes "share", λ place. money_text x.counted.outcome.share)
     ∷ (codes "needed", λ place. money_text (needed s place))
     ∷ (codes "spent", λ place. money_text (spent x.rule.options.measure s x.counted.outcome place)) ∷ []
+columns_of Report x = []
+columns_of Rules x = []
 
--- a report or a table of a count, as text: rows in the order of the file; of rules the count's comes before
--- the other
+-- these places, in the order of the file
+abbrev pub places_of : Table → CountedElectionView → List ℕ
+places_of Voters x = range_with_len 0 (length x.election.voters)
+places_of Fairness x = losers x.election x.counted
+places_of table x = range_with_len 0 (length x.election.projects)
+
+-- a report or a table of a count, as text; of rules the count's comes before the other
 unfoldable pub table_of : Table → CountedElectionView → List ℕ
 table_of Report x = report_of x.election x.counted
-table_of Projects x =
-    table_text (project_columns x.election x.counted) (range_with_len 0 (length x.election.projects))
-table_of Voters x = table_text (voter_columns x.election x.counted) (range_with_len 0 (length x.election.voters))
-table_of Fairness x = table_text (fairness_columns x) (losers x.election x.counted)
 table_of Rules x =
     let beside = beside_votes x.election x.counted in
     table_text rule_columns ((codes "equal shares", beside.own) ∷ (codes "most votes", beside.other) ∷ [])
-table_of RuledProjects x =
-    table_text (ruled_columns x.election x.counted) (range_with_len 0 (length x.election.projects))
+table_of table x = table_text (columns_of table x) (places_of table x)
 
 -- the text is this report or table of a count of the election by this rule; the payments of the count are a
 -- price system of the elected

@@ -6,9 +6,9 @@ ghost use Rattle.pb_reasons.specs.Counted.{winners_of};
 ghost use Rattle.pb_reasons.specs.Fairness.{spent};
 ghost use Rattle.pb_rounds.specs.MostVotes.{is_taken, votes_at};
 ghost use Rattle.pb_rows.specs.Writing.{text_of_row};
-ghost use Rattle.pb_commands.specs.Tables.{fairness_columns, table_of};
-ghost use Rattle.pb_commands.specs.Inner.Tables.{row_of};
+ghost use Rattle.pb_commands.specs.Tables.{columns_of, table_of};
 ghost use Rattle.pb_commands.specs.declared.table.Table.TheVariants.{Fairness};
+ghost use Rattle.pb_commands.specs.Inner.Tables.{row_of};
 
 use pb_core::no_memory::NoMemory;
 use pb_reasons::{CountedElection, most_spent, needed};
@@ -57,7 +57,7 @@ fn put_loser(
     requires most { most ≡ spent count.now.rule.options.measure (support_of count.now.election)
         count.now.counted.outcome place }
     ensures { OnOk result (rows.new.text
-        ≡ rows.old.text ++ text_of_row (row_of (fairness_columns count.now) place)) }
+        ≡ rows.old.text ++ text_of_row (row_of (columns_of Fairness count.now) place)) }
 {
     let project = &count.election().projects()[place as usize];
     let supporters = count.supporters();

@@ -7,7 +7,7 @@ ghost use Rattle.pb_commands.specs.Closed.{Leaves, LeavesNone};
 ghost use Rattle.pb_commands.specs.Ends.{Ends, IfBothKnown, known};
 
 use pb_core::election::Election;
-use pb_desk::{Desk, audit};
+use pb_desk::{Desk, IntoFault, audit};
 use pb_faults::AppFault;
 use pb_read::{Heed, read_pb_watched};
 use pb_script::ROOM;
@@ -120,9 +120,10 @@ fn left_by(desk: Desk) -> Result<Election, AppFault>
 {
     match desk.into_election() {
         Ok(election) => Ok(election),
-        Err(fault) => {
-            drop(fault);
+        Err(IntoFault::NoMemory(desk)) => {
+            drop(desk);
             Err(AppFault::Memory)
         }
+        Err(IntoFault::NotShut(_)) => unreachable!(),
     }
 }

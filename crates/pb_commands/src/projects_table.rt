@@ -1,14 +1,13 @@
 //! The table of projects: who won and why, who lost and by how much.
 
 ghost use Rattle.std.specs.Prelude.{◌≡◌, ◌<◌, ◌≤◌, ◌++◌, ◌∷◌, ℕ, [], OnOk, drop, length};
-ghost use Rattle.pb_core.specs.Election.{ElectionView};
-ghost use Rattle.pb_reasons.specs.Counted.{CountedView};
+ghost use Rattle.pb_reasons.specs.CountedElection.{CountedElectionView};
 ghost use Rattle.pb_reasons.specs.Reasons.{project_reason};
 ghost use Rattle.pb_rows.specs.Tables.{field_text};
 ghost use Rattle.pb_rows.specs.Writing.{text_of_row};
-ghost use Rattle.pb_commands.specs.Tables.{project_columns, table_of};
-ghost use Rattle.pb_commands.specs.Inner.Tables.{all_columns, row_of};
+ghost use Rattle.pb_commands.specs.Tables.{columns_of, table_of};
 ghost use Rattle.pb_commands.specs.declared.table.Table.TheVariants.{Projects};
+ghost use Rattle.pb_commands.specs.Inner.Tables.{all_columns, row_of};
 
 use pb_core::no_memory::NoMemory;
 use pb_reasons::{CountedElection, Ending};
@@ -44,8 +43,8 @@ pub(crate) fn put_projects(rows: &mut RowsWriter, count: &CountedElection) -> Re
 
 /// How many columns there are: the last is one where an outcome is filled up.
 fn width(fill_up: FillUp) -> usize
-    ensures width { (e : ElectionView) (c : CountedView)
-        → fill_up ≡ c.fill_up → result ≡ length (project_columns e c) }
+    ensures width { (x : CountedElectionView) → fill_up ≡ x.counted.fill_up
+        → result ≡ length (columns_of Projects x) }
     ensures most { result ≤ 12 }
 {
     match fill_up {
@@ -62,10 +61,10 @@ fn put_project(
     place: u32,
 ) -> Result<(), NoMemory>
     requires known { place < length count.now.election.projects }
-    requires width { width ≡ length (project_columns count.now.election count.now.counted) }
+    requires width { width ≡ length (columns_of Projects count.now) }
     requires most { width ≤ 12 }
     ensures { OnOk result (rows.new.text ≡ rows.old.text ++ text_of_row
-        (row_of (project_columns count.now.election count.now.counted) place)) }
+        (row_of (columns_of Projects count.now) place)) }
 {
     let project = &count.election().projects()[place as usize];
     let reason = count.project(place);
@@ -113,10 +112,11 @@ const NOTHING: EndingFields = EndingFields {
 
 /// The fields on how a project ended.
 fn said_of(ending: Ending) -> EndingFields
-    ensures { (e : ElectionView) (c : CountedView) (place : ℕ) → ending ≡ (project_reason e c place).ending
+    ensures { (x : CountedElectionView) (place : ℕ)
+        → ending ≡ (project_reason x.election x.counted place).ending
         → field_text result.round ∷ field_text result.price ∷ field_text result.collected
         ∷ field_text result.in_full ∷ field_text result.left ∷ field_text result.missing
-        ∷ field_text result.added ∷ [] ≡ drop 5 (row_of (all_columns e c) place) }
+        ∷ field_text result.added ∷ [] ≡ drop 5 (row_of (all_columns x) place) }
 {
     match ending {
         Ending::Won(won) => EndingFields {

@@ -226,7 +226,7 @@ fn desk_count<T: Threads + Sync, G: Gate>(
             Err(CountFault::NoMemory)
         }
         // No clerk is out.
-        Err(CloseFault::Unfinished(_)) => Err(CountFault::NoMemory),
+        Err(CloseFault::Unfinished(_)) => unreachable!(),
     }
 }
 

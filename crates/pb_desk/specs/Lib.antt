@@ -7,6 +7,5 @@ pub mod Standing
 pub mod Step
 pub mod Audit
 pub mod AuditFault
-pub mod IntoFault
 pub mod Opening
 pub mod Inner

@@ -1,17 +1,17 @@
 //! Why a desk was not made into an election.
 
 ghost use Rattle.std.specs.Prelude.{◌≡◌};
+ghost use Rattle.pb_core.specs.Numbered.{numbered};
+ghost use Rattle.pb_desk.specs.contracts.into_fault.IntoFault.{the_type};
 
 use crate::desk::Desk;
+use pb_core::names::name_at;
 use std::alloc::{Allocator, Global};
 use std::fmt;
 use thiserror::Error;
 
-/// The name of `NotShut`.
-pub(crate) const NOT_SHUT: &str = "NotShut";
-
-/// The name of `NoMemory`.
-pub(crate) const NO_MEMORY: &str = "NoMemory";
+/// The names of `IntoFault`, in the order of its variants.
+pub(crate) const NAMES: [&str; 2] = ["NotShut", "NoMemory"];
 
 /// Why a desk was not made into an election. It carries the desk back, unchanged.
 #[derive(Drop, Error)]
@@ -31,11 +31,9 @@ impl<A: Allocator> fmt::Debug for IntoFault<A> {
 }
 
 impl<A: Allocator> IntoFault<A> {
-    ghost use Rattle.pb_desk.specs.IntoFault.{numbered_name};
-
     /// The fault's number, from 1.
     pub fn number(&self) -> u32
-        ensures { result ≡ (numbered_name self.now).0 }
+        ensures { result ≡ (numbered (the_type A.row A.Allocator) NAMES self.now).0 }
     {
         match self {
             IntoFault::NotShut(_) => 1,
@@ -45,11 +43,8 @@ impl<A: Allocator> IntoFault<A> {
 
     /// The fault's name.
     pub fn name(&self) -> &'static str
-        ensures { result.now ≡ (numbered_name self.now).1 }
+        ensures { result.now ≡ (numbered (the_type A.row A.Allocator) NAMES self.now).1 }
     {
-        match self {
-            IntoFault::NotShut(_) => NOT_SHUT,
-            IntoFault::NoMemory(_) => NO_MEMORY,
-        }
+        name_at(&NAMES, self.number() as usize - 1)
     }
 }

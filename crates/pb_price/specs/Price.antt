@@ -1,5 +1,5 @@
 -- The price of a project: what its supporters pay, and when they cover its cost.
-use Rattle.std.specs.Prelude.{◌≡◌, ℕ, ◌+◌, ◌-◌, ◌*◌, ◌^◌, ◌<◌, ◌≤◌, min, List, length, All, Option}
+use Rattle.std.specs.Prelude.{◌≡◌, ℕ, ◌+◌, ◌-◌, ◌*◌, ◌<◌, ◌≤◌, min, List, length, All, Option}
 use Rattle.std.specs.Prelude.{MatchOption, nat_le, find, sum_by, slice_index}
 use Rattle.std.specs.List.{range_with_len}
 use Rattle.pb_core.specs.Money.{largest_money}
@@ -42,10 +42,6 @@ largest_share = 2 * largest_money
 pub record AreRests (voters : ℕ) (rests : List ℕ) : Type 0 where
   pub one_each : length rests ≡ voters
   pub bounded : All (λ rest. rest ≤ largest_share) rests
-
--- the largest number that a tally shows; it stays there
-abbrev pub largest_count : ℕ
-largest_count = 2 ^ 64 - 1
 
 -- what a tally shows: how many prices were computed, and how many workers computed them, list by list
 pub record TallyView : Type 0 where

@@ -3,9 +3,10 @@
 ghost use Rattle.std.specs.Prelude.{◌≡◌, ◌+◌, ◌<◌, ◌≤◌, [], All, length, map, max, min, true, Err, IfOk};
 ghost use Rattle.std.specs.Prelude.{OnOk, OnErr, MatchBool, IsOkUnless, List, ℕ};
 ghost use Rattle.std.specs.List.{AllZip};
+ghost use Rattle.std.specs.Io.Iter.{u64_saturate};
 ghost use Rattle.pb_core.specs.Election.{most_projects};
 ghost use Rattle.pb_price.specs.Inner.Claims.{drawn};
-ghost use Rattle.pb_price.specs.Price.{price_at, AreRests, IsPrice, largest_count};
+ghost use Rattle.pb_price.specs.Price.{price_at, AreRests, IsPrice};
 ghost use Rattle.pb_price.specs.PriceFault.{is_worker_count};
 ghost use Rattle.pb_price.specs.Supporters.{SupportView};
 ghost use Rattle.pb_price.specs.Inner.Working.{AreGathered, IsBatch, IsDone};
@@ -67,8 +68,8 @@ pub fn price_all<
         (IsPrice supporters.now rests.now) projects.now answers.items) }
     // what becomes of the tally
     ensures counted { OnOk result (tally.new ≡ record {
-      prices = min (tally.old.prices + length projects.now) largest_count;
-      workers = min (tally.old.workers + max 1 (min workers (length projects.now))) largest_count;
+      prices = u64_saturate (tally.old.prices + length projects.now);
+      workers = u64_saturate (tally.old.workers + max 1 (min workers (length projects.now)));
     }) }
     ensures refused { OnErr result (tally.new ≡ tally.old) }
 {
@@ -106,8 +107,8 @@ pub fn price_pieces<
     ensures prices { IfOk result (λ answers. AllZip (IsPrice pieces.now.supporters.now pieces.now.rests.now)
         pieces.now.projects.now answers.items) }
     ensures counted { OnOk result (tally.new ≡ record {
-      prices = min (tally.old.prices + length pieces.now.projects.now) largest_count;
-      workers = min (tally.old.workers + max 1 (min workers (length pieces.now.projects.now))) largest_count;
+      prices = u64_saturate (tally.old.prices + length pieces.now.projects.now);
+      workers = u64_saturate (tally.old.workers + max 1 (min workers (length pieces.now.projects.now)));
     }) }
     ensures refused { OnErr result (tally.new ≡ tally.old) }
 {

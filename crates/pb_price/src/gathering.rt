@@ -1,10 +1,11 @@
 //! How the workers' answers become the prices, after all workers have stopped.
 
-ghost use Rattle.std.specs.Prelude.{◌≡◌, ◌+◌, ◌<◌, ◌≤◌, None, All, length, map, min, replicate, IfOk, OnOk};
+ghost use Rattle.std.specs.Prelude.{◌≡◌, ◌+◌, ◌<◌, ◌≤◌, None, All, length, map, replicate, IfOk, OnOk};
 ghost use Rattle.std.specs.Prelude.{sum_by};
+ghost use Rattle.std.specs.Io.Iter.{u64_saturate};
 ghost use Rattle.pb_core.specs.Election.{most_projects};
 ghost use Rattle.pb_price.specs.Inner.Claims.{all_joined, joined};
-ghost use Rattle.pb_price.specs.Price.{price_at, largest_count};
+ghost use Rattle.pb_price.specs.Price.{price_at};
 ghost use Rattle.pb_price.specs.Inner.Working.{gathered, placed, IsBatch};
 
 use crate::answer::Answer;
@@ -57,8 +58,8 @@ impl<A: Allocator> Gathered<A> {
     pub(crate) fn into_prices(self, tally: &mut Tally) -> Vec<Option<Money>, A>
         ensures prices { result.items ≡ self.prices.items }
         ensures counted { tally.new ≡ record {
-          prices = min (tally.old.prices + self.priced) largest_count;
-          workers = min (tally.old.workers + self.workers) largest_count;
+          prices = u64_saturate (tally.old.prices + self.priced);
+          workers = u64_saturate (tally.old.workers + self.workers);
         } }
     {
         let Gathered {

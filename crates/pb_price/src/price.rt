@@ -1,8 +1,9 @@
 //! The price of one project.
 
-ghost use Rattle.std.specs.Prelude.{◌≡◌, ◌+◌, ◌<◌, length, min, IfOk, OnOk};
+ghost use Rattle.std.specs.Prelude.{◌≡◌, ◌+◌, ◌<◌, length, IfOk, OnOk};
 ghost use Rattle.std.specs.Prelude.{OnErr};
-ghost use Rattle.pb_price.specs.Price.{AreRests, IsPrice, largest_count};
+ghost use Rattle.std.specs.Io.Iter.{u64_saturate};
+ghost use Rattle.pb_price.specs.Price.{AreRests, IsPrice};
 
 use crate::steps::price_in_steps;
 use crate::supporters::Supporters;
@@ -29,7 +30,7 @@ pub fn price<A: Allocator, B: Allocator>(
     requires known { place < length supporters.now.costs }
     ensures price { IfOk result (IsPrice supporters.now rests.now place) }
     ensures counted { OnOk result (tally.new
-        ≡ record tally.old { prices = min (tally.old.prices + 1) largest_count }) }
+        ≡ record tally.old { prices = u64_saturate (tally.old.prices + 1) }) }
     ensures err { OnErr result (tally.new ≡ tally.old) }
 {
     let price = price_in_steps(supporters, rests, place);

@@ -1,7 +1,7 @@
 //! How many prices were computed, and by how many workers.
 
-ghost use Rattle.std.specs.Prelude.{◌≡◌, ◌+◌, min};
-ghost use Rattle.pb_price.specs.Price.{largest_count};
+ghost use Rattle.std.specs.Prelude.{◌≡◌, ◌+◌};
+ghost use Rattle.std.specs.Io.Iter.{u64_saturate};
 
 use std::marker::Model;
 
@@ -48,7 +48,7 @@ impl Tally {
 
     /// One more price was computed, without a worker.
     pub(crate) fn add_one(&mut self)
-        ensures { self.new ≡ record self.old { prices = min (self.old.prices + 1) largest_count } }
+        ensures { self.new ≡ record self.old { prices = u64_saturate (self.old.prices + 1) } }
     {
         self.prices = self.prices.saturating_add(1);
     }
@@ -56,8 +56,8 @@ impl Tally {
     /// This many more prices were computed, by this many workers.
     pub(crate) fn add(&mut self, prices: u64, workers: u32)
         ensures { self.new ≡ record {
-          prices = min (self.old.prices + prices) largest_count;
-          workers = min (self.old.workers + workers) largest_count;
+          prices = u64_saturate (self.old.prices + prices);
+          workers = u64_saturate (self.old.workers + workers);
         } }
     {
         self.prices = self.prices.saturating_add(prices);

@@ -1,5 +1,5 @@
 -- The rows of a file: its records, each field trimmed, without those that are blank.
-use Rattle.std.specs.Prelude.{ℕ, Bool, not, List, [], ◌∷◌, find, map, filter, true, false, Option}
+use Rattle.std.specs.Prelude.{ℕ, Bool, not, List, [], ◌∷◌, find, map, filter, Option}
 use Rattle.std.specs.List.{list_all, slice_index_or}
 use Rattle.std.specs.Char.{to_ascii_lowercase}
 use Rattle.std.specs.Str.{trim, bytes_eq}
@@ -11,8 +11,7 @@ use Rattle.pb_read.specs.declared.section.Section.TheVariants.{Meta, Projects, V
 use Rattle.pb_read.specs.declared.section.TheConstants.{NAMES}
 
 abbrev pub is_empty : List ℕ → Bool
-is_empty [] = true
-is_empty (b ∷ text) = false
+is_empty text = bytes_eq text []
 
 -- all fields of a row are empty
 abbrev pub is_blank : Fields → Bool

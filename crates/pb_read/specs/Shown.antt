@@ -20,39 +20,40 @@ pub data Sight : Type 0 where
   refused : Refusal → Sight
   ended : ElectionView → Sight
 
--- the records that were seen, without those that were refused
-abbrev pub kept : List Fields → List Sight → List Fields
-kept records [] = []
-kept records (seen at row e ∷ before) = kept records before ++ slice_index_or records (length before) [] ∷ []
-kept records (sight ∷ before) = kept records before
-
 -- the faults that were shown, in the order of their records
 abbrev pub faults_of : List Sight → List ReadFault
 faults_of [] = []
 faults_of (refused r ∷ before) = faults_of before ++ r.fault ∷ []
 faults_of (sight ∷ before) = faults_of before
 
--- a sight shows the next of these records, or their end, as it must: the election of a row of PROJECTS has the
--- terms and the projects of the rows up to here, that of a row of VOTES also their voters, and a refusal tells
--- what its fault is about
-abbrev pub IsNextSight : List Fields → List Sight → Sight → Type 0
-IsNextSight records before (seen at row e) =
-    (at ≡ length before + 1) × (row ≡ map trim (slice_index_or records (length before) []))
-    × ((stage : Stage) × IsAt (rows_of (kept records (seen at row e ∷ before))) (stage, e))
-IsNextSight records before (refused r) =
-    (r.fault.at ≡ length before + 1) × ((p : Stage × ElectionView) × IsAt (rows_of (kept records before)) p
-    × (r ≡ refusal_of p (map trim (slice_index_or records (length before) [])) r.fault))
-IsNextSight records before (ended e) = (length before ≡ length records) × StandsFor (kept records before) e
+module _ (records : List Fields) where
+  -- the records that were seen, without those that were refused
+  abbrev pub kept : List Sight → List Fields
+  kept [] = []
+  kept (seen at row e ∷ before) = kept before ++ slice_index_or records (length before) [] ∷ []
+  kept (sight ∷ before) = kept before
 
-abbrev pub AreShown : List Fields → List Sight → Type 0
-AreShown records [] = ⊤
-AreShown records (sight ∷ before) = IsNextSight records before sight × AreShown records before
+  -- a sight shows the next of these records, or their end, as it must: the election of a row of PROJECTS has the
+  -- terms and the projects of the rows up to here, that of a row of VOTES also their voters, and a refusal tells
+  -- what its fault is about
+  abbrev pub IsNextSight : List Sight → Sight → Type 0
+  IsNextSight before (seen at row e) =
+      (at ≡ length before + 1) × (row ≡ map trim (slice_index_or records (length before) []))
+      × ((stage : Stage) × IsAt (rows_of (kept (seen at row e ∷ before))) (stage, e))
+  IsNextSight before (refused r) =
+      (r.fault.at ≡ length before + 1) × ((p : Stage × ElectionView) × IsAt (rows_of (kept before)) p
+      × (r ≡ refusal_of p (map trim (slice_index_or records (length before) [])) r.fault))
+  IsNextSight before (ended e) = (length before ≡ length records) × StandsFor (kept before) e
 
--- nothing is left to show: the file has ended, or was refused for good
-abbrev pub IsAll : List Fields → List Sight → Type 0
-IsAll records (ended e ∷ before) = ⊤
-IsAll records (refused r ∷ before) = IsLeftOut false (kept records before) r.fault.kind
-IsAll records sights = ⊥
+  abbrev pub AreShown : List Sight → Type 0
+  AreShown [] = ⊤
+  AreShown (sight ∷ before) = IsNextSight before sight × AreShown before
+
+  -- nothing is left to show: the file has ended, or was refused for good
+  abbrev pub IsAll : List Sight → Type 0
+  IsAll (ended e ∷ before) = ⊤
+  IsAll (refused r ∷ before) = IsLeftOut false (kept before) r.fault.kind
+  IsAll sights = ⊥
 
 -- where it is known what was shown before, these records were shown after it, with these faults
 abbrev pub WereShown : List Fields → List ReadFault → (List Sight → Type 0) → Option (List Sight) → Option (List Sight) → Type 0

@@ -1,10 +1,11 @@
 -- A pricing record in keys is one in the words of the rule.
-use Rattle.std.proofs.Common.{◌≡◌, ◌≢◌, ℕ, zero, suc, ◌<◌, ◌≤◌, List, [], ◌∷◌, ◌++◌, length, get_or, Option, Some, None, true, false, refl, sym, subst, ◌∙◌, ap, inl, inr, arith}
+use Rattle.std.proofs.Common.{◌≡◌, ◌≢◌, ℕ, zero, suc, ◌<◌, ◌≤◌, List, [], ◌∷◌, ◌++◌, ◌-◌, length, get_or, take, Option, Some, None, true, false, refl, sym, subst, ◌∙◌, ap, inl, inr, arith}
 use Rattle.std.specs.Prelude.{All, ◌==◌, MatchOption, not, replicate}
 use Rattle.std.specs.List.{range_with_len}
 use Rattle.std.specs.Option.{option_map_or}
 use Rattle.std.proofs.lemmas.Bool.{true≢false, cond-true, cond-false, eq-eqb, false_from_ne_true, not-true, or_cases, or_left, or_right}
-use Rattle.std.proofs.lemmas.List.Elements.{All-nil, All-cons, All-head, All-tail}
+use Rattle.std.proofs.lemmas.List.Elements.{All-nil, All-cons, All-head, All-tail, All-take}
+use Rattle.std.proofs.lemmas.List.{length-append, take-append-le}
 use Rattle.std.proofs.lemmas.List.Folds.{list_any_at}
 use Rattle.std.proofs.lemmas.List.FromFn.{length-range_with_len}
 use Rattle.pb_price.proofs.Bounds.{is_price_at}
@@ -51,6 +52,15 @@ one_left_less s left before h w = record {
 -- what holds of each number that is listed holds of all
 all_from_listed : (P : ℕ → Type 0) (xs : List ℕ) → ((n : ℕ) → is_listed xs n ≡ true → P n) → All P xs
 all_from_listed P xs h k d below = h (get_or xs k d) (list_any_at (λ m. m == get_or xs k d) xs k d below (eq-eqb _ _ refl))
+
+-- and so of all but the last ones, where it holds of those before them
+first_ones : (P : ℕ → Type 0) (xs ys zs : List ℕ) (most : ℕ) → zs ≡ xs ++ ys → length ys ≤ most → ((n : ℕ) → is_listed xs n ≡ true → P n)
+    → All P (take (length zs - most) zs)
+first_ones P xs ys zs most parts few h =
+    let n = length (xs ++ ys) - most in
+    let within : n ≤ length xs = omega (arith, length-append xs ys, few) in
+    subst (λ zs. All P (take (length zs - most) zs)) (sym parts)
+    (subst (All P) (sym (take-append-le n xs ys within)) (All-take P n xs (all_from_listed P xs h)))
 
 listed_in_front : (xs ys : List ℕ) (n : ℕ) → is_listed xs n ≡ true → is_listed (xs ++ ys) n ≡ true
 listed_in_front [] ys n e = absurd (true≢false (sym e))
@@ -105,11 +115,8 @@ module _ (m : Measure) (s : SupportView) (support : IsSupport s) (workers : ℕ)
             let listed = h.listed place is_left in
             true≢false (sym (cheaper_is_before m s place price b.place b.price (positive place listed) (positive b.place b_left) cheaper)
             ∙ ap (is_before (key_of m s place price)) (sym b_is) ∙ r.none_before place price listed e);
-        needed = r.were_in_time.needed;
-        spare = r.were_in_time.spare;
-        parts = r.were_in_time.parts;
-        few = r.were_in_time.few;
-        in_time = all_from_listed (λ place. (price : ℕ) × (known place ≡ Some price) × ¬ IsCheaper m s b.place b.price place price) r.were_in_time.needed
+        in_time = first_ones (λ place. (price : ℕ) × (known place ≡ Some price) × ¬ IsCheaper m s b.place b.price place price) r.were_in_time.needed r.were_in_time.spare
+            priced (workers - 1) r.were_in_time.parts r.were_in_time.few
             (λ place listed. was_in_time place (needed_left place listed) (known place) refl (r.were_in_time.in_time place listed));
       }
 
@@ -125,12 +132,12 @@ module _ (m : Measure) (s : SupportView) (support : IsSupport s) (workers : ℕ)
         → PricingRecord m s workers rests before known (run_from m s n rests left).elected (priced ∷ later)
     one_round n short None e r =
         subst (λ (elected : List ElectedView). PricingRecord m s workers rests before known elected (priced ∷ later))
-        (sym (ap (λ (run : RunView). run.elected) (run_from-none m s rests left e n))) (
+        (sym (ap (λ (run : RunView). run.elected) (run_from-none m s rests left e n)))
+        (subst (λ (later : List (List ℕ)). PricingRecord m s workers rests before known [] (priced ∷ later)) (sym r.1) (
           known_after s rests priced known,
           are_priced s left before h rests priced known r.0.are_priced,
           λ place is_left. r.0.all_none place (h.listed place is_left),
-          r.1,
-        )
+        ))
     one_round zero short (Some b) e r =
         let less = length-without left b.place (best_is_key m s rests left b e).is_left in
         absurd (omega (arith, less, short))

@@ -1,14 +1,15 @@
 -- Steps of the code that fill the queue, take its heads, price them and put them back.
 use Rattle.std.proofs.Common.{◌≡◌, ◌≢◌, ℕ, ◌+◌, ◌<◌, ◌≤◌, List, [], ◌∷◌, ◌++◌, length, take, drop, get_or, Option, Some, None, refl, sym, subst, ◌∙◌, ap, inl, inr, arith, length-append, length-drop, suc}
-use Rattle.std.specs.Prelude.{All, map, min, option_map, ◌-◌}
+use Rattle.std.specs.Prelude.{All, map, option_map, ◌-◌}
 use Rattle.std.specs.List.Sorted.{IsStrictlySortedBy}
 use Rattle.std.specs.BTreeSet.{insert_key}
 use Rattle.std.specs.List.{cons_option}
 use Rattle.std.proofs.lemmas.Bool.{cases_eq}
 use Rattle.std.proofs.lemmas.List.{append_assoc, append-nil, get_or-map, map-append, take_all, take_more}
 use Rattle.std.proofs.lemmas.List.Elements.{All-cons, All-nil, filter_map-append}
+use Rattle.std.specs.Io.Iter.{u64_saturate}
 use Rattle.pb_core.specs.Election.{most_projects}
-use Rattle.pb_price.specs.Price.{largest_count, price_at}
+use Rattle.pb_price.specs.Price.{price_at}
 use Rattle.pb_price.specs.Supporters.{SupportView}
 use Rattle.pb_rounds.specs.declared.measure.Measure.{Measure}
 use Rattle.pb_rounds.specs.Inner.Key.{better_of}
@@ -240,7 +241,7 @@ module _ (m : Measure) (s : SupportView) (rests : List ℕ) (most : ℕ) (queue 
           let some : length t.heads ≡ length (x ∷ heads) = ap length e in
           absurd (omega (arith, same, placed_all, some))
 
-  pub counted_more : (n next : ℕ) (heads : List ℕ) → n ≡ length places → heads ≡ drop (length places) all → next ≡ min (n + length heads) largest_count
+  pub counted_more : (n next : ℕ) (heads : List ℕ) → n ≡ length places → heads ≡ drop (length places) all → next ≡ u64_saturate (n + length heads)
       → length queue ≤ most_projects → next ≡ length all
   counted_more n next heads n_is heads_is next_is few =
       let count : length heads ≡ length t.heads = ap length (heads_is ∙ heads_are) ∙ length_places t.heads in

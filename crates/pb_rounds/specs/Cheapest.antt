@@ -19,31 +19,32 @@ IsCheaper Votes s place price other other_price = ComesFirst price other_price p
 IsCheaper Cost s place price other other_price =
     ComesFirst (price * cost_at s other) (other_price * cost_at s place) place other
 
--- what is left to each voter once these elected are paid for, one after the other
-abbrev pub rests_after : SupportView → List ℕ → List ElectedView → List ℕ
-rests_after s rests [] = rests
-rests_after s rests (w ∷ elected) = rests_after s (charged (supporters_at s w.place) w.price rests) elected
+module _ (s : SupportView) where
+  -- what is left to each voter once these elected are paid for, one after the other
+  abbrev pub rests_after : List ℕ → List ElectedView → List ℕ
+  rests_after rests [] = rests
+  rests_after rests (w ∷ elected) = rests_after (charged (supporters_at s w.place) w.price rests) elected
 
--- there is a project at this place, and it is none of these
-abbrev pub IsLeft : SupportView → List ElectedView → ℕ → Type 0
-IsLeft s elected place = (place < length s.costs) × All (λ w. w.place ≢ place) elected
+  -- there is a project at this place, and it is none of these
+  abbrev pub IsLeft : List ElectedView → ℕ → Type 0
+  IsLeft elected place = (place < length s.costs) × All (λ w. w.place ≢ place) elected
 
--- w was elected at these rests, after those before it, at its price, and collected what its supporters could
--- pay of it; it was cheaper than each other project that was left and could be paid
-pub record WasCheapest (m : Measure) (s : SupportView) (rests : List ℕ) (before : List ElectedView)
-    (w : ElectedView) : Type 0 where
-  pub was_left : IsLeft s before w.place
-  pub priced : IsPrice s rests w.place (Some w.price)
-  pub collected : w.collected ≡ paid_at (supporters_at s w.place) rests w.price
-  pub cheapest : (other price : ℕ) → IsLeft s before other → other ≢ w.place → IsPrice s rests other (Some price)
-      → IsCheaper m s w.place w.price other price
+module _ (m : Measure) (s : SupportView) where
+  -- w was elected at these rests, after those before it, at its price, and collected what its supporters could
+  -- pay of it; it was cheaper than each other project that was left and could be paid
+  pub record WasCheapest (rests : List ℕ) (before : List ElectedView) (w : ElectedView) : Type 0 where
+    pub was_left : IsLeft s before w.place
+    pub priced : IsPrice s rests w.place (Some w.price)
+    pub collected : w.collected ≡ paid_at (supporters_at s w.place) rests w.price
+    pub cheapest : (other price : ℕ) → IsLeft s before other → other ≢ w.place → IsPrice s rests other (Some price)
+        → IsCheaper m s w.place w.price other price
 
--- A run at this share elects these, in this order, and leaves these rests: each of the elected was the
--- cheapest of its round, the rests are what all their payments left, and no project that is left has a price.
--- The supporters are those of an election.
-pub record IsRun (m : Measure) (s : SupportView) (share : ℕ) (elected : List ElectedView) (rests : List ℕ) : Type 0 where
-  pub cheapest : (before : List ElectedView) (w : ElectedView) (later : List ElectedView) → elected ≡ before ++ w ∷ later
-      → WasCheapest m s (rests_after s (replicate s.voters share) before) before w
-  pub rests_are : rests ≡ rests_after s (replicate s.voters share) elected
-  pub none_left : (place : ℕ) → IsLeft s elected place → IsPrice s rests place None
-  pub is_support : IsSupport s
+  -- A run at this share elects these, in this order, and leaves these rests: each of the elected was the
+  -- cheapest of its round, the rests are what all their payments left, and no project that is left has a price.
+  -- The supporters are those of an election.
+  pub record IsRun (share : ℕ) (elected : List ElectedView) (rests : List ℕ) : Type 0 where
+    pub cheapest : (before : List ElectedView) (w : ElectedView) (later : List ElectedView) → elected ≡ before ++ w ∷ later
+        → WasCheapest (rests_after s (replicate s.voters share) before) before w
+    pub rests_are : rests ≡ rests_after s (replicate s.voters share) elected
+    pub none_left : (place : ℕ) → IsLeft s elected place → IsPrice s rests place None
+    pub is_support : IsSupport s

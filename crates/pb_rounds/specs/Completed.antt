@@ -7,31 +7,31 @@ use Rattle.pb_rounds.specs.Count.{opening_share, spent_on}
 use Rattle.pb_rounds.specs.Run.{ElectedView}
 use Rattle.pb_rounds.specs.declared.measure.Measure.{Measure}
 
--- a run after this many raises elects such as these
-abbrev pub After : Measure → ElectionView → (step raises : ℕ) → (List ElectedView → Type 0) → Type 0
-After m e step raises IsSuch = (elected : List ElectedView) × (rests : List ℕ)
-    × IsRun m (support_of e) (opening_share e + raises * step) elected rests × IsSuch elected
-
 -- the elected are within the budget, and with any other project that somebody supports they would be over it
 pub record IsExhausted (s : SupportView) (budget : ℕ) (elected : List ElectedView) : Type 0 where
   pub within : spent_on s elected ≤ budget
   pub no_room : (place : ℕ) → IsLeft s elected place → 0 < length (supporters_at s place)
       → budget < spent_on s elected + cost_at s place
 
--- the outcome after this many raises is neither over the budget nor exhausted
-abbrev pub GoesOn : Measure → ElectionView → (step raises : ℕ) → Type 0
-GoesOn m e step raises = After m e step raises (λ elected.
-    (¬ (e.budget < spent_on (support_of e) elected)) × (¬ IsExhausted (support_of e) e.budget elected))
+module _ (m : Measure) (e : ElectionView) (step : ℕ) where
+  -- a run after this many raises elects such as these
+  abbrev pub After : ℕ → (List ElectedView → Type 0) → Type 0
+  After raises IsSuch = (elected : List ElectedView) × (rests : List ℕ)
+      × IsRun m (support_of e) (opening_share e + raises * step) elected rests × IsSuch elected
 
--- Completion by raises, up to a limit of them: fewer raises go on, and after these the outcome is exhausted,
--- or it goes on and one raise more, which the limit allows, makes it over the budget.
-pub record IsCompleted (m : Measure) (e : ElectionView) (step limit raises : ℕ) : Type 0 where
-  pub within_limit : raises ≤ limit
-  pub fewer_go_on : (fewer : ℕ) → fewer < raises → GoesOn m e step fewer
-  pub ends : After m e step raises (IsExhausted (support_of e) e.budget)
-      ⊎ (GoesOn m e step raises × (raises < limit)
-      × After m e step (raises + 1) (λ elected. e.budget < spent_on (support_of e) elected))
+  -- the outcome after this many raises is neither over the budget nor exhausted
+  abbrev pub GoesOn : ℕ → Type 0
+  GoesOn raises = After raises (λ elected.
+      (¬ (e.budget < spent_on (support_of e) elected)) × (¬ IsExhausted (support_of e) e.budget elected))
 
--- the raises are spent: after none, one, two and so on up to the limit the outcome goes on
-abbrev pub AreSpent : Measure → ElectionView → (step limit : ℕ) → Type 0
-AreSpent m e step limit = (raises : ℕ) → raises ≤ limit → GoesOn m e step raises
+  -- Completion by raises, up to a limit of them: fewer raises go on, and after these the outcome is exhausted,
+  -- or it goes on and one raise more, which the limit allows, makes it over the budget.
+  pub record IsCompleted (limit raises : ℕ) : Type 0 where
+    pub within_limit : raises ≤ limit
+    pub fewer_go_on : (fewer : ℕ) → fewer < raises → GoesOn fewer
+    pub ends : After raises (IsExhausted (support_of e) e.budget) ⊎ (GoesOn raises × (raises < limit)
+        × After (raises + 1) (λ elected. e.budget < spent_on (support_of e) elected))
+
+  -- the raises are spent: after none, one, two and so on up to the limit the outcome goes on
+  abbrev pub AreSpent : ℕ → Type 0
+  AreSpent limit = (raises : ℕ) → raises ≤ limit → GoesOn raises

@@ -48,28 +48,29 @@ no_shares completion = false
 abbrev pub share_by : Completion → ElectionView → ℕ → ℕ → ℕ
 share_by c e step raises = if no_shares c then 0 else opening_share e + raises * step
 
-abbrev pub elected_after : Measure → ElectionView → ℕ → ℕ → List ElectedView
-elected_after m e step raises = (outcome_of m e (share_after e step raises)).elected
+module _ (m : Measure) (e : ElectionView) (step : ℕ) where
+  abbrev pub elected_after : ℕ → List ElectedView
+  elected_after raises = (outcome_of m e (share_after e step raises)).elected
 
-abbrev pub is_over_after : Measure → ElectionView → ℕ → ℕ → Bool
-is_over_after m e step raises = is_over (support_of e) e.budget (elected_after m e step raises)
+  abbrev pub is_over_after : ℕ → Bool
+  is_over_after raises = is_over (support_of e) e.budget (elected_after raises)
 
-abbrev pub is_exhausted_after : Measure → ElectionView → ℕ → ℕ → Bool
-is_exhausted_after m e step raises = is_exhausted (support_of e) e.budget (elected_after m e step raises)
+  abbrev pub is_exhausted_after : ℕ → Bool
+  is_exhausted_after raises = is_exhausted (support_of e) e.budget (elected_after raises)
 
--- an outcome that is over or exhausted decides
-abbrev pub is_decisive : Measure → ElectionView → ℕ → ℕ → Bool
-is_decisive m e step raises = is_over_after m e step raises || is_exhausted_after m e step raises
+  -- an outcome that is over or exhausted decides
+  abbrev pub is_decisive : ℕ → Bool
+  is_decisive raises = is_over_after raises || is_exhausted_after raises
 
--- the first number of raises, up to a limit, whose outcome decides
-unfoldable pub first_decisive : Measure → ElectionView → ℕ → ℕ → Option ℕ
-first_decisive m e step limit = find (is_decisive m e step) (range_with_len 0 (limit + 1))
+  -- the first number of raises, up to a limit, whose outcome decides
+  unfoldable pub first_decisive : ℕ → Option ℕ
+  first_decisive limit = find is_decisive (range_with_len 0 (limit + 1))
 
--- completion by raises: the first outcome that is exhausted, or the last one before the first that is over
-abbrev pub add1_of : Measure → ElectionView → ℕ → ℕ → Option ℕ
-add1_of m e step limit =
-    option_map (λ raises. if is_over_after m e step raises then raises - 1 else raises)
-    (first_decisive m e step limit)
+  -- completion by raises: the first outcome that is exhausted, or the last one before the first that is over
+  abbrev pub add1_of : ℕ → Option ℕ
+  add1_of limit =
+      option_map (λ raises. if is_over_after raises then raises - 1 else raises)
+      (first_decisive limit)
 
 -- how many raises a completion decides on, if it does within the limit
 abbrev pub raises_of : Completion → Measure → ElectionView → ℕ → ℕ → Option ℕ

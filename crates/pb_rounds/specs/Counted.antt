@@ -14,28 +14,29 @@ use Rattle.pb_rounds.specs.declared.count_fault.CountFault.TheVariants.{NoMemory
 use Rattle.pb_rounds.specs.declared.options.Completion.TheVariants.{Add1}
 use Rattle.pb_rounds.specs.declared.options.CountOptions.{CountOptions}
 
--- The outcome is that of a run at its share, which is 0 without shares, else the opening share raised by so
--- many steps: with Add1 by as many as complete it, else by none. So it is one outcome, for any number of workers.
--- What is elected is within the budget, and a price system explains it; and the numbers of prices are the
--- lengths of a pricing record.
-pub record IsCountOf (e : ElectionView) (options : CountOptions) (o : OutcomeView) : Type 0 where
-  pub in_range : refusal_of options ≡ None
-  pub share_is : o.share
-      ≡ (if no_shares options.completion then 0 else opening_share e + o.raised * options.step)
-  pub run_is : IsRun options.measure (support_of e) o.share o.elected o.rests
-  pub unraised : options.completion ≢ Add1 → o.raised ≡ 0
-  pub completed : options.completion ≡ Add1
-      → IsCompleted options.measure e options.step options.max_raises o.raised
-  pub within_budget : spent_on (support_of e) o.elected ≤ e.budget
-  pub price_system : (payments : List (List ℕ))
-      × IsPriceSystem (support_of e) o.share o.elected o.rests payments
-  pub priced : HasPricing options.measure (support_of e) options.workers o.share o.elected o.priced
+module _ (e : ElectionView) (options : CountOptions) where
+  -- The outcome is that of a run at its share, which is 0 without shares, else the opening share raised by so
+  -- many steps: with Add1 by as many as complete it, else by none. So it is one outcome, for any number of workers.
+  -- What is elected is within the budget, and a price system explains it; and the numbers of prices are the
+  -- lengths of a pricing record.
+  pub record IsCountOf (o : OutcomeView) : Type 0 where
+    pub in_range : refusal_of options ≡ None
+    pub share_is : o.share
+        ≡ (if no_shares options.completion then 0 else opening_share e + o.raised * options.step)
+    pub run_is : IsRun options.measure (support_of e) o.share o.elected o.rests
+    pub unraised : options.completion ≢ Add1 → o.raised ≡ 0
+    pub completed : options.completion ≡ Add1
+        → IsCompleted options.measure e options.step options.max_raises o.raised
+    pub within_budget : spent_on (support_of e) o.elected ≤ e.budget
+    pub price_system : (payments : List (List ℕ))
+        × IsPriceSystem (support_of e) o.share o.elected o.rests payments
+    pub priced : HasPricing options.measure (support_of e) options.workers o.share o.elected o.priced
 
--- When each fault of a count comes: options that are out of their ranges, and raises of which none up to the
--- limit ends the completion. Out of memory aside, no other count is refused.
-abbrev pub IsCountFault : ElectionView → CountOptions → CountFault → Type 0
-IsCountFault e options RaisesSpent =
-    (refusal_of options ≡ None) × (options.completion ≡ Add1)
-    × AreSpent options.measure e options.step options.max_raises
-IsCountFault e options NoMemory = refusal_of options ≡ None
-IsCountFault e options fault = refusal_of options ≡ Some fault
+  -- When each fault of a count comes: options that are out of their ranges, and raises of which none up to the
+  -- limit ends the completion. Out of memory aside, no other count is refused.
+  abbrev pub IsCountFault : CountFault → Type 0
+  IsCountFault RaisesSpent =
+      (refusal_of options ≡ None) × (options.completion ≡ Add1)
+      × AreSpent options.measure e options.step options.max_raises
+  IsCountFault NoMemory = refusal_of options ≡ None
+  IsCountFault fault = refusal_of options ≡ Some fault

@@ -1,7 +1,7 @@
 -- Which prices a run computes: of the projects left, those whose last known price could still be the
 -- cheapest.
-use Rattle.std.specs.Prelude.{◌≡◌, ℕ, Option, Some, None, List, [], ◌∷◌, ◌++◌, ◌-◌, ◌≤◌, All, Contains}
-use Rattle.std.specs.Prelude.{nat_eq, map, length, replicate}
+use Rattle.std.specs.Prelude.{◌≡◌, ℕ, Option, Some, None, List, [], ◌∷◌, ◌-◌, All, Contains}
+use Rattle.std.specs.Prelude.{nat_eq, map, length, replicate, take}
 use Rattle.std.specs.List.{IsDistinct}
 use Rattle.pb_price.specs.Price.{IsPrice}
 use Rattle.pb_price.specs.Supporters.{SupportView, supporters_at}
@@ -18,36 +18,32 @@ pub record ArePriced (s : SupportView) (elected : List ElectedView) (rests price
   pub renewed : (place : ℕ) → Contains priced place → IsPrice s rests place (next place)
   pub kept : (place : ℕ) → ¬ Contains priced place → next place ≡ known place
 
--- A round that elects w, after those before it, and prices these: w is among them; by the prices known next
--- no other project left is cheaper than w; and w was not cheaper than any of them by the price known before,
--- but for at most one less than the workers.
-pub record IsPricedRound (m : Measure) (s : SupportView) (workers : ℕ) (before : List ElectedView)
-    (known next : ℕ → Option ℕ) (w : ElectedView) (priced : List ℕ) : Type 0 where
-  pub has_winner : Contains priced w.place
-  pub none_cheaper : (place price : ℕ) → IsLeft s before place → next place ≡ Some price
-      → ¬ IsCheaper m s place price w.place w.price
-  pub needed : List ℕ
-  pub spare : List ℕ
-  pub parts : priced ≡ needed ++ spare
-  pub few : length spare ≤ workers - 1
-  pub in_time : All (λ place. (price : ℕ) × (known place ≡ Some price) × ¬ IsCheaper m s w.place w.price place price) needed
+module _ (m : Measure) (s : SupportView) (workers : ℕ) where
+  -- A round that elects w, after those before it, and prices these: w is among them; by the prices known next
+  -- no other project left is cheaper than w; and w was not cheaper than any of them by the price known before,
+  -- but for the last ones, at most one less than the workers.
+  pub record IsPricedRound (before : List ElectedView) (known next : ℕ → Option ℕ) (w : ElectedView)
+      (priced : List ℕ) : Type 0 where
+    pub has_winner : Contains priced w.place
+    pub none_cheaper : (place price : ℕ) → IsLeft s before place → next place ≡ Some price
+        → ¬ IsCheaper m s place price w.place w.price
+    pub in_time : All (λ place. (price : ℕ) × (known place ≡ Some price)
+        × ¬ IsCheaper m s w.place w.price place price) (take (length priced - (workers - 1)) priced)
 
--- The lists of the projects priced, one for each round that elects one of these, from these rests and known
--- prices on, after those before, and one for the last round, after which each project left is known to have
--- no price.
-abbrev pub PricingRecord : Measure → SupportView → ℕ → (rests : List ℕ) → (before : List ElectedView) → (ℕ → Option ℕ)
-    → (elected : List ElectedView) → List (List ℕ) → Type 0
-PricingRecord m s workers rests before known elected [] = ⊥
-PricingRecord m s workers rests before known [] (priced ∷ later) = (next : ℕ → Option ℕ)
-    × ArePriced s before rests priced known next × ((place : ℕ) → IsLeft s before place → next place ≡ None)
-    × (later ≡ [])
-PricingRecord m s workers rests before known (w ∷ elected) (priced ∷ later) = (next : ℕ → Option ℕ)
-    × ArePriced s before rests priced known next × IsPricedRound m s workers before known next w priced
-    × PricingRecord m s workers (charged (supporters_at s w.place) w.price rests) (w ∷ before) next elected later
+  -- The lists of the projects priced, one for each round that elects one of these, from these rests and known
+  -- prices on, after those before, and one for the last round, after which each project left is known to have
+  -- no price.
+  abbrev pub PricingRecord : List ℕ → List ElectedView → (ℕ → Option ℕ) → List ElectedView → List (List ℕ) → Type 0
+  PricingRecord rests before known [] (priced ∷ []) = (next : ℕ → Option ℕ)
+      × ArePriced s before rests priced known next × ((place : ℕ) → IsLeft s before place → next place ≡ None)
+  PricingRecord rests before known (w ∷ elected) (priced ∷ later) = (next : ℕ → Option ℕ)
+      × ArePriced s before rests priced known next × IsPricedRound before known next w priced
+      × PricingRecord (charged (supporters_at s w.place) w.price rests) (w ∷ before) next elected later
+  PricingRecord rests before known elected rounds = ⊥
 
--- these are the numbers of prices of a pricing record of a run at this share, where each known price is 0 at
--- first
-abbrev pub HasPricing : Measure → SupportView → (workers share : ℕ) → (elected : List ElectedView) → List ℕ → Type 0
-HasPricing m s workers share elected priced = (record_of : List (List ℕ))
-    × PricingRecord m s workers (replicate s.voters share) [] (λ _. Some 0) elected record_of
-    × (priced ≡ map length record_of)
+  -- these are the numbers of prices of a pricing record of a run at this share, where each known price is 0 at
+  -- first
+  abbrev pub HasPricing : (share : ℕ) → (elected : List ElectedView) → List ℕ → Type 0
+  HasPricing share elected priced = (record_of : List (List ℕ))
+      × PricingRecord (replicate s.voters share) [] (λ _. Some 0) elected record_of
+      × (priced ≡ map length record_of)

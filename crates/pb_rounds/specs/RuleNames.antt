@@ -47,13 +47,10 @@ rule_word c f = if no_shares c then (if fills_up f then codes "greedy" else code
     by_completion c f (codes "equalshares") (codes "equalshares/add1") (codes "unknown") (codes "unknown")
 
 -- a rule in words: its measure, its raises, and whether what is left is filled up
-abbrev pub completion_text : Completion → ℕ → ℕ → List ℕ
-completion_text Add1 step most = codes ", raises of " ++ money_text step ++ codes ", at most " ++ decimal most
-completion_text completion step most = codes ", no raises"
-
 abbrev pub rule_text : Rule → List ℕ
 rule_text rule = let o = rule.options in
+    let none = codes ", no raises" in let filled = codes ", filled up by votes" in
+    let raises = codes ", raises of " ++ money_text o.step ++ codes ", at most " ++ decimal o.max_raises in
     if no_shares o.completion then (if fills_up rule.fill_up then codes "most votes first" else codes "no shares") else
     by_measure o.measure (codes "equal shares by price") (codes "equal shares by price over cost")
-    ++ (completion_text o.completion o.step o.max_raises
-    ++ (if fills_up rule.fill_up then codes ", filled up by votes" else []))
+    ++ by_completion o.completion rule.fill_up none raises (none ++ filled) (raises ++ filled)

@@ -26,22 +26,23 @@ abbrev pub weight_of : Measure → SupportView → ℕ → ℕ
 weight_of Votes s place = 1
 weight_of Cost s place = cost_at s place
 
--- the key of the project at this place; every key is written so
-abbrev pub key_of : Measure → SupportView → ℕ → ℕ → KeyView
-key_of m s place price = record { price = price; weight = weight_of m s place; place = place }
+module _ (m : Measure) (s : SupportView) where
+  -- the key of the project at this place; every key is written so
+  abbrev pub key_of : ℕ → ℕ → KeyView
+  key_of place price = record { price = price; weight = weight_of m s place; place = place }
 
--- the project with its price at these rests, where it has one
-abbrev pub key_at : Measure → SupportView → List ℕ → ℕ → Option KeyView
-key_at m s rests place = option_map (key_of m s place) (price_at s rests place)
+  -- the project with its price at these rests, where it has one
+  abbrev pub key_at : List ℕ → ℕ → Option KeyView
+  key_at rests place = option_map (key_of place) (price_at s rests place)
 
--- the keys of the projects left, in file order
-abbrev pub keys_at : Measure → SupportView → List ℕ → List ℕ → List KeyView
-keys_at m s rests left = filter_map (key_at m s rests) left
+  -- the keys of the projects left, in file order
+  abbrev pub keys_at : List ℕ → List ℕ → List KeyView
+  keys_at rests left = filter_map (key_at rests) left
 
--- the best project of a round: the least price over weight among the projects left, the first in the file
--- among equals
-unfoldable pub best_of : Measure → SupportView → List ℕ → List ℕ → Option KeyView
-best_of m s rests left = first_least is_before (keys_at m s rests left)
+  -- the best project of a round: the least price over weight among the projects left, the first in the file
+  -- among equals
+  unfoldable pub best_of : List ℕ → List ℕ → Option KeyView
+  best_of rests left = first_least is_before (keys_at rests left)
 
 -- what a voter pays: a supporter the price, or all that is left where that is less; nobody else anything
 abbrev pub payment_of : List ℕ → ℕ → List ℕ → ℕ → ℕ
@@ -64,20 +65,21 @@ without place left = filter (λ p. not (p == place)) left
 abbrev pub then_run : ElectedView → RunView → RunView
 then_run w run = record { elected = w ∷ run.elected; rests = run.rests }
 
--- a run of this many rounds at most: while there is a best project it is elected, and its supporters pay
-unfoldable pub run_from : Measure → SupportView → ℕ → List ℕ → List ℕ → RunView
-run_from m s zero rests left = record { elected = []; rests = rests }
-run_from m s (suc rounds) rests left =
-    option_map_or
-    (λ k. then_run (elected_by s rests k)
-    (run_from m s rounds (charged (supporters_at s k.place) k.price rests) (without k.place left)))
-    (best_of m s rests left)
-    (record { elected = []; rests = rests })
+module _ (m : Measure) (s : SupportView) where
+  -- a run of this many rounds at most: while there is a best project it is elected, and its supporters pay
+  unfoldable pub run_from : ℕ → List ℕ → List ℕ → RunView
+  run_from zero rests left = record { elected = []; rests = rests }
+  run_from (suc rounds) rests left =
+      option_map_or
+      (λ k. then_run (elected_by s rests k)
+      (run_from rounds (charged (supporters_at s k.place) k.price rests) (without k.place left)))
+      (best_of m s rests left)
+      (record { elected = []; rests = rests })
 
--- a run at a share: all projects are left, and every voter's rest is the share
-unfoldable pub run_of : Measure → SupportView → ℕ → RunView
-run_of m s share =
-    run_from m s (length s.costs) (replicate s.voters share) (range_with_len 0 (length s.costs))
+  -- a run at a share: all projects are left, and every voter's rest is the share
+  unfoldable pub run_of : ℕ → RunView
+  run_of share =
+      run_from (length s.costs) (replicate s.voters share) (range_with_len 0 (length s.costs))
 
 -- the outcome of an election at a share
 abbrev pub outcome_of : Measure → ElectionView → ℕ → RunView

@@ -3,8 +3,9 @@
 ghost use Rattle.std.specs.Prelude.{◌≡◌, ◌+◌, ◌∷◌, ◌++◌, [], ◌<◌, ◌≤◌, ◌^◌, All, length, max, min, true};
 ghost use Rattle.std.specs.Prelude.{IfOk, None, OnOk, Some};
 ghost use Rattle.std.specs.List.Sorted.{IsStrictlyIncreasing};
+ghost use Rattle.std.specs.Io.Iter.{u64_saturate};
 ghost use Rattle.pb_core.specs.Election.{most_projects};
-ghost use Rattle.pb_price.specs.Price.{paid_at, price_at, AreRests, largest_count};
+ghost use Rattle.pb_price.specs.Price.{paid_at, price_at, AreRests};
 ghost use Rattle.pb_price.specs.PriceFault.{is_worker_count};
 ghost use Rattle.pb_price.specs.Supporters.{supporters_at};
 ghost use Rattle.pb_rounds.specs.Inner.Key.{better_of};
@@ -81,9 +82,9 @@ fn price_heads<R: Threads + Sync, G: Gate, A: Allocator + Copy + Send + Sync>(
         heads.now) }
     ensures best { OnOk result (fresh.new.best ≡ first_least is_before fresh.new.keys.items) }
     ensures counted { OnOk result
-        (tally.new.prices ≡ min (tally.old.prices + length heads.now) largest_count) }
-    ensures workers { OnOk result (tally.new.workers ≡ min (tally.old.workers + max 1 (min (length heads.now)
-        (workers_for pricing.now.workers pricing.now.supporters.now heads.now))) largest_count) }
+        (tally.new.prices ≡ u64_saturate (tally.old.prices + length heads.now)) }
+    ensures workers { OnOk result (tally.new.workers ≡ u64_saturate (tally.old.workers + max 1 (min (length heads.now)
+        (workers_for pricing.now.workers pricing.now.supporters.now heads.now)))) }
 {
     let workers = workers_for(pricing.workers, pricing.supporters, heads);
     let pieces = Pieces {

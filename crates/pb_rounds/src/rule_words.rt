@@ -2,7 +2,8 @@
 
 ghost use Rattle.std.specs.Prelude.{◌≡◌, ◌++◌, [], IfOk, OnOk, codes, decimal, string_bytes};
 ghost use Rattle.std.specs.Prelude.{if◌then◌else◌};
-ghost use Rattle.pb_rounds.specs.RuleNames.{completion_text, fills_up, profile_name, rule_text, rule_word};
+ghost use Rattle.pb_core.specs.MoneyText.{money_text};
+ghost use Rattle.pb_rounds.specs.RuleNames.{fills_up, profile_name, rule_text, rule_word};
 
 use crate::measure::Measure;
 use crate::options::{Completion, CountOptions};
@@ -98,7 +99,8 @@ fn put_fill_up(text: &mut String, fill_up: FillUp) -> Result<(), NoMemory>
 /// Puts the step of the raises and their limit after a text.
 fn put_raises(alloc: Global, text: &mut String, options: &CountOptions) -> Result<(), NoMemory>
     ensures { OnOk result (string_bytes text.new
-        ≡ string_bytes text.old ++ completion_text Completion.Add1 options.now.step options.now.max_raises) }
+        ≡ string_bytes text.old ++ (codes ", raises of " ++ money_text options.now.step
+        ++ codes ", at most " ++ decimal options.now.max_raises)) }
 {
     let step = options.step.text(alloc)?;
     let put = put_terms(text, step.as_str(), options.max_raises);

@@ -10,7 +10,7 @@ ghost use Rattle.pb_read.specs.Voting.{is_among};
 ghost use Rattle.pb_rows.specs.Reading.{Fields, IsNext, records_of};
 ghost use Rattle.pb_script.specs.Roll.{AreRoll, IsNextRollFault, ids_of};
 ghost use Rattle.pb_script.specs.Inner.Roll.{IsRoll, IsRollFault};
-ghost use Rattle.pb_script.specs.Inner.Roll.{IsFaultAfter, PutsId};
+ghost use Rattle.pb_script.specs.Inner.Roll.{BlamesRollReader, IsFaultAfter, PutsId};
 ghost use Rattle.pb_read.specs.StandsFor.{most_records};
 
 use csv::StringRecord;
@@ -98,6 +98,7 @@ fn read_ids<R: Read>(
     requires { roll.old ≡ map.empty }
     ensures roll { OnOk result (IfSome records.old.left (λ rows. IsRoll rows roll.new)) }
     ensures fault { IfErr result (λ fault. IfSome records.old.left (λ rows. IsRollFault rows fault)) }
+    ensures blame { IfErr result (λ fault. BlamesRollReader fault records.new.fault) }
 {
     let mut row = StringRecord::new(alloc);
     let mut rows = 0u32;
@@ -129,6 +130,7 @@ fn next_row<R: Read>(
     ensures few { IfOk result (λ found. found ≡ true → ids < most_records) }
     ensures fault { IfErr result (λ fault. IfSome records.old.left
         (λ left. IsFaultAfter rows ids left fault)) }
+    ensures blame { IfErr result (λ fault. BlamesRollReader fault records.new.fault) }
 {
     match records.read(row) {
         Ok(true) => {}

@@ -43,26 +43,25 @@ AreClerks clerks = (0 < clerks) × (clerks ≤ most_clerks)
 abbrev pub IsAnothers : SharedView → List Sheet → ℕ → Type 0
 IsAnothers d sheets word = (0 < word) × (word ≤ d.clerks) × All (λ x. word ≢ x.number + 1) sheets
 
--- the call's last exchange found this word; those before it, fewer than the tries, were lost to other clerks
-abbrev pub Tries : ℕ → SharedView → Sheet → ℕ → Sheet → Type 0
-Tries tries d x word x' = (lost : List ℕ) × All (IsAnothers d (x ∷ [])) lost × (length lost < tries)
-    × (x'.found ≡ x.found ++ (lost ++ word ∷ []))
+module _ (tries : ℕ) (d : SharedView) (x : Sheet) where
+  -- the call's last exchange found this word; those before it, fewer than the tries, were lost to other clerks
+  abbrev pub Tries : ℕ → Sheet → Type 0
+  Tries word x' = (lost : List ℕ) × All (IsAnothers d (x ∷ [])) lost × (length lost < tries)
+      × (x'.found ≡ x.found ++ (lost ++ word ∷ []))
 
--- one of the tries won the lock, and the clerk has seen the journal, which the desk can have, and which grew
--- by other clerks' entries alone; nothing else of the clerk has changed
-abbrev pub Sees : ℕ → SharedView → Sheet → Sheet → Type 0
-Sees tries d x x' =
-    Tries tries d x 0 x' × (CanHave d.start x'.seen × GrowsByOthers x.number x.seen x'.seen)
-    × (x' ≡ record x { seen = x'.seen; found = x'.found })
+  -- one of the tries won the lock, and the clerk has seen the journal, which the desk can have, and which grew
+  -- by other clerks' entries alone; nothing else of the clerk has changed
+  abbrev pub Sees : Sheet → Type 0
+  Sees x' = Tries 0 x' × (CanHave d.start x'.seen × GrowsByOthers x.number x.seen x'.seen)
+      × (x' ≡ record x { seen = x'.seen; found = x'.found })
 
--- one of the tries won the lock, and the request was answered: past other clerks' entries that came in
--- between, its entry stands last in what the clerk has now seen, and is the only one that its own grew by
-abbrev pub Serves : ℕ → SharedView → Sheet → RequestView → Answer → Sheet → Type 0
-Serves tries d x request answer x' =
-    let last : EntryView = record { clerk = x.number; request = request; answer = answer } in
-    (before : List EntryView) × GrowsByOthers x.number x.seen before × CanHave d.start x'.seen
-    × Tries tries d x 0 x'
-    × (x' ≡ record x { seen = before ++ last ∷ []; mine = x.mine ++ last ∷ []; found = x'.found })
+  -- one of the tries won the lock, and the request was answered: past other clerks' entries that came in
+  -- between, its entry stands last in what the clerk has now seen, and is the only one that its own grew by
+  abbrev pub Serves : RequestView → Answer → Sheet → Type 0
+  Serves request answer x' =
+      let last : EntryView = record { clerk = x.number; request = request; answer = answer } in
+      (before : List EntryView) × GrowsByOthers x.number x.seen before × CanHave d.start x'.seen × Tries 0 x'
+      × (x' ≡ record x { seen = before ++ last ∷ []; mine = x.mine ++ last ∷ []; found = x'.found })
 
 -- the clerk's load found this front word: the length of what it has now seen, which the desk can have
 abbrev pub Reads : SharedView → Sheet → ℕ → Sheet → Type 0

@@ -55,7 +55,7 @@ impl Kinship {
             Ok(beside) => beside,
             Err(error) => return Err(unread_beside(rt, path, &error)),
         };
-        let standing = match self.file.get() {
+        let belonging = match self.file.get() {
             Some(digest) => {
                 let text = beside.as_ref().map(|text| text.as_slice());
                 belonging_of(alloc, journal, text, digest.digits())
@@ -64,11 +64,11 @@ impl Kinship {
             None => Ok(Belonging::Other),
         };
         drop(beside);
-        match standing {
+        match belonging {
             Ok(Belonging::Other) if !self.takes_other => Err(RunRefusal::Fault(
                 AppFault::OtherFile,
             )),
-            Ok(standing) => Ok(standing),
+            Ok(belonging) => Ok(belonging),
             Err(NoMemory) => Err(RunRefusal::Fault(AppFault::Memory)),
         }
     }
@@ -81,11 +81,11 @@ impl Kinship {
         path: &str,
         journal: &[u8],
     ) -> Result<Belonging, RunRefusal> {
-        let standing = self.belonging(rt, path, journal)?;
-        if standing == Belonging::New {
+        let belonging = self.belonging(rt, path, journal)?;
+        if belonging == Belonging::New {
             self.name_file(rt, path, &[])?;
         }
-        Ok(standing)
+        Ok(belonging)
     }
 
     /// Has it stand beside the journal with this path, whose desk was opened, that it belongs to the .pb
@@ -94,10 +94,10 @@ impl Kinship {
         &self,
         rt: &R,
         path: &str,
-        standing: Belonging,
+        belonging: Belonging,
     ) -> Result<(), RunRefusal> {
         let alloc = rt.alloc();
-        match standing {
+        match belonging {
             Belonging::New | Belonging::Same => Ok(()),
             Belonging::Unnamed => {
                 self.name_file(rt, path, &[])?;

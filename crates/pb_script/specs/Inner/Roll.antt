@@ -1,5 +1,5 @@
 -- How far a voters' roll was read.
-use Rattle.std.specs.Prelude.{◌≡◌, ℕ, ◌≤◌, ◌++◌, Bool, true, false, List, All, Option, codes, is_some, length}
+use Rattle.std.specs.Prelude.{◌≡◌, ℕ, ◌≤◌, ◌++◌, ⊤, Bool, true, false, List, All, Option, Some, codes, is_some, length}
 use Rattle.std.specs.Cmp.Lexicographic.{slice_cmp}
 use Rattle.std.specs.FinMap.{FinMap, get, insert}
 use Rattle.std.specs.Ordering.{nat_cmp}
@@ -12,11 +12,19 @@ use Rattle.pb_script.specs.Inner.ScriptReading.{HaveGone}
 use Rattle.pb_script.specs.Roll.{AreRoll, IsNextRollFault, ids_of}
 use Rattle.pb_read.specs.StandsFor.{most_records}
 use Rattle.pb_script.specs.declared.roll.RollFault.{RollFault}
+use Rattle.pb_script.specs.declared.roll.RollFault.TheVariants.{ReadFailed}
+use Rattle.pb_rows.specs.declared.fault.RecordsFault.{RecordsFault}
+use Rattle.pb_rows.specs.declared.fault.RecordsFault.TheVariants as stop
 
 -- whatever this many rows came before, with this many ids, the fault is that of the next
 abbrev pub IsFaultAfter : ℕ → ℕ → List Fields → RollFault → Type 0
 IsFaultAfter rows ids left fault = (before : List Fields) → length before ≡ rows → length (ids_of before) ≡ ids
     → ids ≤ most_records → IsNextRollFault before left fault
+
+-- the reader is at fault only where it failed
+abbrev pub BlamesRollReader : RollFault → Option RecordsFault → Type 0
+BlamesRollReader (ReadFailed row) stopped = stopped ≡ Some stop.ReadFailed
+BlamesRollReader fault stopped = ⊤
 
 -- the id of this row has come to the table, or the row is a header
 pub record PutsId (row : Fields) (is_first has_id : Bool) (old new : FinMap (slice_cmp nat_cmp) ℕ) : Type 0 where

@@ -5,10 +5,11 @@ use Rattle.pb_price.specs.Supporters.{support_of}
 use Rattle.pb_reasons.specs.Counted.{winners_of}
 use Rattle.pb_rounds.specs.MostVotes.{is_taken, votes_at}
 use Rattle.pb_rows.specs.Tables.{table_text}
-use Rattle.pb_commands.specs.Tables.{fairness_columns}
+use Rattle.pb_commands.specs.Tables.{columns_of}
+use Rattle.pb_commands.specs.declared.table.Table.TheVariants.{Fairness}
 use Rattle.pb_commands.proofs.fairness_table.put_fairness.Given as goal
 
 abbrev pub invariant-loop-position : goal.invariant-loop-position
-invariant-loop-position l = l.rows.text ≡ l.fn.rows.text ++ table_text (fairness_columns l.count)
+invariant-loop-position l = l.rows.text ≡ l.fn.rows.text ++ table_text (columns_of Fairness l.count)
     (filter (λ place. nat_lt 0 (votes_at (support_of l.count.election) place) && not (is_taken (winners_of l.count.counted) place))
     (range_with_len 0 l.position))

@@ -6,27 +6,28 @@ use Rattle.pb_rounds.specs.declared.rule.Rule.{Rule}
 use Rattle.pb_rows.specs.Tables.{table_text}
 use Rattle.pb_rows.specs.Writing.{text_of_row}
 use Rattle.pb_commands.proofs.TableColumns.{head_put, names_taken, place_put}
-use Rattle.pb_commands.specs.Tables.{project_columns, table_of}
+use Rattle.pb_commands.specs.Tables.{columns_of, table_of}
+use Rattle.pb_commands.specs.declared.table.Table.TheVariants.{Projects}
 use Rattle.pb_commands.proofs.projects_table.put_projects.Goals as goal
 
 pub loop-place-init : goal.loop-place-init
 loop-place-init c =
     let k = c.args.count.now in
     let filled = ap (λ (r : Rule). r.fill_up) c.rule.ensures ∙ ap (λ (o : CountedView). o.fill_up) (sym c.election.ensures.is_counted.is_filled_up) in
-    let names = sym (take-map (λ field. field.now) c.width-width.result _) ∙ names_taken k.election k.counted c.width-width.result (c.width-width.ensures.width k.election k.counted filled) in
-    head_put (project_columns k.election k.counted) c.args.rows.now.text c.put_row.new.self.text
+    let names = sym (take-map (λ field. field.now) c.width-width.result _) ∙ names_taken k c.width-width.result (c.width-width.ensures.width k filled) in
+    head_put (columns_of Projects k) c.args.rows.now.text c.put_row.new.self.text
     (c.in_ok-put_row.ensures.text ∙ ap (λ fields. c.args.rows.now.text ++ text_of_row fields) names)
 
 pub put_project-requires-clause-width : goal.put_project-requires-clause-width
 put_project-requires-clause-width c =
     let k = c.args.count.now in
     let filled = ap (λ (r : Rule). r.fill_up) c.rule.ensures ∙ ap (λ (o : CountedView). o.fill_up) (sym c.election.ensures.is_counted.is_filled_up) in
-    c.width-width.ensures.width k.election k.counted filled
+    c.width-width.ensures.width k filled
 
 pub loop-place-preserved : goal.loop-place-preserved
 loop-place-preserved c =
     let k = c.args.count.now in
-    place_put (project_columns k.election k.counted) c.loop-place.place c.args.rows.now.text c.loop-place.rows.text c.put_project.new.rows.text c.loop-place.invariant
+    place_put (columns_of Projects k) c.loop-place.place c.args.rows.now.text c.loop-place.rows.text c.put_project.new.rows.text c.loop-place.invariant
     c.in_ok-put_project.ensures
 
 pub returns : goal.returns
@@ -35,4 +36,4 @@ returns c =
     let k = c.args.count.now in
     let projects = ap length (c.projects-projects.ensures.projects ∙ ap (λ e. e.projects) c.election.ensures.election) in
     let all : c.loop-place.place ≡ length k.election.projects = omega (arith, projects, c.loop-place.auto.place-end, c.loop-place-test.false) in
-    c.loop-place.invariant ∙ ap (λ n. c.args.rows.now.text ++ table_text (project_columns k.election k.counted) (range_with_len 0 n)) all
+    c.loop-place.invariant ∙ ap (λ n. c.args.rows.now.text ++ table_text (columns_of Projects k) (range_with_len 0 n)) all

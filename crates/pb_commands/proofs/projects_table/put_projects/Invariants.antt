@@ -1,9 +1,10 @@
 use Rattle.std.proofs.Common.{◌≡◌, ◌++◌}
 use Rattle.std.specs.List.{range_with_len}
 use Rattle.pb_rows.specs.Tables.{table_text}
-use Rattle.pb_commands.specs.Tables.{project_columns}
+use Rattle.pb_commands.specs.Tables.{columns_of}
+use Rattle.pb_commands.specs.declared.table.Table.TheVariants.{Projects}
 use Rattle.pb_commands.proofs.projects_table.put_projects.Given as goal
 
 abbrev pub invariant-loop-place : goal.invariant-loop-place
 invariant-loop-place l =
-    l.rows.text ≡ l.fn.rows.text ++ table_text (project_columns l.count.election l.count.counted) (range_with_len 0 l.place)
+    l.rows.text ≡ l.fn.rows.text ++ table_text (columns_of Projects l.count) (range_with_len 0 l.place)

@@ -7,13 +7,14 @@ use Rattle.pb_rows.specs.Tables.{table_text}
 use Rattle.pb_rows.specs.Writing.{text_of_row}
 use Rattle.pb_rows.specs.declared.field.Field.TheVariants.{Amount, Number}
 use Rattle.pb_commands.proofs.TableColumns.{head_put, place_put, ruled_row_read}
-use Rattle.pb_commands.specs.Tables.{ruled_columns, table_of}
+use Rattle.pb_commands.specs.Tables.{columns_of, table_of}
+use Rattle.pb_commands.specs.declared.table.Table.TheVariants.{RuledProjects}
 use Rattle.pb_commands.proofs.ruled_projects_table.put_ruled_projects.Goals as goal
 
 pub loop-place-init : goal.loop-place-init
 loop-place-init c =
     let k = c.args.count.now in
-    head_put (ruled_columns k.election k.counted) c.args.rows.now.text c.put_row.new.self.text c.in_ok-put_row.ensures.text
+    head_put (columns_of RuledProjects k) c.args.rows.now.text c.put_row.new.self.text c.in_ok-put_row.ensures.text
 
 pub loop-place-preserved : goal.loop-place-preserved
 loop-place-preserved c =
@@ -24,11 +25,11 @@ loop-place-preserved c =
     let votes : length c.of-in-loop-place.result.now ≡ votes_at (support_of k.election) place =
     ap length c.of-in-loop-place.ensures.supporters ∙ ap (λ (s : SupportView). votes_at s place) c.supporters.ensures in
     let has : c.has.result ≡ is_taken (elected_by_votes k.election) place = rw (c.in_ok-other.ensures, c.as_slice.ensures.value, c.in_ok-others.ensures) at c.has.ensures in
-    let row = ruled_row_read k.election k.counted place c.index-projects-place.result known (rw projects at c.index-projects-place.is)
+    let row = ruled_row_read k place c.index-projects-place.result known (rw projects at c.index-projects-place.is)
     c.number.result c.amount.result c.flag.result c.flag-in-loop-place.result c.number.ensures (c.amount.ensures ∙ ap Amount c.cost.ensures.cost)
     (c.flag.ensures ∙ ap (λ (b : Bool). Number (if b then 1 else 0)) c.has_won.ensures) (c.flag-in-loop-place.ensures ∙ ap (λ (b : Bool). Number (if b then 1 else 0)) has)
     c.id.result.now c.name.result.now c.id.ensures.id c.name.ensures (length c.of-in-loop-place.result.now) votes in
-    place_put (ruled_columns k.election k.counted) place c.args.rows.now.text c.loop-place.rows.text c.put_fields.new.self.text c.loop-place.invariant
+    place_put (columns_of RuledProjects k) place c.args.rows.now.text c.loop-place.rows.text c.put_fields.new.self.text c.loop-place.invariant
     (c.in_ok-put_fields.ensures.text ∙ ap (λ fields. c.loop-place.rows.text ++ text_of_row fields) row)
 
 pub returns : goal.returns
@@ -37,4 +38,4 @@ returns c =
     let k = c.args.count.now in
     let projects = ap length (c.projects-projects.ensures.projects ∙ ap (λ e. e.projects) c.election-election.ensures.election) in
     let all : c.loop-place.place ≡ length k.election.projects = omega (arith, projects, c.loop-place.auto.place-end, c.loop-place-test.false) in
-    c.loop-place.invariant ∙ ap (λ n. c.args.rows.now.text ++ table_text (ruled_columns k.election k.counted) (range_with_len 0 n)) all
+    c.loop-place.invariant ∙ ap (λ n. c.args.rows.now.text ++ table_text (columns_of RuledProjects k) (range_with_len 0 n)) all
