@@ -193,7 +193,7 @@ TWINS = pathlib.Path(__file__).resolve().parent.parent / 'crates' / 'pb_app' / '
 TWINS_OPTIONS = ['--completion', 'add1u', '--step', '2500', '--compare']
 TIE, TIED = 'a tie of filling up', 'Park (id d) before Park (id e)'
 PARK = "<a href='#p-3'><span class='id' dir='auto'>d</span> <bdi dir='auto'>Park</bdi></a> was"
-NO_MORE = "would not be with that raise:\n<ul>\n<li><a href='#p-1'><span class='id' dir='auto'>b</span> <bdi dir='auto'>Fountain</bdi></a> (<data value='30.00'>"
+NO_MORE = "would not with that raise:\n<ul>\n<li><a href='#p-1'><span class='id' dir='auto'>b</span> <bdi dir='auto'>Fountain</bdi></a> (<data value='30.00'>"
 OF_TWINS = [
     (PARK, PARK.replace('p-3', 'p-2'), f'{TIE}|d Park was|{TIED}'),
     (PARK, PARK.replace('p-3', 'p-2'), '<a> that leads elsewhere than its text says under “How it was counted”: “d Park”'),

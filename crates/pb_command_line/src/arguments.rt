@@ -139,7 +139,7 @@ pub(crate) const MEASURE: Argument = Argument {
 pub(crate) const RULE: Argument = Argument {
     name: "rule",
     takes: Takes::Method,
-    help: "Which rule counts. equal-shares: the Method of Equal Shares; most-votes: projects win in the order of their votes, each if the rest of the budget pays for it. There are no shares with most-votes, so it can't be used with --measure, --completion, --plain, --step or --raises, nor by fairness and compare [default: equal-shares]",
+    help: "Which rule counts. equal-shares: the Method of Equal Shares; most-votes: projects win in the order of their votes, each if the rest of the budget pays for it. There are no shares with most-votes, so it can't be used with --measure, --completion, --plain, --step or --raises, nor by fairness, compare and page --compare [default: equal-shares]",
 };
 
 /// The one name of the rule.

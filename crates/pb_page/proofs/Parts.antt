@@ -1,14 +1,18 @@
 -- The parts of a page that are put in several pieces.
-use Rattle.std.proofs.Common.{◌≡◌, ◌∙◌, ℕ, false, true, List, [], ◌∷◌, ◌++◌, ap, append_assoc, length, refl, subst, sym}
-use Rattle.std.specs.Prelude.{◌==◌, Bool, codes, decimal, flat_map, if◌then◌else◌, is_some, nat_lt}
-use Rattle.std.proofs.lemmas.Bool.{eq-eqb}
+use Rattle.std.proofs.Common.{◌≡◌, ◌∙◌, ℕ, false, true, List, [], ◌∷◌, ◌++◌, ap, arith, append-nil, append_assoc, inl, inr, length, refl, subst, sym}
+use Rattle.std.specs.Prelude.{◌==◌, Bool, None, Option, Some, codes, decimal, flat_map, if◌then◌else◌, is_some, map}
+use Rattle.std.specs.List.{range_with_len}
+use Rattle.std.proofs.lemmas.Bool.{cases_Bool, eq-eqb, ne_eqb}
+use Rattle.std.proofs.lemmas.Grind.{flat_map-append}
 use Rattle.pb_core.specs.Election.{ElectionView}
 use Rattle.pb_core.specs.MoneyText.{money_text}
-use Rattle.pb_page.specs.Content.{Part, amount, attribute, block, element, figure, item, line, listed, own, paragraph, said, say, section, text}
-use Rattle.pb_page.specs.Inner.Counted.{added_apart, begun, chosen, figures_of, files_said, filled_up, journal_source, link_said, made_by, name_said, options_told, picture_said, recount_said, result_said, rounds_said, rounds_told, sections, share_said, spent_said, voted_said, works_said}
+use Rattle.pb_page.specs.Content.{Headed, Part, Section, amount, attribute, block, element, figure, item, line, listed, own, paragraph, said, say, section, section_link, text}
+use Rattle.pb_page.specs.Inner.Counted.{chosen, figures_of, files_said, filled_up, journal_source, link_said, made_by, name_said, options_told, picture_said, recount_said, result_said, rounds_said, rounds_told, share_said, spent_said, those_said, voted_said, works_said}
+use Rattle.pb_page.specs.Inner.Contents.{contents, has_added, link_to, links_to, sections}
 use Rattle.pb_page.specs.Inner.Filling.{cut}
-use Rattle.pb_page.specs.Page.{beside, blocks, budget, by_raises, check, command, contents, entry, link_to, parts, raises_ended, rule, source, summary, those_said, tie, ties, works}
+use Rattle.pb_page.specs.Page.{added_apart, beside, besides, blocks, budget, by_raises, categories, check, command, entry, others, parts, raises_ended, rule, short_key, source, summary, tie, ties, voters, winners, works}
 use Rattle.pb_page.specs.Words.{sentence}
+use Rattle.pb_page.specs.declared.categories.Categories.{Categories}
 use Rattle.pb_page.specs.declared.facts.Facts.{Facts}
 use Rattle.pb_page.specs.declared.figures.Figures.{Figures}
 use Rattle.pb_page.specs.declared.keys.TheConstants as key
@@ -19,6 +23,7 @@ use Rattle.pb_page.specs.declared.templates.TheConstants.{BLOCKS_CLOSING, BLOCKS
 use Rattle.pb_page.proofs.Grown.{before, before_more, heads}
 use Rattle.pb_reasons.specs.Counted.{winners_of}
 use Rattle.pb_reasons.specs.CountedElection.{CountedElectionView}
+use Rattle.pb_reasons.specs.Reasons.{voter_reason}
 use Rattle.pb_reasons.specs.Ties.{ties_of}
 use Rattle.pb_reasons.specs.declared.raise_end.NextRaise.{NextRaise}
 use Rattle.pb_reasons.specs.declared.raise_end.RaiseEnd.{RaiseEnd}
@@ -36,27 +41,38 @@ summary_as voted result rest = simp (append_assoc, before_more)
 budget_as : (l : Language) (says blocks spent : List Part) (rest : List ℕ)
     → before (heads l BUDGET_OPENING.now (key.BUDGET_HEADING ∷ []) ++ (says ++ (own BLOCKS_OPENING.now ++ (blocks
     ++ (own BLOCKS_CLOSING.now ++ (spent ++ own BUDGET_CLOSING.now)))))) rest
-    ≡ before (section l [] (codes "budget") key.BUDGET_HEADING (block (codes "figure") [] (block (codes "div")
-    (own (codes " class='budget' role='img'") ++ attribute (codes "aria-label") says) blocks ++ line (codes "figcaption") [] spent))) rest
+    ≡ before (section l (Headed [] (codes "budget") key.BUDGET_HEADING (block (codes "figure") [] (block (codes "div")
+    (own (codes " class='budget' role='img'") ++ attribute (codes "aria-label") says) blocks ++ line (codes "figcaption") [] spent)))) rest
 unfolding cut
 budget_as l says those spent rest = simp (append_assoc, before_more)
 
+-- a list in an item, where it has any items
+abbrev listed_all : Language → (k : ℕ) → (attributes items : List Part) → List Part
+listed_all l k attributes items = item (said l k ++ (own (codes "\n") ++ block (codes "ul") attributes items))
+
+not_empty : {X : Type 0} (x : X) (xs : List X) → length (x ∷ xs) == 0 ≡ false
+not_empty {X} x xs = ne_eqb (length (x ∷ xs)) 0 (λ is. omega arith)
+
+no_items : {X : Type 0} (row : X → List Part) (xs : List X) → length xs == 0 ≡ true → flat_map row xs ≡ []
+no_items {X} row [] none = refl
+no_items {X} row (x ∷ xs) none = let never : true ≡ false = sym none ∙ not_empty x xs in cc
+
 those_as : (l : Language) (k : ℕ) (items : List Part) (rest : List ℕ)
-    → before (heads l THOSE_OPENING.now (k ∷ []) ++ (items ++ own LIST_CLOSING.now)) rest ≡ before (listed l k [] items) rest
+    → before (heads l THOSE_OPENING.now (k ∷ []) ++ (items ++ own LIST_CLOSING.now)) rest ≡ before (listed_all l k [] items) rest
 unfolding cut
 those_as l k items rest = simp before_more
 
 ties_as : (l : Language) (items : List Part) (rest : List ℕ)
     → before (heads l TIES_OPENING.now (key.TIES ∷ []) ++ (items ++ own LIST_CLOSING.now)) rest
-    ≡ before (listed l key.TIES (own (codes " class='ties'")) items) rest
+    ≡ before (listed_all l key.TIES (own (codes " class='ties'")) items) rest
 unfolding cut
 ties_as l items rest = simp before_more
 
 rule_as : (l : Language) (works rounds method filled ties : List Part) (rest : List ℕ)
     → before (heads l RULE_OPENING.now (key.RULE_HEADING ∷ []) ++ (works ++ (own LIST_OPENING.now ++ (rounds
     ++ (method ++ (filled ++ (ties ++ own RULE_CLOSING.now))))))) rest
-    ≡ before (section l [] (codes "rule") key.RULE_HEADING (works ++ block (codes "ol") [] (rounds
-    ++ ((method ++ filled) ++ ties)))) rest
+    ≡ before (section l (Headed [] (codes "rule") key.RULE_HEADING (works ++ block (codes "ol") [] (rounds
+    ++ ((method ++ filled) ++ ties))))) rest
 unfolding cut
 rule_as l works rounds method filled ties rest = simp (append_assoc, before_more)
 
@@ -95,8 +111,8 @@ completion_said r = by_completion r.options.completion r.fill_up (codes " --plai
 check_as : (l : Language) (file journal files link command options name made : List Part) (rest : List ℕ)
     → before (heads l CHECK_OPENING.now (key.CHECK_HEADING ∷ key.CHECK_BYTES ∷ []) ++ (file ++ (journal ++ (own SOURCES_CLOSING.now
     ++ (files ++ (link ++ (own COMMAND_OPENING.now ++ (command ++ (own COMMAND_CLOSING.now ++ (options ++ (name ++ (made ++ own CHECK_CLOSING.now)))))))))))) rest
-    ≡ before (section l [] (codes "check") key.CHECK_HEADING (paragraph (said l key.CHECK_BYTES) ++ (block (codes "dl") [] (file ++ journal)
-    ++ (files ++ (link ++ (line (codes "pre") [] (element (codes "code") [] command) ++ (options ++ (name ++ made)))))))) rest
+    ≡ before (section l (Headed [] (codes "check") key.CHECK_HEADING (paragraph (said l key.CHECK_BYTES) ++ (block (codes "dl") [] (file ++ journal)
+    ++ (files ++ (link ++ (line (codes "pre") [] (element (codes "code") [] command) ++ (options ++ (name ++ made))))))))) rest
 unfolding cut
 check_as l file journal files link order options name made rest = simp (append_assoc, before_more)
 
@@ -108,19 +124,18 @@ contents_as : (l : Language) (a b c d e f g h i : List Part) (rest : List ℕ)
 unfolding cut
 contents_as l a b c d e f g h i rest = simp (append_assoc, before_more)
 
-pub contents_are : (facts : Facts) (x : CountedElectionView) (has_added has_categories : Bool)
-    → has_added ≡ (if no_shares x.rule.options.completion then false else nat_lt 0 (length x.counted.added))
-    → has_categories ≡ is_some facts.categories → (rest : List ℕ)
+pub contents_are : (facts : Facts) (x : CountedElectionView) (with_added with_categories : Bool)
+    → with_added ≡ has_added x → with_categories ≡ is_some facts.categories → (rest : List ℕ)
     → let l = facts.language in before (heads l CONTENTS_OPENING.now (key.CONTENTS ∷ []) ++ (link_to l true (codes "budget") key.BUDGET_HEADING
-    ++ (link_to l true (codes "winners") key.WINNERS_HEADING ++ (link_to l has_added (codes "added") key.ADDED_HEADING
-    ++ (link_to l true (codes "others") key.OTHERS_HEADING ++ (link_to l has_categories (codes "categories") key.CATEGORIES_HEADING
+    ++ (link_to l true (codes "winners") key.WINNERS_HEADING ++ (link_to l with_added (codes "added") key.ADDED_HEADING
+    ++ (link_to l true (codes "others") key.OTHERS_HEADING ++ (link_to l with_categories (codes "categories") key.CATEGORIES_HEADING
     ++ (link_to l true (codes "voters") key.VOTERS_HEADING ++ (link_to l facts.compares (codes "compared") key.COMPARED_HEADING
     ++ (link_to l true (codes "rule") key.RULE_HEADING ++ (link_to l true (codes "check") key.CHECK_HEADING ++ own CONTENTS_CLOSING.now)))))))))) rest
     ≡ before (contents facts x) rest
 unfolding contents
-contents_are facts x has_added has_categories added_is categories_is rest = let l = facts.language in
+contents_are facts x with_added with_categories added_is categories_is rest = let l = facts.language in
     rw (added_is, categories_is) (contents_as l (link_to l true (codes "budget") key.BUDGET_HEADING) (link_to l true (codes "winners") key.WINNERS_HEADING)
-    (link_to l (if no_shares x.rule.options.completion then false else nat_lt 0 (length x.counted.added)) (codes "added") key.ADDED_HEADING) (link_to l true (codes "others") key.OTHERS_HEADING)
+    (link_to l (has_added x) (codes "added") key.ADDED_HEADING) (link_to l true (codes "others") key.OTHERS_HEADING)
     (link_to l (is_some facts.categories) (codes "categories") key.CATEGORIES_HEADING) (link_to l true (codes "voters") key.VOTERS_HEADING)
     (link_to l facts.compares (codes "compared") key.COMPARED_HEADING) (link_to l true (codes "rule") key.RULE_HEADING)
     (link_to l true (codes "check") key.CHECK_HEADING) rest)
@@ -138,14 +153,17 @@ nine : (a b c d e f g h i : List Part) (rest : List ℕ) → before (a ++ (b ++ 
     ≡ before a (before b (before c (before d (before e (before f (before g (before h (before i rest))))))))
 nine a b c d e f g h i rest = simp before_more
 
-page_as : (l : Language) (meta style title : List ℕ) (lead inside : List Part) (rest : List ℕ)
-    → before (heads l HEAD_OPENING.now (key.LANG ∷ key.DIR ∷ []) ++ (own meta ++ (cut TITLE.now (title ∷ []) ++ (own style
-    ++ (cut TOP.now (title ∷ []) ++ (lead ++ (own MAIN.now ++ (inside ++ own CLOSING.now)))))))) rest
-    ≡ before (own (codes "<!DOCTYPE html>\n")
+abbrev document : Language → (meta style title : List ℕ) → (lead inside : List Part) → List Part
+document l meta style title lead inside = own (codes "<!DOCTYPE html>\n")
     ++ block (codes "html") (attribute (codes "lang") (said l key.LANG) ++ attribute (codes "dir") (said l key.DIR))
     (block (codes "head") [] (own meta ++ (line (codes "title") [] (text title) ++ line (codes "style") [] (own style)))
     ++ block (codes "body") [] (block (codes "header") [] (line (codes "h1") (own (codes " dir='auto'")) (text title) ++ lead)
-    ++ block (codes "main") [] inside))) rest
+    ++ block (codes "main") [] inside))
+
+page_as : (l : Language) (meta style title : List ℕ) (lead inside : List Part) (rest : List ℕ)
+    → before (heads l HEAD_OPENING.now (key.LANG ∷ key.DIR ∷ []) ++ (own meta ++ (cut TITLE.now (title ∷ []) ++ (own style
+    ++ (cut TOP.now (title ∷ []) ++ (lead ++ (own MAIN.now ++ (inside ++ own CLOSING.now)))))))) rest
+    ≡ before (document l meta style title lead inside) rest
 unfolding cut
 page_as l meta style title lead inside rest =
     let attributes = attribute (codes "lang") (said l key.LANG) ++ attribute (codes "dir") (said l key.DIR) in
@@ -194,24 +212,31 @@ none_is l f none rest =
 pub budget_is : (l : Language) (x : CountedElectionView) (f : Figures) → f ≡ figures_of x → (rest : List ℕ)
     → before (heads l BUDGET_OPENING.now (key.BUDGET_HEADING ∷ []) ++ (picture_said l f ++ (own BLOCKS_OPENING.now
     ++ (blocks l.costs x.election 0 (winners_of x.counted) ++ (own BLOCKS_CLOSING.now ++ (spent_said l f ++ own BUDGET_CLOSING.now)))))) rest
-    ≡ before (budget l x) rest
+    ≡ before (section l (budget l x)) rest
 unfolding budget
 budget_is l x f is rest =
     let Same : Figures → Type 0 = λ g. before (heads l BUDGET_OPENING.now (key.BUDGET_HEADING ∷ []) ++ (picture_said l g ++ (own BLOCKS_OPENING.now
     ++ (blocks l.costs x.election 0 (winners_of x.counted) ++ (own BLOCKS_CLOSING.now ++ (spent_said l g ++ own BUDGET_CLOSING.now)))))) rest
-    ≡ before (budget l x) rest in
+    ≡ before (section l (budget l x)) rest in
     subst Same (sym is) (budget_as l (picture_said l (figures_of x)) (blocks l.costs x.election 0 (winners_of x.counted)) (spent_said l (figures_of x)) rest)
+
+some_entries : (l : Language) (e : ElectionView) (places : List ℕ) → length places == 0 ≡ false → length (flat_map (entry l e) places) == 0 ≡ false
+some_entries l e [] some = some
+some_entries l e (place ∷ places) some = ne_eqb (length (flat_map (entry l e) (place ∷ places))) 0 (λ is. omega arith)
+
+some_ties : (l : Language) (x : CountedElectionView) (all : List Tie) → length all == 0 ≡ false → length (flat_map (tie l x) all) == 0 ≡ false
+some_ties l x [] some = some
+some_ties l x (t ∷ all) some = ne_eqb (length (flat_map (tie l x) (t ∷ all))) 0 (λ is. omega arith)
 
 pub those_are : (l : Language) (e : ElectionView) (k : ℕ) (places : List ℕ) → length places == 0 ≡ false → (rest : List ℕ)
     → before (heads l THOSE_OPENING.now (k ∷ []) ++ (flat_map (entry l e) places ++ own LIST_CLOSING.now)) rest
     ≡ before (those_said l e k places) rest
 those_are l e k places some rest =
-    let all = listed l k [] (flat_map (entry l e) places) in
-    those_as l k (flat_map (entry l e) places) rest ∙ ap (λ (b : Bool). before (if b then [] else all) rest) (sym some)
+    let items = flat_map (entry l e) places in
+    those_as l k items rest ∙ ap (λ (b : Bool). before (if b then [] else listed_all l k [] items) rest) (sym (some_entries l e places some))
 
 pub none_of_those : (l : Language) (e : ElectionView) (k : ℕ) (places : List ℕ) → length places == 0 ≡ true → [] ≡ those_said l e k places
-none_of_those l e k places none =
-    let all = listed l k [] (flat_map (entry l e) places) in ap (λ (b : Bool). if b then [] else all) (sym none)
+none_of_those l e k places none = sym (ap (listed l k []) (no_items (entry l e) places none))
 
 abbrev over_said : Language → NextRaise → ElectionView → (new gone : List ℕ) → List Part
 over_said l next e new gone = item (say l key.OVER (amount l.amounts (codes "next_share") next.share ∷ amount l.costs (codes "next_cost") next.cost ∷ []))
@@ -233,12 +258,12 @@ pub ties_are : (l : Language) (x : CountedElectionView) (all : List Tie) → all
     → length all == 0 ≡ false → (rest : List ℕ)
     → before (heads l TIES_OPENING.now (key.TIES ∷ []) ++ (flat_map (tie l x) all ++ own LIST_CLOSING.now)) rest ≡ before (ties l x) rest
 unfolding ties
-ties_are l x all is some rest = rw (sym is, some) (ties_as l (flat_map (tie l x) all) rest)
+ties_are l x all is some rest = rw (sym is, some_ties l x all some) (ties_as l (flat_map (tie l x) all) rest)
 
 pub no_ties : (l : Language) (x : CountedElectionView) (all : List Tie) → all ≡ ties_of x.rule.options.measure x.election x.counted
     → length all == 0 ≡ true → [] ≡ ties l x
 unfolding ties
-no_ties l x all is none = rw (sym is, none) refl
+no_ties l x all is none = rw (sym is, no_items (tie l x) all none) refl
 
 pub rounds_are : (l : Language) (x : CountedElectionView) (end : RaiseEnd) (share one two : List Part)
     → share ≡ share_said l (by_raises x.rule key.SHARE_UNRAISED key.SHARE) x.rule.options.step x.counted.outcome.share x.counted.outcome.raised
@@ -262,12 +287,19 @@ pub rounds_of_some : (l : Language) (x : CountedElectionView) (end : RaiseEnd) (
 rounds_of_some l x end n is some rest =
     ap (λ (b : Bool). before (if b then [] else rounds_said l x end) rest) (sym some ∙ ap (λ (m : ℕ). m == 0) is)
 
+pub short_of_none : (x : CountedElectionView) (n : ℕ) → n ≡ length x.election.voters → n == 0 ≡ true → None ≡ short_key x
+short_of_none x n is none = rw (sym is, none) refl
+
+pub short_of_some : (x : CountedElectionView) (n : ℕ) (r : Rule) → n ≡ length x.election.voters → n == 0 ≡ false → r ≡ x.rule
+    → (if no_shares r.options.completion then None else Some (by_raises r key.MISSING key.LEFT_SHORT)) ≡ short_key x
+short_of_some x n r is some same = rw (sym is, some, same) refl
+
 pub rule_is : (l : Language) (x : CountedElectionView) (end : RaiseEnd) (method filled : List Part)
     → method ≡ item (said l (by_completion x.rule.options.completion x.rule.fill_up key.METHOD_PLAIN key.METHOD_ADD1 key.METHOD_FILLED key.METHOD_ADD1))
     → filled ≡ filled_up l x.rule → no_shares x.rule.options.completion ≡ false → (rest : List ℕ)
     → before (heads l RULE_OPENING.now (key.RULE_HEADING ∷ []) ++ (works l x ++ (own LIST_OPENING.now ++ (rounds_told l x end
     ++ (method ++ (filled ++ (ties l x ++ own RULE_CLOSING.now))))))) rest
-    ≡ before (rule l x end) rest
+    ≡ before (section l (rule l x end)) rest
 unfolding rule
 rule_is l x end method filled method_is filled_is shared rest =
     rw (method_is, filled_is, shared) (rule_as l (works l x) (rounds_told l x end)
@@ -276,14 +308,14 @@ rule_is l x end method filled method_is filled_is shared rest =
 
 votes_rule_as : (l : Language) (item ties : List Part) (rest : List ℕ)
     → before (heads l RULE_OPENING.now (key.RULE_HEADING ∷ []) ++ (own LIST_OPENING.now ++ (item ++ (ties ++ own RULE_CLOSING.now)))) rest
-    ≡ before (section l [] (codes "rule") key.RULE_HEADING (block (codes "ol") [] (item ++ ties))) rest
+    ≡ before (section l (Headed [] (codes "rule") key.RULE_HEADING (block (codes "ol") [] (item ++ ties)))) rest
 unfolding cut
 votes_rule_as l item ties rest = simp (append_assoc, before_more)
 
 pub votes_rule_is : (l : Language) (x : CountedElectionView) (end : RaiseEnd) → no_shares x.rule.options.completion ≡ true → (rest : List ℕ)
     → before (heads l RULE_OPENING.now (key.RULE_HEADING ∷ []) ++ (own LIST_OPENING.now ++ (item (said l key.MOST_VOTES_FIRST)
     ++ (ties l x ++ own RULE_CLOSING.now)))) rest
-    ≡ before (rule l x end) rest
+    ≡ before (section l (rule l x end)) rest
 unfolding rule
 votes_rule_is l x end alone rest = rw alone (votes_rule_as l (item (said l key.MOST_VOTES_FIRST)) (ties l x) rest)
 
@@ -333,20 +365,123 @@ pub check_is : (facts : Facts) (r : Rule) (rest : List ℕ) → before (heads fa
     ++ (source (codes "FILE: ") facts.file ++ (journal_source facts.journal ++ (own SOURCES_CLOSING.now ++ (files_said facts.language facts.files ++ (link_said facts.language facts.recount
     ++ (own COMMAND_OPENING.now ++ (command facts r ++ (own COMMAND_CLOSING.now ++ (options_told facts.language r
     ++ (name_said facts.language (profile_name r) ++ (made_by facts.language facts.program.now ++ own CHECK_CLOSING.now)))))))))))) rest
-    ≡ before (check facts r) rest
+    ≡ before (section facts.language (check facts r)) rest
 unfolding check
 check_is facts r rest = check_as facts.language (source (codes "FILE: ") facts.file) (journal_source facts.journal) (files_said facts.language facts.files) (link_said facts.language facts.recount)
     (command facts r) (options_told facts.language r) (name_said facts.language (profile_name r)) (made_by facts.language facts.program.now) rest
+
+-- the links to the sections, and the sections
+budget_linked : (l : Language) (x : CountedElectionView) → section_link l (budget l x) ≡ link_to l true (codes "budget") key.BUDGET_HEADING
+unfolding budget
+budget_linked l x = refl
+
+winners_linked : (facts : Facts) (x : CountedElectionView)
+    → section_link facts.language (winners facts x) ≡ link_to facts.language true (codes "winners") key.WINNERS_HEADING
+unfolding winners
+winners_linked facts x = elim (cases_Bool (no_shares x.rule.options.completion)) [
+  | inl alone ↦ elim (cases_Bool (length x.counted.added == 0)) [
+    | inl none ↦ rw (alone, none) refl
+    | inr some ↦ rw (alone, some) refl
+  ]
+  | inr shared ↦ elim (cases_Bool (length x.counted.outcome.elected == 0)) [
+    | inl none ↦ rw (shared, none) refl
+    | inr some ↦ rw (shared, some) refl
+  ]
+]
+
+added_linked : (facts : Facts) (x : CountedElectionView)
+    → flat_map (section_link facts.language) (added_apart facts x) ≡ link_to facts.language (has_added x) (codes "added") key.ADDED_HEADING
+unfolding added_apart
+added_linked facts x = elim (cases_Bool (no_shares x.rule.options.completion)) [
+  | inl alone ↦ rw alone refl
+  | inr shared ↦ elim (cases_Bool (length x.counted.added == 0)) [
+    | inl none ↦ rw (shared, none) refl
+    | inr some ↦ rw (shared, some) refl
+  ]
+]
+
+others_linked : (facts : Facts) (x : CountedElectionView)
+    → section_link facts.language (others facts x) ≡ link_to facts.language true (codes "others") key.OTHERS_HEADING
+unfolding others
+others_linked facts x = elim (cases_Bool (length (winners_of x.counted) == length x.election.projects)) [
+  | inl none ↦ rw none refl
+  | inr some ↦ rw some refl
+]
+
+categories_linked : (facts : Facts) (x : CountedElectionView) (all : Option Categories) → facts.categories ≡ all
+    → flat_map (section_link facts.language) (categories facts x) ≡ link_to facts.language (is_some all) (codes "categories") key.CATEGORIES_HEADING
+unfolding categories
+categories_linked facts x (Some g) is = rw is refl
+categories_linked facts x None is = rw is refl
+
+voters_linked : (l : Language) (won : List ℕ) → section_link l (voters l won) ≡ link_to l true (codes "voters") key.VOTERS_HEADING
+unfolding voters
+voters_linked l won = refl
+
+besides_linked : (facts : Facts) (x : CountedElectionView)
+    → flat_map (section_link facts.language) (besides facts x) ≡ link_to facts.language facts.compares (codes "compared") key.COMPARED_HEADING
+unfolding besides
+besides_linked facts x = elim (cases_Bool facts.compares) [
+  | inl so ↦ rw so refl
+  | inr not_so ↦ rw not_so refl
+]
+
+rule_linked : (l : Language) (x : CountedElectionView) (end : RaiseEnd) → section_link l (rule l x end) ≡ link_to l true (codes "rule") key.RULE_HEADING
+unfolding rule
+rule_linked l x end = refl
+
+check_linked : (facts : Facts) (r : Rule) → section_link facts.language (check facts r) ≡ link_to facts.language true (codes "check") key.CHECK_HEADING
+unfolding check
+check_linked facts r = refl
+
+in_order : (f : Section → List Part) (b w o v r k : Section) (a c s : List Section)
+    → flat_map f (b ∷ w ∷ (a ++ (o ∷ (c ++ (v ∷ (s ++ (r ∷ k ∷ [])))))))
+    ≡ f b ++ (f w ++ (flat_map f a ++ (f o ++ (flat_map f c ++ (f v ++ (flat_map f s ++ (f r ++ f k)))))))
+in_order f b w o v r k a c s = simp (flat_map-append, append-nil)
+
+abbrev each_won : CountedElectionView → List ℕ
+each_won x = map (λ voter. (voter_reason x.election x.counted voter).elected) (range_with_len 0 (length x.election.voters))
+
+abbrev all_sections : Facts → CountedElectionView → RaiseEnd → List Section
+all_sections facts x end = let l = facts.language in budget l x ∷ winners facts x ∷ (added_apart facts x ++ (others facts x
+    ∷ (categories facts x ++ (voters l (each_won x) ∷ (besides facts x ++ (rule l x end ∷ check facts x.rule ∷ []))))))
+
+linked_are : (facts : Facts) (x : CountedElectionView) (end : RaiseEnd)
+    → flat_map (section_link facts.language) (all_sections facts x end) ≡ links_to facts x
+linked_are facts x end = let l = facts.language in
+    in_order (section_link l) (budget l x) (winners facts x) (others facts x) (voters l (each_won x)) (rule l x end) (check facts x.rule)
+    (added_apart facts x) (categories facts x) (besides facts x)
+    ∙ rw (
+      budget_linked l x,
+      winners_linked facts x,
+      added_linked facts x,
+      others_linked facts x,
+      categories_linked facts x facts.categories refl,
+      voters_linked l (each_won x),
+      besides_linked facts x,
+      rule_linked l x end,
+      check_linked facts x.rule,
+    ) refl
+
+sections_are : (facts : Facts) (x : CountedElectionView) (end : RaiseEnd)
+    → flat_map (section facts.language) (all_sections facts x end) ≡ sections facts x end
+sections_are facts x end = let l = facts.language in
+    in_order (section l) (budget l x) (winners facts x) (others facts x) (voters l (each_won x)) (rule l x end) (check facts x.rule)
+    (added_apart facts x) (categories facts x) (besides facts x)
 
 pub page_is : (facts : Facts) (x : CountedElectionView) (end : RaiseEnd) (lang dir : List ℕ) → lang ≡ sentence facts.language.words key.LANG
     → dir ≡ sentence facts.language.words key.DIR → (rest : List ℕ)
     → before (cut HEAD_OPENING.now (lang ∷ dir ∷ []) ++ (own META.now ++ (cut TITLE.now (facts.title.now ∷ []) ++ (own STYLE.now
     ++ (cut TOP.now (facts.title.now ∷ []) ++ (summary facts.language x ++ (contents facts x ++ (own MAIN.now ++ (sections facts x end ++ own CLOSING.now))))))))) rest
     ≡ before (parts facts x end) rest
-unfolding parts added_apart
+unfolding parts contents
 page_is facts x end lang dir lang_is dir_is rest =
     let l = facts.language in let title = facts.title.now in
     let Put : List Part → List ℕ = λ lead. before (heads l HEAD_OPENING.now (key.LANG ∷ key.DIR ∷ []) ++ (own META.now ++ (cut TITLE.now (title ∷ [])
     ++ (own STYLE.now ++ (cut TOP.now (title ∷ []) ++ lead))))) rest in
+    let Page : (links all : List Part) → List ℕ = λ links all. before (document l META.now STYLE.now title (summary l x
+    ++ block (codes "nav") (attribute (codes "aria-label") (said l key.CONTENTS)) (block (codes "ul") [] links)) all) rest in
     rw (lang_is, dir_is) (ap Put (sym (append_assoc (summary l x) (contents facts x) (own MAIN.now ++ (sections facts x end ++ own CLOSING.now))))
-    ∙ page_as l META.now STYLE.now title (summary l x ++ contents facts x) (sections facts x end) rest)
+    ∙ page_as l META.now STYLE.now title (summary l x ++ contents facts x) (sections facts x end) rest
+    ∙ ap (λ (links : List Part). Page links (sections facts x end)) (sym (linked_are facts x end))
+    ∙ ap (Page (flat_map (section_link l) (all_sections facts x end))) (sym (sections_are facts x end)))

@@ -1,5 +1,5 @@
 -- The tables of a page, as they are put: pieces, and rows between them.
-use Rattle.std.proofs.Common.{◌≡◌, ◌≢◌, Bool, ℕ, false, true, List, [], ◌∷◌, ◌++◌, append_assoc, length, map, refl, sym, ◌∙◌, ap, inl, inr}
+use Rattle.std.proofs.Common.{◌≡◌, ◌≢◌, Bool, ℕ, false, true, List, [], ◌∷◌, ◌++◌, append-nil, append_assoc, length, map, refl, sym, ◌∙◌, ap, inl, inr}
 use Rattle.std.specs.Prelude.{◌==◌, Bool, None, Option, Some, codes, decimal, flat_map, if◌then◌else◌, nat_lt}
 use Rattle.std.specs.List.{range_with_len}
 use Rattle.std.specs.Option.{option_map_or}
@@ -7,10 +7,10 @@ use Rattle.std.proofs.lemmas.Bool.{cases_Bool, ne_eqb}
 use Rattle.pb_core.specs.Election.{ElectionView, ProjectView}
 use Rattle.pb_core.specs.MoneyText.{money_text}
 use Rattle.pb_page.specs.Amount.{grouped, shown}
-use Rattle.pb_page.specs.Content.{Part, amount, attribute, bar, block, cell, column, columns, digits, element, figure, head, isolated, item, line, nameless, number, own, paragraph, row, said, say, section, table, text, under}
-use Rattle.pb_page.specs.Inner.Counted.{added_apart, both_only, compared, exact_row, got_said, in_category, lacking, links, lost_row, more_told, nothing_told, others_opening, payment_told, told_of, went_as}
+use Rattle.pb_page.specs.Content.{Headed, Part, amount, attribute, bar, block, cell, column, digits, element, figure, head, isolated, item, line, nameless, number, own, paragraph, row, said, say, section, table, text, under}
+use Rattle.pb_page.specs.Inner.Counted.{at_least, both_only, compared, exact_row, got_said, in_category, lacking, lost_row, more_told, nothing_told, others_opening, payment_told, told_of, went_as}
 use Rattle.pb_page.specs.Inner.Filling.{cut}
-use Rattle.pb_page.specs.Page.{added, at_least, ballots_row, beside, besides, categories, category_name, category_of, category_row, cells, choices_won, compared_row, ended_row, entry, linked, others, project_at, projects, row_at, short_key, titled, width, winners, money_told, went}
+use Rattle.pb_page.specs.Page.{added_apart, ballots_row, beside, besides, categories, category_name, category_of, category_row, cells, compared_row, ended_row, entry, linked, links, others, project_at, row_at, short_key, titled, voters, width, winners, money_told}
 use Rattle.pb_page.specs.Words.{sentence}
 use Rattle.pb_page.specs.declared.categories.Categories.{Categories}
 use Rattle.pb_page.specs.declared.facts.Facts.{Facts}
@@ -22,7 +22,7 @@ use Rattle.pb_page.proofs.Grown.{before, before_more}
 use Rattle.pb_reasons.specs.BesideVotes.{beside_votes, elected_by_votes}
 use Rattle.pb_reasons.specs.Counted.{winners_of}
 use Rattle.pb_reasons.specs.CountedElection.{CountedElectionView}
-use Rattle.pb_reasons.specs.Money.{MoneyView}
+use Rattle.pb_reasons.specs.Money.{MoneyView, money_of, paid_together}
 use Rattle.pb_reasons.specs.Reasons.{project_reason}
 use Rattle.pb_reasons.specs.declared.payment.Payment.{Payment}
 use Rattle.pb_reasons.specs.declared.comparison.Comparison.{Comparison}
@@ -34,11 +34,16 @@ use Rattle.pb_reasons.specs.declared.project_reason.Added.{Added}
 use Rattle.pb_reasons.specs.declared.rule_row.RuleRow.{RuleRow}
 use Rattle.pb_rounds.specs.Run.{ElectedView}
 use Rattle.pb_rounds.specs.Count.{no_shares}
+use Rattle.pb_rounds.specs.MostVotes.{is_taken}
 use Rattle.pb_rounds.specs.RuleNames.{fills_up}
 
 -- a piece with what the words of a language say at these keys
 abbrev pub heads : Language → (piece keys : List ℕ) → List Part
 heads l piece keys = cut piece (map (sentence l.words) keys)
+
+-- one part alone
+alone_is : (p : List Part) (rest : List ℕ) → before (p ++ []) rest ≡ before p rest
+alone_is p rest = ap (λ (q : List Part). before q rest) (append-nil p)
 
 -- the comparison
 pub compared_row_is : (l : Language) (k : ℕ) (r : RuleRow) (rest : List ℕ)
@@ -55,8 +60,8 @@ compared_heads l = heads l COMPARED_OPENING.now (key.COMPARED_HEADING ∷ key.CO
 
 compared_as : (l : Language) (one two both : List Part) (rest : List ℕ)
     → before (compared_heads l ++ (one ++ (two ++ (own ROWS_CLOSING.now ++ (both ++ own SECTION_CLOSING.now))))) rest
-    ≡ before (section l (codes " class='many'") (codes "compared") key.COMPARED_HEADING (table l (codes " class='wide'")
-    key.COMPARED_CAPTION (columns l [] key.COMPARED_RULE (key.COMPARED_WON ∷ key.COMPARED_COST ∷ key.WITHOUT ∷ key.MORE ∷ [])) (one ++ two) ++ both)) rest
+    ≡ before (section l (Headed (codes " class='many'") (codes "compared") key.COMPARED_HEADING (table l (codes " class='wide'")
+    key.COMPARED_CAPTION key.COMPARED_RULE [] (key.COMPARED_WON ∷ key.COMPARED_COST ∷ key.WITHOUT ∷ key.MORE ∷ []) [] (one ++ two) ++ both))) rest
 unfolding cut
 compared_as l one two both rest = simp before_more
 
@@ -83,9 +88,9 @@ both_are l x e own other again e_is own_is other_is again_is rest =
     ∙ ap (λ (w : List ℕ). before (links l x.election key.ONLY_BY_SHARES (beside voted won) ++ links l x.election key.ONLY_BY_VOTES (beside w voted)) rest) again_is
 
 pub besides_are : (facts : Facts) (x : CountedElectionView) → facts.compares ≡ true → (rest : List ℕ)
-    → before (compared facts.language x) rest ≡ before (besides facts x) rest
+    → before (compared facts.language x) rest ≡ before (flat_map (section facts.language) (besides facts x)) rest
 unfolding besides compared both_only
-besides_are facts x so rest = ap (λ (b : Bool). before (if b then compared facts.language x else []) rest) (sym so)
+besides_are facts x so rest = rw so (sym (alone_is (compared facts.language x) rest))
 
 links_as : (l : Language) (k : ℕ) (items : List Part) (rest : List ℕ)
     → before (heads l LINKS_OPENING.now (k ∷ []) ++ (items ++ own LINKS_CLOSING.now)) rest
@@ -108,16 +113,16 @@ no_links l e k places none =
 voters_as : (l : Language) (says rows more : List Part) (rest : List ℕ)
     → before (heads l VOTERS_OPENING.now (key.VOTERS_HEADING ∷ []) ++ (says ++ (heads l VOTERS_TABLE.now (key.VOTERS_CAPTION ∷ key.CHOSEN ∷ key.VOTERS ∷ [])
     ++ (rows ++ (more ++ own TABLE_CLOSING.now))))) rest
-    ≡ before (section l (codes " class='many'") (codes "voters") key.VOTERS_HEADING (says
-    ++ table l [] key.VOTERS_CAPTION (columns l [] key.CHOSEN (key.VOTERS ∷ [])) (rows ++ more))) rest
+    ≡ before (section l (Headed (codes " class='many'") (codes "voters") key.VOTERS_HEADING (says
+    ++ table l [] key.VOTERS_CAPTION key.CHOSEN [] (key.VOTERS ∷ []) [] (rows ++ more)))) rest
 unfolding cut
 voters_as l says rows more rest = simp (append_assoc, before_more)
 
 pub voters_are : (l : Language) (won : List ℕ) (rest : List ℕ)
     → before (heads l VOTERS_OPENING.now (key.VOTERS_HEADING ∷ []) ++ (got_said l won ++ (heads l VOTERS_TABLE.now (key.VOTERS_CAPTION ∷ key.CHOSEN ∷ key.VOTERS ∷ [])
     ++ (flat_map (exact_row l won) (range_with_len 0 9) ++ (ballots_row l key.OR_MORE 9 (at_least 9 won) won ++ own TABLE_CLOSING.now))))) rest
-    ≡ before (choices_won l won) rest
-unfolding choices_won
+    ≡ before (section l (voters l won)) rest
+unfolding voters
 voters_are l won rest =
     voters_as l (got_said l won) (flat_map (exact_row l won) (range_with_len 0 9)) (ballots_row l key.OR_MORE 9 (at_least 9 won) won) rest
 
@@ -140,8 +145,8 @@ ballots_are l k n ballots won m long same all some rest =
 categories_as : (l : Language) (rows : List Part) (rest : List ℕ)
     → before (heads l CATEGORIES_OPENING.now (key.CATEGORIES_HEADING ∷ key.CATEGORIES_CAPTION ∷ key.CATEGORY ∷ key.CATEGORY_WON ∷ key.CATEGORY_COST ∷ [])
     ++ (rows ++ own TABLE_CLOSING.now)) rest
-    ≡ before (section l (codes " class='won money'") (codes "categories") key.CATEGORIES_HEADING (table l (codes " class='wide'")
-    key.CATEGORIES_CAPTION (columns l [] key.CATEGORY (key.CATEGORY_WON ∷ key.CATEGORY_COST ∷ [])) rows)) rest
+    ≡ before (section l (Headed (codes " class='won money'") (codes "categories") key.CATEGORIES_HEADING (table l (codes " class='wide'")
+    key.CATEGORIES_CAPTION key.CATEGORY [] (key.CATEGORY_WON ∷ key.CATEGORY_COST ∷ []) [] rows))) rest
 unfolding cut
 categories_as l rows rest = simp before_more
 
@@ -149,10 +154,12 @@ pub categories_are : (facts : Facts) (x : CountedElectionView) (g : Categories) 
     → e ≡ x.election → won ≡ winners_of x.counted → (rest : List ℕ)
     → before (heads facts.language CATEGORIES_OPENING.now (key.CATEGORIES_HEADING ∷ key.CATEGORIES_CAPTION ∷ key.CATEGORY ∷ key.CATEGORY_WON ∷ key.CATEGORY_COST ∷ [])
     ++ (flat_map (category_row facts.language e won g) (range_with_len 0 (length g.names.now)) ++ own TABLE_CLOSING.now)) rest
-    ≡ before (categories facts x) rest
+    ≡ before (flat_map (section facts.language) (categories facts x)) rest
 unfolding categories
 categories_are facts x g e won some e_is won_is rest =
-    rw (some, e_is, won_is) (categories_as facts.language (flat_map (category_row facts.language x.election (winners_of x.counted) g) (range_with_len 0 (length g.names.now))) rest)
+    let l = facts.language in let rows = flat_map (category_row l x.election (winners_of x.counted) g) (range_with_len 0 (length g.names.now)) in
+    rw (some, e_is, won_is) (categories_as l rows rest ∙ sym (alone_is (section l (Headed (codes " class='won money'") (codes "categories") key.CATEGORIES_HEADING
+    (table l (codes " class='wide'") key.CATEGORIES_CAPTION key.CATEGORY [] (key.CATEGORY_WON ∷ key.CATEGORY_COST ∷ []) [] rows))) rest))
 
 abbrev category_put : Language → (name : List ℕ) → (wide : ℕ) → InCategory → List Part
 category_put l name wide sum = cut CATEGORY.now (name ∷ decimal wide ∷ sentence l.words key.CATEGORY_WON ∷ decimal sum.winners
@@ -181,6 +188,10 @@ end tag = own (codes "</" ++ (tag ++ codes ">"))
 abbrev start : (tag : List ℕ) → (attributes : List Part) → List Part
 start tag attributes = own (codes "<" ++ tag) ++ (attributes ++ own (codes ">"))
 
+abbrev columns : Language → (before : List ℕ) → (name : ℕ) → (numbers : List ℕ) → List Part
+columns l before name numbers = flat_map (column l (codes " class='n round'")) before
+    ++ (column l [] name ++ flat_map (column l (codes " class='n'")) numbers)
+
 abbrev top : Language → (class name : List ℕ) → (heading caption : ℕ) → List Part
 top l class name heading caption = (start (codes "section") (own class ++ attribute (codes "aria-labelledby") (own name))
     ++ (n ++ line (codes "h2") (attribute (codes "id") (own name)) (said l heading)))
@@ -202,7 +213,13 @@ table_as opening category rows head_closing closing rest = simp before_more
 abbrev pub category_column : Facts → List Part
 category_column facts = option_map_or (λ (g : Categories). column facts.language (codes " class='category'") key.CATEGORY) facts.categories []
 
--- a table of projects as it is put
+-- a table of projects in its section, and as it is put
+abbrev projects : Facts → (class name : List ℕ) → (heading caption : ℕ) → (columns rows : List Part) → List Part
+projects facts class name heading caption columns rows = let l = facts.language in section l (Headed class name heading
+    (block (codes "table") (own (codes " class='wide'" ++ codes " role='table'")) (line (codes "caption") (own (codes " role='caption'")) (said l caption)
+    ++ (line (codes "thead") (own (codes " role='rowgroup'")) (element (codes "tr") (own (codes " role='row'")) (columns ++ category_column facts))
+    ++ block (codes "tbody") (own (codes " role='rowgroup'")) rows))))
+
 abbrev pub table_put : Facts → (opening keys : List ℕ) → (rows : List Part) → List Part
 table_put facts opening keys rows =
     heads facts.language opening keys ++ (category_column facts ++ (own HEAD_CLOSING.now ++ (rows ++ own TABLE_CLOSING.now)))
@@ -225,7 +242,7 @@ pub winners_are : (facts : Facts) (x : CountedElectionView) → no_shares x.rule
     → (rest : List ℕ) → before (table_put facts WINNERS_OPENING.now
     (key.WINNERS_HEADING ∷ key.WINNERS_CAPTION ∷ key.ROUND ∷ key.PROJECT ∷ key.COST ∷ key.VOTES ∷ key.PRICE ∷ key.IN_FULL ∷ [])
     (flat_map (λ w. row_at facts x w.place) x.counted.outcome.elected)) rest
-    ≡ before (winners facts x) rest
+    ≡ before (section facts.language (winners facts x)) rest
 unfolding winners cut
 winners_are facts x shared some rest =
     rw (shared, some) (projects_as facts (codes " class='won'") (codes "winners") key.WINNERS_HEADING key.WINNERS_CAPTION
@@ -235,7 +252,7 @@ winners_are facts x shared some rest =
 
 pub no_winners : (facts : Facts) (x : CountedElectionView) (elected : List ElectedView) (k : ℕ) → no_shares x.rule.options.completion ≡ false → elected ≡ x.counted.outcome.elected → length elected == 0 ≡ true
     → k ≡ (if fills_up x.rule.fill_up then key.NO_ELECTED else key.NO_WINNERS) → (rest : List ℕ)
-    → before (heads facts.language NONE_WON.now (key.WINNERS_HEADING ∷ k ∷ [])) rest ≡ before (winners facts x) rest
+    → before (heads facts.language NONE_WON.now (key.WINNERS_HEADING ∷ k ∷ [])) rest ≡ before (section facts.language (winners facts x)) rest
 unfolding winners cut
 no_winners facts x elected k shared is none k_is rest = rw (shared, sym is, none, sym k_is) refl
 
@@ -243,8 +260,8 @@ no_winners facts x elected k shared is none k_is rest = rw (shared, sym is, none
 pub voted_are : (facts : Facts) (x : CountedElectionView) → no_shares x.rule.options.completion ≡ true → length x.counted.added == 0 ≡ false
     → (rest : List ℕ) → before (table_put facts WON_BY_VOTES_OPENING.now
     (key.WINNERS_HEADING ∷ key.BY_MOST_VOTES ∷ key.NUMBER ∷ key.PROJECT ∷ key.COST ∷ key.VOTES ∷ []) (flat_map (row_at facts x) x.counted.added)) rest
-    ≡ before (winners facts x) rest
-unfolding winners added cut
+    ≡ before (section facts.language (winners facts x)) rest
+unfolding winners cut
 voted_are facts x alone some rest =
     rw (alone, some) (projects_as facts (codes " class='won'") (codes "winners") key.WINNERS_HEADING key.BY_MOST_VOTES
     (columns facts.language (key.NUMBER ∷ []) key.PROJECT (key.COST ∷ key.VOTES ∷ []))
@@ -252,30 +269,37 @@ voted_are facts x alone some rest =
     (flat_map (row_at facts x) x.counted.added) (λ rest. refl) rest)
 
 pub none_voted : (facts : Facts) (x : CountedElectionView) → no_shares x.rule.options.completion ≡ true → length x.counted.added == 0 ≡ true → (rest : List ℕ)
-    → before (heads facts.language NONE_WON.now (key.WINNERS_HEADING ∷ key.NO_WINNERS ∷ [])) rest ≡ before (winners facts x) rest
-unfolding winners added cut
+    → before (heads facts.language NONE_WON.now (key.WINNERS_HEADING ∷ key.NO_WINNERS ∷ [])) rest ≡ before (section facts.language (winners facts x)) rest
+unfolding winners cut
 none_voted facts x alone none rest = rw (alone, none) refl
 
 pub added_are : (facts : Facts) (x : CountedElectionView) → no_shares x.rule.options.completion ≡ false → length x.counted.added == 0 ≡ false
     → (rest : List ℕ) → before (table_put facts ADDED_OPENING.now
     (key.ADDED_HEADING ∷ key.ADDED_CAPTION ∷ key.NUMBER ∷ key.PROJECT ∷ key.COST ∷ key.VOTES ∷ []) (flat_map (row_at facts x) x.counted.added)) rest
-    ≡ before (added_apart facts x) rest
-unfolding added_apart added cut
+    ≡ before (flat_map (section facts.language) (added_apart facts x)) rest
+unfolding added_apart cut
 added_are facts x shared some rest =
-    rw (shared, some) (projects_as facts (codes " class='won'") (codes "added") key.ADDED_HEADING key.ADDED_CAPTION
-    (columns facts.language (key.NUMBER ∷ []) key.PROJECT (key.COST ∷ key.VOTES ∷ []))
-    ADDED_OPENING.now (key.ADDED_HEADING ∷ key.ADDED_CAPTION ∷ key.NUMBER ∷ key.PROJECT ∷ key.COST ∷ key.VOTES ∷ [])
-    (flat_map (row_at facts x) x.counted.added) (λ rest. refl) rest)
+    let heads = columns facts.language (key.NUMBER ∷ []) key.PROJECT (key.COST ∷ key.VOTES ∷ []) in let rows = flat_map (row_at facts x) x.counted.added in
+    rw (shared, some) (projects_as facts (codes " class='won'") (codes "added") key.ADDED_HEADING key.ADDED_CAPTION heads
+    ADDED_OPENING.now (key.ADDED_HEADING ∷ key.ADDED_CAPTION ∷ key.NUMBER ∷ key.PROJECT ∷ key.COST ∷ key.VOTES ∷ []) rows (λ rest. refl) rest
+    ∙ sym (alone_is (projects facts (codes " class='won'") (codes "added") key.ADDED_HEADING key.ADDED_CAPTION heads rows) rest))
 
 abbrev others_put : Facts → CountedElectionView → (short : Option ℕ) → List Part
 others_put facts x short = others_opening facts.language short ++ (category_column facts ++ (own HEAD_CLOSING.now
     ++ (flat_map (lost_row facts x) (range_with_len 0 (length x.election.projects)) ++ own TABLE_CLOSING.now)))
 
-abbrev others_shown : Facts → CountedElectionView → (short : Option ℕ) → List Part
-others_shown facts x short = projects facts (codes " class='lost'") (codes "others") key.OTHERS_HEADING
+abbrev others_shown : Facts → (short : Option ℕ) → (rows : List Part) → List Part
+others_shown facts short rows = projects facts (codes " class='lost'") (codes "others") key.OTHERS_HEADING
     (option_map_or (λ k. key.OTHERS_CAPTION) short key.PASSED_OVER)
-    (columns facts.language [] key.PROJECT (key.COST ∷ key.VOTES ∷ option_map_or (λ k. key.LEFT ∷ k ∷ []) short []))
-    (flat_map (lost_row facts x) (range_with_len 0 (length x.election.projects)))
+    (columns facts.language [] key.PROJECT (key.COST ∷ key.VOTES ∷ option_map_or (λ k. key.LEFT ∷ k ∷ []) short [])) rows
+
+rows_beside : (row : ℕ → List Part) (taken places : List ℕ)
+    → flat_map (λ place. if is_taken taken place then [] else row place) places ≡ flat_map row (beside taken places)
+rows_beside row taken [] = refl
+rows_beside row taken (place ∷ places) = elim (cases_Bool (is_taken taken place)) [
+  | inl is ↦ rw is (rows_beside row taken places)
+  | inr other ↦ rw other (ap (λ (rows : List Part). row place ++ rows) (rows_beside row taken places))
+]
 
 others_some : (facts : Facts) (k : ℕ) (rows : List Part) (rest : List ℕ)
     → before (table_put facts OTHERS_OPENING.now (key.OTHERS_HEADING ∷ key.OTHERS_CAPTION ∷ key.PROJECT ∷ key.COST ∷ key.VOTES ∷ key.LEFT ∷ k ∷ []) rows) rest
@@ -298,19 +322,22 @@ others_none facts rows rest = projects_as facts (codes " class='lost'") (codes "
     rows (λ rest. refl) rest
 
 others_as : (facts : Facts) (x : CountedElectionView) (short : Option ℕ) (rest : List ℕ)
-    → before (others_put facts x short) rest ≡ before (others_shown facts x short) rest
+    → before (others_put facts x short) rest
+    ≡ before (others_shown facts short (flat_map (lost_row facts x) (range_with_len 0 (length x.election.projects)))) rest
 others_as facts x (Some k) rest = others_some facts k (flat_map (lost_row facts x) (range_with_len 0 (length x.election.projects))) rest
 others_as facts x None rest = others_none facts (flat_map (lost_row facts x) (range_with_len 0 (length x.election.projects))) rest
 
-pub others_are : (facts : Facts) (x : CountedElectionView) (short : Option ℕ) → short ≡ short_key x.rule
+pub others_are : (facts : Facts) (x : CountedElectionView) (short : Option ℕ) → short ≡ short_key x
     → length (winners_of x.counted) == length x.election.projects ≡ false
-    → (rest : List ℕ) → before (others_put facts x short) rest ≡ before (others facts x) rest
+    → (rest : List ℕ) → before (others_put facts x short) rest ≡ before (section facts.language (others facts x)) rest
 unfolding others
 others_are facts x short is some rest =
-    ap (λ (s : Option ℕ). before (others_put facts x s) rest) is ∙ (others_as facts x (short_key x.rule) rest ∙ rw some refl)
+    ap (λ (s : Option ℕ). before (others_put facts x s) rest) is ∙ (others_as facts x (short_key x) rest
+    ∙ (ap (λ (rows : List Part). before (others_shown facts (short_key x) rows) rest)
+    (rows_beside (row_at facts x) (winners_of x.counted) (range_with_len 0 (length x.election.projects))) ∙ rw some refl))
 
 pub no_others : (facts : Facts) (x : CountedElectionView) → length (winners_of x.counted) == length x.election.projects ≡ true
-    → (rest : List ℕ) → before (heads facts.language NONE_LOST.now (key.OTHERS_HEADING ∷ key.NO_OTHERS ∷ [])) rest ≡ before (others facts x) rest
+    → (rest : List ℕ) → before (heads facts.language NONE_LOST.now (key.OTHERS_HEADING ∷ key.NO_OTHERS ∷ [])) rest ≡ before (section facts.language (others facts x)) rest
 unfolding others cut
 no_others facts x none rest = rw none refl
 
@@ -338,6 +365,10 @@ category_cell_is facts place g name some is rest =
     ap (λ (t : List ℕ). before (cell (attribute (codes "data-label") (said facts.language key.CATEGORY)) (isolated t)) rest) is ∙ rw some refl
 
 -- a row has told of what was paid
+abbrev went : Language → CountedElectionView → (place votes left : ℕ) → List Part
+went l x place votes left = if nat_lt votes 5 then []
+    else money_told l x.election left (money_of (paid_together x.election x.counted.outcome place))
+
 went_is : (l : Language) (x : CountedElectionView) (place votes : ℕ) (lost : Lost)
     → went_as l x.election (told_of x place votes (ending.Lost lost)) lost.left ≡ went l x place votes lost.left
 went_is l x place votes lost = elim (cases_Bool (nat_lt votes 5)) [
@@ -354,7 +385,7 @@ told_is l x short whole p place votes (ending.Lost lost) =
 
 pub row_is : (facts : Facts) (x : CountedElectionView) (place : ℕ) (p : ProjectView) (id name : List ℕ) (cost : ℕ) (short : Option ℕ) (budget votes : ℕ)
     (e : Ending) (election : ElectionView) (paid : Option MoneyView) → election ≡ x.election → paid ≡ told_of x place votes e
-    → p ≡ project_at x.election place → id ≡ p.id → name ≡ p.name → cost ≡ p.cost → short ≡ short_key x.rule
+    → p ≡ project_at x.election place → id ≡ p.id → name ≡ p.name → cost ≡ p.cost → short ≡ short_key x
     → budget ≡ x.election.budget → votes ≡ (project_reason x.election x.counted place).votes → e ≡ (project_reason x.election x.counted place).ending
     → (rest : List ℕ)
     → before (cut ROW_OPENING.now (decimal place ∷ id ∷ []) ++ (ended_row facts.language short budget (record { id = id; name = name; cost = cost }) votes (went_as facts.language election paid) e
@@ -365,8 +396,8 @@ row_is facts x place p id name cost short budget votes e election paid election_
     let l = facts.language in let category = category_cell facts place in
     rw (election_is, paid_is, id_is, name_is, cost_is, p_is, short_is, budget_is, votes_is, e_is)
     (ap (λ (ended : List Part). before (cut ROW_OPENING.now (decimal place ∷ q.id ∷ []) ++ (ended ++ (category ++ own ROW_CLOSING.now))) rest)
-    (told_is l x (short_key x.rule) x.election.budget q place r.votes r.ending)
-    ∙ row_as place q.id (ended_row l (short_key x.rule) x.election.budget q r.votes (went l x place r.votes) r.ending) category rest)
+    (told_is l x (short_key x) x.election.budget q place r.votes r.ending)
+    ∙ row_as place q.id (ended_row l (short_key x) x.election.budget q r.votes (went l x place r.votes) r.ending) category rest)
 
 abbrev won_put : Language → ProjectView → (wide votes : ℕ) → Won → List Part
 won_put l p wide votes w = cut WINNER.now (sentence l.words key.ROUND ∷ decimal w.round ∷ grouped l.costs.group.now (decimal w.round) ∷ p.id ∷ p.name ∷ decimal wide

@@ -3,6 +3,7 @@
 ghost use Rattle.std.specs.Prelude.{◌≡◌, ◌<◌, ◌^◌, ◌==◌, All, IfOk, OnOk, Some, flat_map, if◌then◌else◌};
 ghost use Rattle.std.specs.Prelude.{length, map, sum_by};
 ghost use Rattle.std.specs.List.{range_with_len};
+ghost use Rattle.pb_page.specs.Content.{section};
 ghost use Rattle.pb_page.specs.Inner.Grown.{Grows};
 ghost use Rattle.pb_page.specs.Inner.Counted.{in_category};
 ghost use Rattle.pb_page.specs.Page.{categories, category_name, category_row};
@@ -32,7 +33,8 @@ pub(crate) fn put_categories(
     facts: &Facts,
     count: &CountedElection,
 ) -> Result<(), NoMemory>
-    ensures { OnOk result (Grows page.old.items page.new.items (categories facts.now count.now)) }
+    ensures { OnOk result (Grows page.old.items page.new.items
+        (flat_map (section facts.now.language) (categories facts.now count.now))) }
 {
     match &facts.categories {
         Some(categories) => put_table(page, facts, count, categories),
@@ -48,7 +50,8 @@ fn put_table(
     all: &Categories,
 ) -> Result<(), NoMemory>
     requires { facts.now.categories ≡ Some all.now }
-    ensures { OnOk result (Grows page.old.items page.new.items (categories facts.now count.now)) }
+    ensures { OnOk result (Grows page.old.items page.new.items
+        (flat_map (section facts.now.language) (categories facts.now count.now))) }
 {
     let language = &facts.language;
     let heads = [

@@ -1,6 +1,7 @@
 //! How to check a result.
 
 ghost use Rattle.std.specs.Prelude.{◌≡◌, [], OnOk, codes};
+ghost use Rattle.pb_page.specs.Content.{section};
 ghost use Rattle.pb_page.specs.Inner.Counted.{begun, chosen, options_given, options_told};
 ghost use Rattle.pb_page.specs.Inner.Counted.{files_said, journal_source, link_said, made_by, name_said, options_said};
 ghost use Rattle.pb_page.specs.Inner.Grown.{Grows};
@@ -28,7 +29,8 @@ use pb_rounds::rule_names::{completion_name, measure_name};
 
 /// What was counted, where a page recounts it, the command that does, with its options, and the program.
 pub(crate) fn put_check(page: &mut Vec<u8>, facts: &Facts, rule: &Rule) -> Result<(), NoMemory>
-    ensures { OnOk result (Grows page.old.items page.new.items (check facts.now rule.now)) }
+    ensures { OnOk result (Grows page.old.items page.new.items
+        (section facts.now.language (check facts.now rule.now))) }
 {
     let language = &facts.language;
     let said = [

@@ -1,6 +1,7 @@
 //! The count beside most votes first.
 
-ghost use Rattle.std.specs.Prelude.{◌≡◌, ◌<◌, ◌^◌, OnOk};
+ghost use Rattle.std.specs.Prelude.{◌≡◌, ◌<◌, ◌^◌, OnOk, flat_map};
+ghost use Rattle.pb_page.specs.Content.{section};
 ghost use Rattle.pb_page.specs.Inner.Counted.{both_only, compared};
 ghost use Rattle.pb_page.specs.Inner.Grown.{Grows};
 ghost use Rattle.pb_page.specs.Page.{besides, compared_row};
@@ -24,7 +25,8 @@ pub(crate) fn put_besides(
     facts: &Facts,
     count: &CountedElection,
 ) -> Result<(), NoMemory>
-    ensures { OnOk result (Grows page.old.items page.new.items (besides facts.now count.now)) }
+    ensures { OnOk result (Grows page.old.items page.new.items
+        (flat_map (section facts.now.language) (besides facts.now count.now))) }
 {
     if !facts.compares {
         return Ok(());

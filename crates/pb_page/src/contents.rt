@@ -1,9 +1,8 @@
 //! The contents of a page: links to its sections.
 
-ghost use Rattle.std.specs.Prelude.{◌≡◌, OnOk, false, if◌then◌else◌, length, nat_lt, true};
+ghost use Rattle.std.specs.Prelude.{◌≡◌, OnOk, true};
+ghost use Rattle.pb_page.specs.Inner.Contents.{contents, has_added, link_to};
 ghost use Rattle.pb_page.specs.Inner.Grown.{Grows};
-ghost use Rattle.pb_page.specs.Page.{contents, link_to};
-ghost use Rattle.pb_rounds.specs.Count.{no_shares};
 
 use crate::facts::Facts;
 use crate::keys;
@@ -54,13 +53,12 @@ pub(crate) fn put_contents(
 
 /// Whether the page has a section of added projects.
 fn has_added(count: &CountedElection) -> bool
-    ensures { result ≡ (if no_shares count.now.rule.options.completion then false
-        else nat_lt 0 (length count.now.counted.added)) }
+    ensures { result ≡ has_added count.now }
 {
     if has_no_shares(&count.rule()) {
         return false;
     }
-    count.added().len() > 0
+    !count.added().is_empty()
 }
 
 /// A link to the section of this name, by its heading.

@@ -1,9 +1,8 @@
 //! The projects that one rule elects and another does not.
 
 ghost use Rattle.std.specs.Prelude.{◌≡◌, ◌<◌, All, IfOk, OnOk, flat_map, length};
-ghost use Rattle.pb_page.specs.Inner.Counted.{links};
 ghost use Rattle.pb_page.specs.Inner.Grown.{Grows};
-ghost use Rattle.pb_page.specs.Page.{beside, entry};
+ghost use Rattle.pb_page.specs.Page.{beside, entry, links};
 
 use crate::language::Language;
 use crate::markup::Value;

@@ -2,7 +2,7 @@
 
 ghost use Rattle.std.specs.Prelude.{◌≡◌, ◌<◌, ◌^◌, IfOk, length, map};
 ghost use Rattle.std.specs.List.{range_with_len};
-ghost use Rattle.pb_page.specs.Page.{at_least, exactly};
+ghost use Rattle.pb_page.specs.Inner.Counted.{at_least, exactly};
 ghost use Rattle.pb_price.specs.Supporters.{ballot_at};
 ghost use Rattle.pb_reasons.specs.Comparison.{choices_of};
 ghost use Rattle.pb_reasons.specs.Reasons.{voter_reason};

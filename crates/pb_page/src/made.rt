@@ -1,7 +1,8 @@
 //! The page of an outcome.
 
 ghost use Rattle.std.specs.Prelude.{◌≡◌, IfOk, OnOk};
-ghost use Rattle.pb_page.specs.Inner.Counted.{KnowsPlaces, sections};
+ghost use Rattle.pb_page.specs.Inner.Contents.{sections};
+ghost use Rattle.pb_page.specs.Inner.Counted.{KnowsPlaces};
 ghost use Rattle.pb_page.specs.Inner.Grown.{Grows};
 ghost use Rattle.pb_page.specs.Page.{IsPage, parts};
 ghost use Rattle.pb_reasons.specs.RaiseEnd.{IsRaiseEnd};

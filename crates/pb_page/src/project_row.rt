@@ -39,7 +39,7 @@ pub struct ProjectRow<'a> {
     pub budget: Money,
     /// The election itself.
     pub election: &'a Election,
-    /// The key of what stands above what projects were short; none where nobody has a share.
+    /// The key of what stands above what projects were short; none where nobody has a share, or nobody voted.
     pub short: Option<u16>,
 }
 
@@ -67,7 +67,7 @@ pub(crate) fn put_row(
         votes: reason.votes,
         budget: election.budget(),
         election,
-        short: short_key(&count.rule()),
+        short: short_key(count),
     };
     let names = [Value::Small(place), Value::Text(row.id)];
     put(page, &facts.language, ROW_OPENING, &names)?;

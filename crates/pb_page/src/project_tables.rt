@@ -3,10 +3,10 @@
 ghost use Rattle.std.specs.Prelude.{◌≡◌, ◌<◌, [], All, OnOk, codes, false, flat_map, if◌then◌else◌, length, true};
 ghost use Rattle.std.specs.List.{range_with_len};
 ghost use Rattle.std.specs.Option.{option_map_or};
-ghost use Rattle.pb_page.specs.Content.{column};
-ghost use Rattle.pb_page.specs.Inner.Counted.{added_apart, lost_row, others_opening};
+ghost use Rattle.pb_page.specs.Content.{column, section};
+ghost use Rattle.pb_page.specs.Inner.Counted.{lost_row, others_opening};
 ghost use Rattle.pb_page.specs.Inner.Grown.{Grows};
-ghost use Rattle.pb_page.specs.Page.{others, row_at, winners};
+ghost use Rattle.pb_page.specs.Page.{added_apart, others, row_at, winners};
 ghost use Rattle.pb_page.specs.declared.keys.TheConstants as key;
 ghost use Rattle.pb_rounds.specs.Count.{no_shares};
 ghost use Rattle.pb_rounds.specs.RuleNames.{fills_up};
@@ -35,7 +35,8 @@ pub(crate) fn put_winners(
     money: &MoneyTeller,
 ) -> Result<(), NoMemory>
     requires { money.now ≡ count.now }
-    ensures { OnOk result (Grows page.old.items page.new.items (winners facts.now count.now)) }
+    ensures { OnOk result (Grows page.old.items page.new.items
+        (section facts.now.language (winners facts.now count.now))) }
 {
     if has_no_shares(&count.rule()) {
         return put_won_by_votes(page, facts, count, money);
@@ -52,7 +53,8 @@ fn put_won_by_votes(
 ) -> Result<(), NoMemory>
     requires same { money.now ≡ count.now }
     requires alone { no_shares count.now.rule.options.completion ≡ true }
-    ensures { OnOk result (Grows page.old.items page.new.items (winners facts.now count.now)) }
+    ensures { OnOk result (Grows page.old.items page.new.items
+        (section facts.now.language (winners facts.now count.now))) }
 {
     let winners = count.added();
     if winners.is_empty() {
@@ -88,7 +90,8 @@ fn put_won_by_shares(
 ) -> Result<(), NoMemory>
     requires same { money.now ≡ count.now }
     requires shared { no_shares count.now.rule.options.completion ≡ false }
-    ensures { OnOk result (Grows page.old.items page.new.items (winners facts.now count.now)) }
+    ensures { OnOk result (Grows page.old.items page.new.items
+        (section facts.now.language (winners facts.now count.now))) }
 {
     let elected = elected_of(count.outcome());
     if elected.is_empty() {
@@ -151,7 +154,7 @@ fn put_elected_rows(
 }
 
 /// The added projects, in their order; nothing where there are none, or they are the winners alone.
-#[tactic(auto, using(crate::proofs::Grown::none), unfolding(crate::specs::Page::added, crate::specs::Inner::Counted::added_apart))]
+#[tactic(auto, using(crate::proofs::Grown::none), unfolding(crate::specs::Page::added_apart))]
 pub(crate) fn put_added(
     page: &mut Vec<u8>,
     facts: &Facts,
@@ -159,7 +162,8 @@ pub(crate) fn put_added(
     money: &MoneyTeller,
 ) -> Result<(), NoMemory>
     requires { money.now ≡ count.now }
-    ensures { OnOk result (Grows page.old.items page.new.items (added_apart facts.now count.now)) }
+    ensures { OnOk result (Grows page.old.items page.new.items
+        (flat_map (section facts.now.language) (added_apart facts.now count.now))) }
 {
     if has_no_shares(&count.rule()) {
         return Ok(());
@@ -212,7 +216,8 @@ pub(crate) fn put_others(
     money: &MoneyTeller,
 ) -> Result<(), NoMemory>
     requires { money.now ≡ count.now }
-    ensures { OnOk result (Grows page.old.items page.new.items (others facts.now count.now)) }
+    ensures { OnOk result (Grows page.old.items page.new.items
+        (section facts.now.language (others facts.now count.now))) }
 {
     let winners = count.winners();
     let projects = count.election().projects();
@@ -223,7 +228,7 @@ pub(crate) fn put_others(
         ];
         return put(page, &facts.language, NONE_LOST, &said);
     }
-    put_others_opening(page, &facts.language, short_key(&count.rule()))?;
+    put_others_opening(page, &facts.language, short_key(count))?;
     put_head_category(page, facts)?;
     put_own(page, HEAD_CLOSING)?;
     put_lost_rows(page, facts, count, money)?;

@@ -1,9 +1,9 @@
 //! Why the raises ended.
 
 ghost use Rattle.std.specs.Prelude.{◌<◌, All, OnOk, length};
-ghost use Rattle.pb_page.specs.Inner.Counted.{KnowsPlaces};
+ghost use Rattle.pb_page.specs.Inner.Counted.{KnowsPlaces, those_said};
 ghost use Rattle.pb_page.specs.Inner.Grown.{Grows};
-ghost use Rattle.pb_page.specs.Page.{beside, raises_ended, those_said};
+ghost use Rattle.pb_page.specs.Page.{beside, raises_ended};
 ghost use Rattle.pb_page.specs.declared.keys.TheConstants as key;
 
 use crate::elected_only::{beside, put_entries};

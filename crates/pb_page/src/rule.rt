@@ -1,7 +1,7 @@
 //! How it was counted, sentence by sentence.
 
-ghost use Rattle.std.specs.Prelude.{◌≡◌, ◌==◌, OnOk, false, if◌then◌else◌, true};
-ghost use Rattle.pb_page.specs.Content.{item, said};
+ghost use Rattle.std.specs.Prelude.{◌≡◌, ◌==◌, None, OnOk, Some, false, if◌then◌else◌, true};
+ghost use Rattle.pb_page.specs.Content.{item, said, section};
 ghost use Rattle.pb_page.specs.Inner.Counted.{KnowsPlaces, filled_up, rounds_said, rounds_told, share_said};
 ghost use Rattle.pb_page.specs.Inner.Grown.{Grows};
 ghost use Rattle.pb_page.specs.Page.{by_raises, rule, short_key};
@@ -36,7 +36,7 @@ pub(crate) fn put_rule(
     end: &RaiseEnd,
 ) -> Result<(), NoMemory>
     requires { KnowsPlaces count.now.election end.now }
-    ensures { OnOk result (Grows page.old.items page.new.items (rule language.now count.now end.now)) }
+    ensures { OnOk result (Grows page.old.items page.new.items (section language.now (rule language.now count.now end.now))) }
 {
     if has_no_shares(&count.rule()) {
         return put_by_votes(page, language, count);
@@ -51,7 +51,8 @@ fn put_by_votes(
     count: &CountedElection,
 ) -> Result<(), NoMemory>
     requires { no_shares count.now.rule.options.completion ≡ true }
-    ensures { (end : RaiseEnd) → OnOk result (Grows page.old.items page.new.items (rule language.now count.now end)) }
+    ensures { (end : RaiseEnd) → OnOk result (Grows page.old.items page.new.items (section language.now
+        (rule language.now count.now end))) }
 {
     let heading = [Value::Said(keys::RULE_HEADING)];
     put(page, language, RULE_OPENING, &heading)?;
@@ -70,7 +71,7 @@ fn put_by_shares(
 ) -> Result<(), NoMemory>
     requires places { KnowsPlaces count.now.election end.now }
     requires shared { no_shares count.now.rule.options.completion ≡ false }
-    ensures { OnOk result (Grows page.old.items page.new.items (rule language.now count.now end.now)) }
+    ensures { OnOk result (Grows page.old.items page.new.items (section language.now (rule language.now count.now end.now))) }
 {
     let rule = count.rule();
     put(
@@ -220,9 +221,20 @@ fn raises_key(rule: &Rule, raised: u32) -> u16
     }
 }
 
-/// The key of what stands above what projects were short; none where nobody has a share.
-pub(crate) fn short_key(rule: &Rule) -> Option<u16>
-    ensures { result ≡ short_key rule.now }
+/// The key of what stands above what projects were short; none where nobody voted, or nobody has a share.
+pub(crate) fn short_key(count: &CountedElection) -> Option<u16>
+    ensures { result ≡ short_key count.now }
+{
+    if count.election().voters().is_empty() {
+        return None;
+    }
+    short_by(&count.rule())
+}
+
+/// The same by a rule, where somebody voted.
+fn short_by(rule: &Rule) -> Option<u16>
+    ensures { result ≡ (if no_shares rule.now.options.completion then None
+        else Some (by_raises rule.now key.MISSING key.LEFT_SHORT)) }
 {
     match (rule.options.completion, rule.fill_up) {
         (Completion::NoShares, FillUp::Nothing | FillUp::MostVotes) => None,

@@ -1,7 +1,7 @@
 //! Sentences from outside, with markup at their places.
 
 ghost use Rattle.std.specs.Prelude.{◌≡◌, ◌++◌, OnOk, flat_map, map};
-ghost use Rattle.pb_page.specs.Content.{item, paragraph, say};
+ghost use Rattle.pb_page.specs.Content.{item, number, paragraph, say};
 ghost use Rattle.pb_page.specs.Inner.Grown.{Grows};
 ghost use Rattle.pb_page.specs.Inner.Value.{at_place, character_said};
 
@@ -97,14 +97,7 @@ fn put_place(page: &mut Vec<u8>, language: &Language, place: &Place) -> Result<(
         }
         Place::Noun(key, number) => put(page, language, TEXT, &[Value::Noun(key, number)]),
         Place::Shown(amount, form) => put(page, language, TEXT, &[Value::Shown(amount, form)]),
-        Place::Number(name, number) => {
-            let values = [
-                Value::Text(name),
-                Value::Number(number),
-                Value::Grouped(number, language.costs.group),
-            ];
-            put(page, language, FIGURE, &values)
-        }
+        Place::Number(name, number) => put_number(page, language, name, number),
         Place::Amount(name, amount, form) => {
             let values = [
                 Value::Text(name),
@@ -132,4 +125,21 @@ fn put_place(page: &mut Vec<u8>, language: &Language, place: &Place) -> Result<(
             put(page, language, RECOUNT_LINK, &values)
         }
     }
+}
+
+/// Puts a number by its name: as it is, for programs, and in groups of three digits.
+fn put_number(
+    page: &mut Vec<u8>,
+    language: &Language,
+    name: &'static str,
+    value: u64,
+) -> Result<(), NoMemory>
+    ensures { OnOk result (Grows page.old.items page.new.items (number language.now name.now value)) }
+{
+    let values = [
+        Value::Text(name),
+        Value::Number(value),
+        Value::Grouped(value, language.costs.group),
+    ];
+    put(page, language, FIGURE, &values)
 }

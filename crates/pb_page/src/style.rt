@@ -91,19 +91,28 @@ pre { margin: .5rem 0; padding: .75rem; background: var(--track); border-radius:
 }
 @media (max-width: 43.99rem) {
   body { padding: 1rem .9rem 1.5rem; line-height: 1.4; }
-  h2 { margin: 1.75rem 0 .35rem; }
+  h2 { margin: 1.4rem 0 .3rem; font-size: 1.2rem; }
   .lead { font-size: 1.05rem; }
+  section > p { margin: .6rem 0; }
   ol, section > ul { margin: .5rem 0; padding-inline-start: 1.4rem; }
+  section > p, ol > li, section > ul > li, nav { font-size: .95rem; }
+  figcaption, caption { font-size: .875rem; }
+  .wide details { margin: 0; }
+  nav ul { display: block; line-height: 1.6; }
+  nav li { display: inline; margin-inline-end: .9rem; }
   th, td { padding: .25rem .4rem; }
+  .many table:not(.wide) .bar { float: inline-end; width: 45%; margin-top: .5rem; }
   .wide, .wide caption, .wide tbody { display: block; }
   .wide thead { position: absolute; width: 1px; height: 1px; overflow: hidden; clip-path: inset(50%); }
-  .wide tr { display: flex; flex-wrap: wrap; column-gap: 1.25rem; padding: .3rem 0; border-bottom: 1px solid var(--line); }
-  .wide th, .wide td { display: block; min-width: 0; max-width: 100%; padding: 0; border: 0; line-height: 1.3; }
-  .wide tbody th { flex: 1 0 100%; order: -1; padding-bottom: .15rem; }
-  .wide td { flex: 1 0 100%; display: flex; justify-content: space-between; align-items: baseline; gap: 1rem; }
-  .wide td:has(.round, .added, .cost, .votes) { flex: 0 1 auto; gap: .4rem; }
-  .wide td::before { content: attr(data-label); content: attr(data-label) / ''; color: var(--soft); font-size: .9rem; text-align: start; white-space: normal; overflow-wrap: anywhere; hyphens: auto; }
-  .wide td data:not(.round, .added, .cost, .votes), .wide td bdi { flex: none; max-width: 70%; }
+  .wide tr { position: relative; display: flex; flex-wrap: wrap; column-gap: .7rem; padding: .3rem 0 .5rem; border-bottom: 1px solid var(--line); }
+  .wide .bar { position: absolute; inset-inline: 0; bottom: 0; margin: 0; height: .25rem; border-radius: 0; }
+  .wide th, .wide td { display: block; min-width: 0; max-width: 100%; padding: 0; border: 0; line-height: 1.25; }
+  .wide tbody th { flex: 1 0 100%; order: -1; padding-bottom: .1rem; }
+  .wide td { flex: 1 0 100%; display: flex; justify-content: space-between; align-items: baseline; gap: .75rem; font-size: .95rem; }
+  .wide td:has(.round, .added, .cost, .votes, .in_full, .category_won, .category_cost, .rule_projects, .rule_cost), .wide td:not(:has(data)) { flex: 0 1 auto; gap: .3rem; }
+  .wide td:not(:has(data)) { margin-inline-start: auto; }
+  .wide td:has(data)::before { content: attr(data-label); content: attr(data-label) / ''; color: var(--soft); font-size: .9rem; text-align: start; white-space: normal; overflow-wrap: anywhere; hyphens: auto; }
+  .wide td data:not(.round, .added, .cost, .votes) { flex: none; max-width: 70%; }
 }
 @media print {
   :root {

@@ -130,7 +130,7 @@ const FIRST: &[SentenceEntry] = &[
     plain!("others.heading", "The other projects"),
     plain!(
         "others.caption",
-        "In the order of the file. What a project's supporters still have of their shares together, after the last round, and by how much that is less than its cost. The bar is what they have, as a part of its cost. What a project was short does not say how close it came to winning. At a lower cost all rounds would be counted anew, so a smaller cut can be enough; under a rule that raises shares, even a cut by the whole amount may not be enough. The command pb_app whatif FILE --project ID looks for a cost at which the project would have won."
+        "In the order of the file. What a project's supporters still have of their shares together, after the last round, and by how much that is less than its cost. The bar is what they have, as a part of its cost. What a project was short does not say how close it came to winning: at a lower cost all rounds would be counted anew, so a far smaller cut can be enough, or, where shares are raised, even a cut by the whole amount may be too small. The command pb_app whatif FILE --project ID looks for a cost at which the project would have won."
     ),
     plain!("others.none", "There are none."),
     plain!("column.left", "Its supporters still have"),
@@ -187,7 +187,7 @@ const MIDDLE: &[SentenceEntry] = &[
     ),
     plain!(
         "rule.by_cost",
-        "In each round the project with the lowest price per supporter in proportion to its cost was elected, among equals the first in the file, and its supporters paid for it; the rounds ended when no other project could be paid."
+        "In each round the project whose price per supporter was the smallest part of its cost was elected, among equals the first in the file, and its supporters paid for it; the rounds ended when no other project could be paid."
     ),
     plain!(
         "rule.plain",
@@ -206,7 +206,7 @@ const MIDDLE: &[SentenceEntry] = &[
     plain!("rule.unraised", "The shares were not raised."),
     plain!(
         "rule.filled_up",
-        "What is then left of the budget is spent by votes: as long as it pays for a project that anyone voted for, the one with the most votes is added, of equal votes the cheaper, of equal costs the first in the file."
+        "Of the projects that anyone voted for and that what is left of the budget still pays for, the one with the most votes is added, of equal votes the cheaper, of equal costs the first in the file, and so on."
     ),
     plain!(
         "method.plain",
@@ -247,7 +247,7 @@ const LATER: &[SentenceEntry] = &[
     plain!("compared.heading", "Compared with most votes"),
     plain!(
         "compared.caption",
-        "By most votes, projects are taken in the order of their votes, and each wins if what is left of the budget still pays for it. This is only a comparison: the winners are the projects above. If no list follows the table, both rules have the same winners."
+        "By most votes, projects are taken in the order of their votes, and each wins if what is left of the budget still pays for it. This is only a comparison: the winners are the projects above. Those that win by one rule alone, if there are any, are listed below the table."
     ),
     plain!("compared.rule", "Rule"),
     plain!("compared.equal_shares", "This count"),
@@ -315,11 +315,11 @@ const LATER: &[SentenceEntry] = &[
         key: "rule.over",
         numbers: &["share", "cost"],
         nouns: &[],
-        english: "The shares were not raised further, because one raise more, to a share of {share}, would elect projects that cost {cost} together: more than the budget.",
+        english: "The shares were not raised further, because at the next share, {share}, the rounds would elect projects that cost {cost} together: more than the budget.",
     },
     plain!(
         "rule.only_then",
-        "These projects would be elected only with that raise:"
+        "The rounds would elect these projects only with that raise:"
     ),
     plain!("rule.ties", "Ties that the order of the file decided:"),
     SentenceEntry {
@@ -366,7 +366,7 @@ const LATER: &[SentenceEntry] = &[
         key: "works.raised",
         numbers: &["budget", "voters", "share"],
         nouns: &[],
-        english: "At first the budget of {budget} is divided by the number of voters, {voters}: each has a share of {share}, which pays only for projects on their own ballot. If the shares then pay for no other project although some of the budget is left, all shares are raised by the same step and all rounds are held again from the start, as if what was left were shared out once more. So the shares may come to more than the budget in the end; what the winners cost together never does.",
+        english: "At first the budget of {budget} is divided by the number of voters, {voters}: each has a share of {share}, which pays only for projects on their own ballot. If the shares then pay for no other project although some of the budget is left, all shares are raised by the same step and all rounds are held again from the start. Shares are for counting only: together they may come to more than the budget in the end, but what the winners cost together never does.",
     },
     SentenceEntry {
         key: "works.unraised",
@@ -427,7 +427,7 @@ const LATER: &[SentenceEntry] = &[
     },
     plain!(
         "rule.no_more",
-        "These projects are elected now, but would not be with that raise:"
+        "The rounds elect these projects now, but would not with that raise:"
     ),
     SentenceEntry {
         key: "rule.tie_added",
@@ -447,7 +447,7 @@ const LATER: &[SentenceEntry] = &[
     ),
     plain!(
         "others.by_votes",
-        "In the order of the file. Nobody voted for them, or they cost more than what was left of the budget when it was their turn."
+        "In the order of the file. They cost more than what was left of the budget when it was their turn, or nobody voted for them."
     ),
     plain!(
         "rule.most_votes",

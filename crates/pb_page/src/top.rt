@@ -1,6 +1,7 @@
 //! The sentences on the whole, and the picture of the budget.
 
 ghost use Rattle.std.specs.Prelude.{◌≡◌, ◌+◌, ◌<◌, ◌^◌, ◌==◌, All, OnOk, if◌then◌else◌, length, sum_by};
+ghost use Rattle.pb_page.specs.Content.{section};
 ghost use Rattle.pb_page.specs.Inner.Counted.{picture_said, result_said, spent_said, voted_said};
 ghost use Rattle.pb_page.specs.Inner.Grown.{Grows};
 ghost use Rattle.pb_page.specs.Page.{blocks, budget, summary};
@@ -92,7 +93,7 @@ pub(crate) fn put_budget(
     language: &Language,
     count: &CountedElection,
 ) -> Result<(), NoMemory>
-    ensures { OnOk result (Grows page.old.items page.new.items (budget language.now count.now)) }
+    ensures { OnOk result (Grows page.old.items page.new.items (section language.now (budget language.now count.now))) }
 {
     let figures = Figures::of(count);
     put(

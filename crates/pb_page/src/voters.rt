@@ -2,9 +2,10 @@
 
 ghost use Rattle.std.specs.Prelude.{◌<◌, ◌^◌, OnOk, flat_map, length};
 ghost use Rattle.std.specs.List.{range_with_len};
-ghost use Rattle.pb_page.specs.Inner.Counted.{ballots_end, exact_row, got_said};
+ghost use Rattle.pb_page.specs.Content.{section};
+ghost use Rattle.pb_page.specs.Inner.Counted.{ballots_end, exact_row, got_said, voters_told};
 ghost use Rattle.pb_page.specs.Inner.Grown.{Grows};
-ghost use Rattle.pb_page.specs.Page.{ballots_row, choices_won, voters};
+ghost use Rattle.pb_page.specs.Page.{ballots_row, voters};
 
 use crate::histogram::{BallotsRow, at_least, exactly, won_by_voter};
 use crate::keys;
@@ -28,7 +29,7 @@ pub(crate) fn put_voters(
     language: &Language,
     count: &CountedElection,
 ) -> Result<(), NoMemory>
-    ensures { OnOk result (Grows page.old.items page.new.items (voters language.now count.now)) }
+    ensures { OnOk result (Grows page.old.items page.new.items (voters_told language.now count.now)) }
 {
     let won = won_by_voter(*page.allocator(), count)?;
     let put = put_won(page, language, won.as_slice());
@@ -39,7 +40,7 @@ pub(crate) fn put_voters(
 /// The same, where so many choices of each voter won.
 fn put_won(page: &mut Vec<u8>, language: &Language, won: &[u32]) -> Result<(), NoMemory>
     requires { length won.now < 2 ^ 64 }
-    ensures { OnOk result (Grows page.old.items page.new.items (choices_won language.now won.now)) }
+    ensures { OnOk result (Grows page.old.items page.new.items (section language.now (voters language.now won.now))) }
 {
     let heading = [Value::Said(keys::VOTERS_HEADING)];
     put(page, language, VOTERS_OPENING, &heading)?;

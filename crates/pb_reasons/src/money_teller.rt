@@ -136,12 +136,14 @@ fn largest(alloc: Global, sums: &[u64], elected: &[Elected]) -> Result<MoneyPaid
     let mut all = 0;
     for winner in elected {
         let amount = sums[winner.place as usize];
-        all = together(all, amount)?;
-        let payment = Payment {
-            place: winner.place,
-            amount: Money(amount),
-        };
-        note(&mut most, payment)?;
+        if amount > 0 {
+            all = together(all, amount)?;
+            let payment = Payment {
+                place: winner.place,
+                amount: Money(amount),
+            };
+            note(&mut most, payment)?;
+        }
     }
     let others = without(all, most.as_slice());
     Ok(MoneyPaid { most, others })

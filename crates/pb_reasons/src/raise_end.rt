@@ -22,6 +22,7 @@ use pb_core::gate::Gate;
 use pb_core::money::Money;
 use pb_core::no_memory::NoMemory;
 use pb_rounds::count::equal_shares;
+use pb_rounds::count_fault::CountFault;
 use pb_rounds::options::{Completion, CountOptions};
 use pb_rounds::outcome::{Elected, Outcome};
 use std::alloc::Global;
@@ -100,8 +101,9 @@ fn completed_end<R: Threads + Sync, G: Gate>(
             drop(next);
             Ok(RaiseEnd::Over(raise?))
         }
-        // The count had these workers, so only want of memory refuses the run.
-        Err(_) => Err(NoMemory),
+        Err(CountFault::NoMemory) => Err(NoMemory),
+        // The count had these workers, so nothing but want of memory refuses the run.
+        Err(_) => unreachable!(),
     }
 }
 

@@ -1,15 +1,16 @@
 -- Words of private contracts on what is counted.
 use Rattle.std.specs.Prelude.{ℕ, ◌<◌, ◌-◌, ◌==◌, List, [], ◌∷◌, ◌++◌, All, ⊤, codes, decimal, filter}
-use Rattle.std.specs.Prelude.{Option, flat_map, if◌then◌else◌, length, map, not, sum_by, Bool, None, Some, nat_lt}
+use Rattle.std.specs.Prelude.{Option, count_by, flat_map, if◌then◌else◌, length, map, sum_by, Bool, None, Some, nat_le, nat_lt}
 use Rattle.std.specs.Borrow.{Bor}
+use Rattle.std.specs.List.{range_with_len}
 use Rattle.std.specs.Option.{option_map_or}
 use Rattle.pb_core.specs.Election.{ElectionView, ProjectView}
 use Rattle.pb_core.specs.MoneyText.{money_text}
 use Rattle.pb_page.specs.Amount.{grouped, shown}
-use Rattle.pb_page.specs.Content.{Part, amount, attribute, block, columns, digits, element, figure, item, nameless, noun_at, number, own, paragraph, said, say, section, table, text, under}
-use Rattle.pb_page.specs.Page.{added, at_least, ballots_row, beside, besides, budget, by_raises, categories, category_of, check, compared_row, entry, exactly, linked, others, row_at, rule, source}
+use Rattle.pb_page.specs.Content.{Headed, Part, amount, attribute, digits, element, figure, item, listed, nameless, noun_at, number, own, paragraph, said, say, section, table, text, under}
+use Rattle.pb_page.specs.Page.{ballots_row, beside, by_raises, category_of, compared_row, entry, linked, links, row_at, source}
 use Rattle.pb_page.specs.Inner.Value.{files_link}
-use Rattle.pb_page.specs.Page.{voters, width, winners, money_told, raises_ended}
+use Rattle.pb_page.specs.Page.{money_told, raises_ended, voters, width}
 use Rattle.pb_page.specs.Inner.Filling.{cut}
 use Rattle.pb_page.specs.Words.{sentence}
 use Rattle.pb_page.specs.declared.categories.Categories.{Categories}
@@ -25,6 +26,7 @@ use Rattle.pb_price.specs.Supporters.{cost_at, support_of}
 use Rattle.pb_reasons.specs.BesideVotes.{beside_votes, elected_by_votes}
 use Rattle.pb_reasons.specs.Counted.{winners_of}
 use Rattle.pb_reasons.specs.CountedElection.{CountedElectionView}
+use Rattle.pb_reasons.specs.Reasons.{voter_reason}
 use Rattle.pb_reasons.specs.Money.{MoneyView, money_of, paid_together}
 use Rattle.pb_reasons.specs.Totals.{totals_of}
 use Rattle.pb_reasons.specs.declared.payment.Payment.{Payment}
@@ -145,31 +147,32 @@ name_said l name = paragraph (say l key.RULE_NAME (element (codes "code") [] (te
 abbrev pub made_by : Language → List ℕ → List Part
 made_by l program = paragraph (say l key.MADE_BY (text program ∷ []))
 
--- the added beside what is elected
-unfoldable pub added_apart : Facts → CountedElectionView → List Part
-added_apart facts x = if no_shares x.rule.options.completion then []
-    else added facts x (codes "added") key.ADDED_HEADING key.ADDED_CAPTION []
-
--- the sections, one after the other
-abbrev pub sections : Facts → CountedElectionView → RaiseEnd → List Part
-sections facts x end = let l = facts.language in budget l x ++ (winners facts x ++ (added_apart facts x ++ (others facts x
-    ++ (categories facts x ++ (voters l x ++ (besides facts x ++ (rule l x end ++ check facts x.rule)))))))
-
--- the list of places, where there are any; and the comparison, where it is asked for
-abbrev pub links : Language → ElectionView → ℕ → (places : List ℕ) → List Part
-links l e k places = if length places == 0 then []
-    else paragraph (said l k) ++ block (codes "ul") [] (flat_map (entry l e) places)
-
+-- the comparison, where it is asked for
 unfoldable pub both_only : Language → CountedElectionView → List Part
 both_only l x = let e = x.election in let own = winners_of x.counted in let other = elected_by_votes e in
     links l e key.ONLY_BY_SHARES (beside other own) ++ links l e key.ONLY_BY_VOTES (beside own other)
 
 unfoldable pub compared : Language → CountedElectionView → List Part
 compared l x = let rules = beside_votes x.election x.counted in
-    section l (codes " class='many'") (codes "compared") key.COMPARED_HEADING (table l (codes " class='wide'") key.COMPARED_CAPTION
-    (columns l [] key.COMPARED_RULE (key.COMPARED_WON ∷ key.COMPARED_COST ∷ key.WITHOUT ∷ key.MORE ∷ []))
+    section l (Headed (codes " class='many'") (codes "compared") key.COMPARED_HEADING (table l (codes " class='wide'") key.COMPARED_CAPTION
+    key.COMPARED_RULE [] (key.COMPARED_WON ∷ key.COMPARED_COST ∷ key.WITHOUT ∷ key.MORE ∷ []) []
     (compared_row l key.EQUAL_SHARES rules.own ++ compared_row l key.MOST_VOTES rules.other)
-    ++ both_only l x)
+    ++ both_only l x))
+
+-- the projects at these places, below what is said of them
+abbrev pub those_said : Language → ElectionView → (k : ℕ) → (places : List ℕ) → List Part
+those_said l e k places = listed l k [] (flat_map (entry l e) places)
+
+-- on how many ballots so many choices won, and so many or more; and what the voters got
+abbrev pub exactly : ℕ → List ℕ → ℕ
+exactly n won = count_by (λ k. k == n) won
+
+abbrev pub at_least : ℕ → List ℕ → ℕ
+at_least n won = count_by (λ k. nat_le n k) won
+
+abbrev pub voters_told : Language → CountedElectionView → List Part
+voters_told l x = section l (voters l
+    (map (λ voter. (voter_reason x.election x.counted voter).elected) (range_with_len 0 (length x.election.voters))))
 
 -- how many voters have a winner among theirs; and the row of so many winners
 abbrev pub got_said : Language → List ℕ → List Part

@@ -1,3 +1,5 @@
+use Rattle.std.specs.Prelude.{flat_map}
+use Rattle.pb_page.specs.Content.{section}
 use Rattle.pb_page.specs.Page.{categories}
 use Rattle.pb_page.proofs.WinnerPlaces.{winners_are_known, winners_are_paid}
 use Rattle.pb_page.proofs.Grown.{alike_put, then_put}
@@ -14,7 +16,7 @@ put_rows-requires-clause-fits c =
 
 pub returns : goal.returns
 returns c =
-    alike_put _ _ (categories c.args.facts.now c.args.count.now) _ _ (then_put _ _ _ _ _ _ c.in_ok-put.ensures
+    alike_put _ _ (flat_map (section c.args.facts.now.language) (categories c.args.facts.now c.args.count.now)) _ _ (then_put _ _ _ _ _ _ c.in_ok-put.ensures
     (then_put _ _ _ _ _ _ c.in_ok-put_rows.ensures
     c.put_own.ensures))
     (categories_are c.args.facts.now c.args.count.now c.args.all.now _ _ c.requires c.election.ensures.election c.winners.ensures)

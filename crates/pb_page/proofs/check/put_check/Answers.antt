@@ -1,3 +1,4 @@
+use Rattle.pb_page.specs.Content.{section}
 use Rattle.pb_page.specs.Page.{check}
 use Rattle.pb_page.proofs.Grown.{alike_put, then_put}
 use Rattle.pb_page.proofs.Parts.{check_is}
@@ -5,7 +6,7 @@ use Rattle.pb_page.proofs.check.put_check.Goals as goal
 
 pub returns : goal.returns
 returns c =
-    alike_put _ _ (check c.args.facts.now c.args.rule.now) _ _ (then_put _ _ _ _ _ _ c.in_ok-put.ensures
+    alike_put _ _ (section c.args.facts.now.language (check c.args.facts.now c.args.rule.now)) _ _ (then_put _ _ _ _ _ _ c.in_ok-put.ensures
     (then_put _ _ _ _ _ _ c.in_ok-put_file.ensures
     (then_put _ _ _ _ _ _ c.in_ok-put_journal.ensures
     (then_put _ _ _ _ _ _ c.in_ok-put_own.ensures

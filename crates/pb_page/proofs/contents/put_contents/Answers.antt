@@ -1,4 +1,4 @@
-use Rattle.pb_page.specs.Page.{contents}
+use Rattle.pb_page.specs.Inner.Contents.{contents}
 use Rattle.pb_page.proofs.Grown.{alike_put, then_put}
 use Rattle.pb_page.proofs.Parts.{contents_are}
 use Rattle.pb_page.proofs.contents.put_contents.Goals as goal

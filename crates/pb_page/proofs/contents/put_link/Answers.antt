@@ -1,7 +1,7 @@
 use Rattle.std.proofs.Common.{refl}
 use Rattle.std.specs.Prelude.{true}
 use Rattle.pb_page.specs.Inner.Filling.{cut}
-use Rattle.pb_page.specs.Page.{link_to}
+use Rattle.pb_page.specs.Inner.Contents.{link_to}
 use Rattle.pb_page.proofs.Grown.{alike_put}
 use Rattle.pb_page.proofs.contents.put_link.Goals as goal
 

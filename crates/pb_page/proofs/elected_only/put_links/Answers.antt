@@ -1,7 +1,7 @@
 use Rattle.std.proofs.Common.{◌∙◌, List, subst, sym}
 use Rattle.pb_page.specs.Content.{Part}
-use Rattle.pb_page.specs.Inner.Counted.{links}
 use Rattle.pb_page.specs.Inner.Grown.{Grows}
+use Rattle.pb_page.specs.Page.{links}
 use Rattle.pb_page.proofs.Grown.{alike_put, none, then_put}
 use Rattle.pb_page.proofs.Tables.{links_are, no_links}
 use Rattle.pb_page.proofs.elected_only.put_links.Goals as goal

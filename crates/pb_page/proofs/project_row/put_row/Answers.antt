@@ -21,6 +21,6 @@ returns c =
     c.put_own.ensures)))
     (row_is c.args.facts.now x c.args.place p _ _ _ _ _ _ _ _ _ c.election-election.ensures.election
     (c.in_ok-paid.ensures ∙ ap (λ (m : CountedElectionView). told_of m c.args.place c.project-reason.result.votes c.project-reason.result.ending) c.requires.same) project c.id.ensures.id c.name.ensures c.cost.ensures.cost
-    (rw c.rule.ensures at c.short_key.ensures)
+    c.short_key.ensures
     (c.budget.ensures.budget ∙ ap (λ (e : ElectionView). e.budget) c.election-election.ensures.election)
     (ap (λ (r : ProjectReason). r.votes) reason) (ap (λ (r : ProjectReason). r.ending) reason))

@@ -1,9 +1,9 @@
 use Rattle.std.proofs.Common.{◌∙◌, ℕ, List, ap, length, subst, sym}
 use Rattle.std.specs.Prelude.{◌==◌, flat_map}
-use Rattle.pb_page.specs.Inner.Counted.{added_apart}
+use Rattle.pb_page.specs.Content.{section}
 use Rattle.pb_page.specs.Inner.Grown.{Grows}
 use Rattle.pb_reasons.proofs.Results.{counted_is_result, result_is_added}
-use Rattle.pb_page.specs.Page.{row_at}
+use Rattle.pb_page.specs.Page.{added_apart, row_at}
 use Rattle.pb_page.proofs.Grown.{alike_put, then_put}
 use Rattle.pb_page.proofs.Tables.{added_are}
 use Rattle.pb_page.proofs.project_tables.put_added.Goals as goal
@@ -18,7 +18,7 @@ returns c =
     let places = c.added-places.ensures in
     let Rows : List ℕ → Type 0 = λ all. Grows c.put_own.new.page.items c.put_added_rows.new.page.items
     (flat_map (row_at c.args.facts.now c.args.count.now) all) in
-    alike_put _ _ (added_apart c.args.facts.now c.args.count.now) _ _ (then_put _ _ _ _ _ _ c.in_ok-put.ensures
+    alike_put _ _ (flat_map (section c.args.facts.now.language) (added_apart c.args.facts.now c.args.count.now)) _ _ (then_put _ _ _ _ _ _ c.in_ok-put.ensures
     (then_put _ _ _ _ _ _ c.in_ok-put_head_category.ensures
     (then_put _ _ _ _ _ _ c.in_ok-put_own.ensures
     (then_put _ _ _ _ _ _ (subst Rows places c.in_ok-put_added_rows.ensures)

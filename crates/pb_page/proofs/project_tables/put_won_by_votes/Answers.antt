@@ -2,6 +2,7 @@ use Rattle.std.proofs.Common.{◌∙◌, ℕ, List, ap, length, subst, sym}
 use Rattle.std.specs.Prelude.{◌==◌, flat_map}
 use Rattle.pb_page.specs.Inner.Grown.{Grows}
 use Rattle.pb_reasons.proofs.Results.{counted_is_result, result_is_added}
+use Rattle.pb_page.specs.Content.{section}
 use Rattle.pb_page.specs.Page.{row_at, winners}
 use Rattle.pb_page.proofs.Grown.{alike_put, then_put}
 use Rattle.pb_page.proofs.Tables.{none_voted, voted_are}
@@ -17,7 +18,7 @@ returns c =
     let places = c.added-winners.ensures in
     let Rows : List ℕ → Type 0 = λ all. Grows c.put_own.new.page.items c.put_added_rows.new.page.items
     (flat_map (row_at c.args.facts.now c.args.count.now) all) in
-    alike_put _ _ (winners c.args.facts.now c.args.count.now) _ _ (then_put _ _ _ _ _ _ c.in_ok-put.ensures
+    alike_put _ _ (section c.args.facts.now.language (winners c.args.facts.now c.args.count.now)) _ _ (then_put _ _ _ _ _ _ c.in_ok-put.ensures
     (then_put _ _ _ _ _ _ c.in_ok-put_head_category.ensures
     (then_put _ _ _ _ _ _ c.in_ok-put_own.ensures
     (then_put _ _ _ _ _ _ (subst Rows places c.in_ok-put_added_rows.ensures)
@@ -26,6 +27,6 @@ returns c =
 
 pub returns-then-is_empty : goal.returns-then-is_empty
 returns-then-is_empty c =
-    alike_put _ _ (winners c.args.facts.now c.args.count.now) _ _ c.put.ensures
+    alike_put _ _ (section c.args.facts.now.language (winners c.args.facts.now c.args.count.now)) _ _ c.put.ensures
     (none_voted c.args.facts.now c.args.count.now c.requires.alone
     (ap (λ (all : List ℕ). length all == 0) (sym c.added-winners.ensures) ∙ sym c.is_empty.ensures ∙ c.if-is_empty.true))

@@ -1,7 +1,7 @@
 use Rattle.std.proofs.Common.{◌∙◌, List, subst, sym}
 use Rattle.pb_page.specs.Content.{Part}
+use Rattle.pb_page.specs.Inner.Counted.{those_said}
 use Rattle.pb_page.specs.Inner.Grown.{Grows}
-use Rattle.pb_page.specs.Page.{those_said}
 use Rattle.pb_page.proofs.Grown.{alike_put, none, then_put}
 use Rattle.pb_page.proofs.Parts.{none_of_those, those_are}
 use Rattle.pb_page.proofs.raises_ended.put_those.Goals as goal

@@ -1,5 +1,5 @@
 use Rattle.std.proofs.Common.{ℕ, ap}
-use Rattle.pb_page.specs.Content.{item, said}
+use Rattle.pb_page.specs.Content.{item, said, section}
 use Rattle.pb_page.specs.Inner.Counted.{filled_up}
 use Rattle.pb_page.specs.Page.{rule}
 use Rattle.pb_page.proofs.Grown.{alike_put, then_put}
@@ -10,7 +10,7 @@ pub returns : goal.returns
 returns c =
     let x = c.args.count.now in let l = c.args.language.now in
     let said_at = λ (k : ℕ). item (said l k) in
-    alike_put _ _ (rule l x c.args.end.now) _ _ (then_put _ _ _ _ _ _ c.in_ok-put.ensures
+    alike_put _ _ (section l (rule l x c.args.end.now)) _ _ (then_put _ _ _ _ _ _ c.in_ok-put.ensures
     (then_put _ _ _ _ _ _ c.in_ok-put_works.ensures
     (then_put _ _ _ _ _ _ c.in_ok-put_own.ensures
     (then_put _ _ _ _ _ _ c.in_ok-put_voted.ensures

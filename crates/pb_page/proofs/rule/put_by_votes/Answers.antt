@@ -1,3 +1,4 @@
+use Rattle.pb_page.specs.Content.{section}
 use Rattle.pb_page.specs.Page.{rule}
 use Rattle.pb_page.proofs.Grown.{alike_put, then_put}
 use Rattle.pb_page.proofs.Parts.{votes_rule_is}
@@ -5,7 +6,7 @@ use Rattle.pb_page.proofs.rule.put_by_votes.Goals as goal
 
 pub returns : goal.returns
 returns c end =
-    alike_put _ _ (rule c.args.language.now c.args.count.now end) _ _ (then_put _ _ _ _ _ _ c.in_ok-put.ensures
+    alike_put _ _ (section c.args.language.now (rule c.args.language.now c.args.count.now end)) _ _ (then_put _ _ _ _ _ _ c.in_ok-put.ensures
     (then_put _ _ _ _ _ _ c.in_ok-put_own.ensures
     (then_put _ _ _ _ _ _ c.in_ok-put_item.ensures
     (then_put _ _ _ _ _ _ c.in_ok-put_ties.ensures
