@@ -6,7 +6,8 @@ use crate::prelude::*;
 use crate::warnings::places_of;
 
 /// Columns of VOTES that hold no votes of the voter, whatever stands in them.
-const OTHERS: &str = "voter_id|comment|remark|remarks|note|notes|against|rejected|veto|contra";
+const OTHERS: &str =
+    "voter_id|vote_id|choice_id|ballot_id|comment|remark|remarks|note|notes|against|rejected|veto|contra";
 
 /// Columns that hold none unless they have lists of projects, though their values may be as ids are.
 const OF_VOTERS: &str =
@@ -14,19 +15,28 @@ const OF_VOTERS: &str =
     subdistrict|neighborhood|unit|subunit|education|votes|class|school_class|klasa|form|group|\
     year_group|team|house|building|room|table|desk|urn";
 
-/// Words in the name of a column that holds votes.
-const OF_VOTES: &str = "vote|choice|second|third|preference|project|option|selection";
+/// Those of them whose values are no ids with a letter and a digit.
+const OF_PERSONS: &str = "age|sex|gender";
+
+/// Words in the name of a column in which a project's name may be a vote.
+const OF_NAMES: &str = "other|own|choice|project|projects|vote|option|text";
+
+/// Words in the name of a column that holds votes, also as parts of longer ones.
+const OF_VOTES: &str = "vote|choice|preference|project|option|selection";
 
 /// Words of a name that hold no votes, though another word of it is one of those.
 const OF_NO_VOTES: &str =
     "channel|type|method|mode|place|station|date|time|at|status|code|count|number|num|total|form|\
-    against|used|many|left|order|group|manager";
+    against|used|many|left|order|group|manager|no|nr|index|day|week|month|year|hour|on|age|box|desk|\
+    kiosk|area|branch|bus|center|centre|key|library|line|lot|pin|precinct|rank|seq|slot|team|ward|\
+    weekday|zone|before|lang|child|income|location|district|language|school|round|batch|sheet|page|\
+    device|source|household";
 
 /// What a voter writes who makes no further choice.
 const NOTHING: &str = "-|none|nan|null|nil|n/a|na|no|nie|brak";
 
 /// How many values of a column are looked at that name projects, but by which no list shows that it holds
-/// votes.
+/// votes; and how many of persons that are no ids.
 const MOST_SINGLE: u64 = 1_000;
 
 /// A column that may hold votes.
@@ -39,6 +49,10 @@ struct VoteColumn {
     /// that.
     holds_none: bool,
     is_of_voters: bool,
+    /// Whether an id with a letter and a digit also shows that, beside other values.
+    is_of_persons: bool,
+    /// Whether the name of a project may be a vote in it, as where a voter writes another choice.
+    may_have_names: bool,
     /// The place of the project with whose id its name ends: a 1 says that the vote names it.
     ticks: Option<u32>,
     /// Whether it may hold votes, by all that was read.
@@ -47,6 +61,8 @@ struct VoteColumn {
     is_shown: bool,
     /// The first row with a project's id in it, measured by how many there are.
     odd: Option<Odd>,
+    /// How many values of a person were read that are no ids.
+    others: u64,
 }
 
 /// The columns of VOTES, of which those behind the vote may hold votes.
@@ -112,26 +128,29 @@ impl BehindVote {
     }
 
     /// This row without a vote, odd for the field that seems to be its vote, if there is such a field: it
-    /// names projects alone, and is no number, and no name says that it is none.
-    pub(crate) fn with_stray(&mut self, row: &Row<'_>, odd: Odd) -> Odd {
+    /// names projects alone, by their ids or one by its name, and is no number, and no name of a column says
+    /// that it is none.
+    pub(crate) fn with_stray(&mut self, alloc: Global, row: &Row<'_>, odd: Odd) -> Odd {
         let may_be = |place: &usize| {
             let value = row.at(*place);
-            let (holds_none, is_of_voters) = self.columns.get(*place).map_or(
-                (false, false),
-                |column| (column.holds_none, column.is_of_voters),
-            );
+            let column = self.columns.get(*place).unwrap_or(&self.beyond);
+            let (holds_none, is_of_voters) = (column.holds_none, column.is_of_voters);
+            let may_have_names = column.may_have_names;
             let is_id = *place == odd.id_place;
             *place != odd.value_place
                 && (is_id || !holds_none)
                 && !is_digits(value)
                 && (value.contains(',') || !(is_id || is_of_voters))
-                && names_other(value, &[], row.projects).is_some()
+                && (names_other(value, &[], row.projects).is_some()
+                    || (may_have_names && row.has_name(alloc, value)))
         };
         let Some(place) = (0..row.record.len()).find(may_be) else {
             return odd;
         };
         let odd = odd.at(place).in_form(1).named_in(self.header);
-        if is_list(row.at(place)) && row.limits.min_length.unwrap_or(0) == 0 {
+        let value = row.at(place);
+        let is_shown = is_list(value) || row.has_name(alloc, value);
+        if is_shown && row.limits.min_length.unwrap_or(0) == 0 {
             self.stray = Some(odd.as_a(Oddity::IdBehindVote).behind(self.stray));
         }
         odd
@@ -161,7 +180,8 @@ impl VoteColumn {
     /// A column of which nothing was read.
     fn of(place: usize, name: &str, projects: &Firsts) -> VoteColumn {
         let is_of_voters = is_one_of(OF_VOTERS, name);
-        let is_of_votes = !has_one_of(OF_NO_VOTES, name) && has_part(OF_VOTES, name);
+        let is_of_votes = !has_one_of(OF_NO_VOTES, name)
+            && (has_part(OF_VOTES, name) || has_one_of("second|third", name));
         let last_word = name
             .rsplit(|c: char| !c.is_alphanumeric())
             .find(|word| !word.is_empty());
@@ -170,10 +190,13 @@ impl VoteColumn {
             is_named: !name.is_empty(),
             holds_none: is_one_of(OTHERS, name) || is_one_of(NUMBERS, name) || is_of_validity(name),
             is_of_voters,
+            is_of_persons: is_one_of(OF_PERSONS, name),
+            may_have_names: name.is_empty() || has_one_of(OF_NAMES, name),
             ticks: last_word.and_then(|word| projects.place(word)),
             is_open: true,
             is_shown: name.is_empty() || (is_of_votes && !is_of_voters),
             odd: None,
+            others: 0,
         }
     }
 
@@ -185,8 +208,13 @@ impl VoteColumn {
         if value.is_empty() || self.ticks.is_some_and(is_tick) {
             return false;
         }
+        if self.is_of_persons && !is_list(value) {
+            self.others = self.others.saturating_add(1);
+            self.is_open = self.odd.is_some() || self.others < MOST_SINGLE;
+            return false;
+        }
         let Some(has_other) = names_other(value, ballot, row.projects) else {
-            self.is_open = !self.is_named || is_one_of(NOTHING, value);
+            self.is_open = !self.is_named || self.is_of_persons || is_one_of(NOTHING, value);
             return false;
         };
         if self.is_named && !has_other {
@@ -194,7 +222,8 @@ impl VoteColumn {
         }
         let first = odd.behind(self.odd);
         self.odd = Some(first);
-        self.is_shown |= value.contains(',') || (is_list(value) && !self.is_of_voters);
+        let is_list = is_list(value) && (!self.is_of_voters || self.is_of_persons);
+        self.is_shown |= value.contains(',') || is_list;
         self.is_open = self.is_shown || first.number < MOST_SINGLE;
         true
     }

@@ -5,6 +5,7 @@ use crate::changed::{
     is_tick, is_word, without_hidden,
 };
 use crate::ids::Ids;
+use crate::meta_oddities::whole_number;
 use crate::projects::{By, Projects};
 use crate::unknown::Unknown;
 use crate::witness::Witness;
@@ -65,9 +66,8 @@ pub enum Cause {
     More,
     /// The id of a project was changed.
     ChangedProject,
-    /// It is a word in place of ids, or looks like a phone's keys, a list of PHP, or a web page's address.
+    /// It is a word in place of ids, or looks like a list of PHP, or a web page's address.
     Word,
-    Keycaps,
     Php,
     Percent,
     /// It ends in three dots.
@@ -82,6 +82,10 @@ pub enum Cause {
     Mail,
     /// It has a character that no id of a project has.
     OddLetter,
+    /// It is 0 and more behind the last comma, as the decimals of a number.
+    CommaZeros,
+    /// Votes may have other ids than PROJECTS, such as the numbers of rows.
+    Shifted,
     /// No vote names a project; and some end as codes in base64 do.
     OtherElection,
     Coded,
@@ -109,8 +113,7 @@ impl Cause {
 }
 
 /// What an id has in it that shows its cause.
-const LOOKS: [(&str, Cause); 4] = [
-    ("\u{20e3}", Cause::Keycaps),
+const LOOKS: [(&str, Cause); 3] = [
     (":{i:", Cause::Php),
     ("%2c", Cause::Percent),
     ("%20", Cause::Percent),
@@ -136,12 +139,12 @@ const LIST_QUOTES: &str = "'\"";
 const OTHER_COMMAS: &str = "\u{ff0c}\u{3001}\u{60c}";
 
 /// Why a vote names this id, which no project has, and the place of the project that it is about. The file
-/// has a column for each project, or not.
+/// has a column for each project, or not, and may be of two elections, or not.
 pub(crate) fn cause_of(
     unknown: &Unknown,
     witness: &Witness,
     projects: &Projects,
-    has_columns: bool,
+    (has_columns, is_other): (bool, bool),
 ) -> Result<(Cause, Option<u32>), AllocError> {
     let id = unknown.id.as_str();
     let plain = plain_cause(id, &witness.ids, projects, has_columns);
@@ -150,6 +153,7 @@ pub(crate) fn cause_of(
         Some(Cause::Nothing) if unknown.is_beside && id == "0" => Some(Cause::Places),
         Some(Cause::Nothing) if unknown.is_beside => Some(Cause::Beside),
         Some(Cause::Brackets) if !unknown.is_in_brackets => Some(Cause::OneInBrackets),
+        None if unknown.is_beside && is_zeros(id) => Some(Cause::CommaZeros),
         Some(cause) if witness.rows.have_commas() => Some(beside_lists(cause, id, witness)),
         plain => plain,
     };
@@ -157,7 +161,9 @@ pub(crate) fn cause_of(
         return Ok((cause, None));
     }
     for by in [By::Id, By::Digits, By::Number, By::Name, By::Mention] {
-        if let Some(place) = projects.find(by, id)? {
+        // Where no id has a letter, one letter is no digit that was misread.
+        let is_letter = by == By::Digits && id.len() == 1 && projects.are_numbered;
+        if let Some(place) = projects.find(by, id)?.filter(|_| !is_letter) {
             let (cause, project) = cause_by(by, id, projects, place);
             let lacks_zeros = cause == Cause::Alike(Difference::Zeros, false);
             if lacks_zeros && witness.rows.is_named(place) {
@@ -169,7 +175,7 @@ pub(crate) fn cause_of(
     if let Some(place) = projects.begun(id) {
         return Ok((Cause::Begun, Some(place)));
     }
-    match last_cause(id, witness, projects) {
+    match last_cause(id, witness, projects, is_other) {
         (Cause::Unknown, _)
             if (unknown.is_beside || has_digit(id)) && projects.has_form(id, true)? => {
             Ok((Cause::Unknown, None))
@@ -321,7 +327,12 @@ fn is_by_signs(text: &str, ids: &Ids) -> bool {
 }
 
 /// The cause of an id that is like none of a project.
-fn last_cause(id: &str, witness: &Witness, projects: &Projects) -> (Cause, Option<u32>) {
+fn last_cause(
+    id: &str,
+    witness: &Witness,
+    projects: &Projects,
+    is_foreign: bool,
+) -> (Cause, Option<u32>) {
     let is_beside = |c: char| !c.is_alphanumeric() && (":=(#".contains(c) || projects.lacks(c));
     let is_id = |part: &str| witness.ids.projects.has(part.trim());
     let parts = id.split(is_beside).filter(|part| is_id(part)).count();
@@ -338,7 +349,7 @@ fn last_cause(id: &str, witness: &Witness, projects: &Projects) -> (Cause, Optio
         Cause::More
     } else if projects.changed.is_some() {
         return (Cause::ChangedProject, projects.changed);
-    } else if witness.is_of_other_projects() {
+    } else if is_foreign {
         Cause::OtherElection
     } else if is_tick(id) && id.len() > 1 {
         Cause::Tick
@@ -350,6 +361,51 @@ fn last_cause(id: &str, witness: &Witness, projects: &Projects) -> (Cause, Optio
         Cause::Unknown
     };
     (cause, None)
+}
+
+/// Whether a text is several zeros.
+fn is_zeros(text: &str) -> bool {
+    text.len() > 1 && text.trim_matches('0').is_empty()
+}
+
+/// Whether votes may have other ids than PROJECTS: several that no project has have numbers above all of its ids;
+/// or one is unknown, which comes next to the last project or before the first, and no vote names the
+/// project at the other end.
+pub(crate) fn are_shifted(witness: &Witness, projects: &Projects) -> bool {
+    let unknown = witness.unknown.found.as_slice();
+    let above = unknown
+        .iter()
+        .filter(|it| projects.are_below(it.id.as_str()));
+    if above.count() > 1 {
+        return true;
+    }
+    let last_place = u32::try_from(witness.ids.projects.len().saturating_sub(1)).unwrap_or(0);
+    let ends = (projects.row(0), projects.row(last_place));
+    let ([one], (Some(first), Some(last))) = (unknown, ends) else {
+        return false;
+    };
+    let is_named = |place: u32| witness.rows.is_named(place);
+    let id = one.id.as_str();
+    (comes_next(id, last.id.as_str()) && !is_named(0))
+        || (comes_next(first.id.as_str(), id) && !is_named(last_place))
+}
+
+/// Whether an id has the number behind that of another one, or the letter.
+pub(crate) fn comes_next(id: &str, before: &str) -> bool {
+    let ((front, number), (other_front, other)) = (order_of(id), order_of(before));
+    front == other_front && number == other.saturating_add(1)
+}
+
+/// What is before the number at the end of an id, or its last letter, and this number, or the letter's.
+pub(crate) fn order_of(id: &str) -> (&str, u64) {
+    let front = id.trim_end_matches(|c: char| c.is_ascii_digit());
+    match id.strip_prefix(front).and_then(whole_number) {
+        Some(number) => (front, number),
+        None => {
+            let last = id.chars().last().unwrap_or(' ');
+            (id.trim_end_matches(last), u64::from(u32::from(last)))
+        }
+    }
 }
 
 /// The first character of an id that no project's id has, and that is no letter or digit of ASCII.

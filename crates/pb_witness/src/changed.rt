@@ -24,6 +24,8 @@ const MONTHS: &str =
 pub enum Difference {
     Hidden,
     Spaces,
+    /// A mark beside it, such as an apostrophe.
+    Marks,
     PointZero,
     Case,
     Zeros,
@@ -100,19 +102,9 @@ pub(crate) fn has_digit(text: &str) -> bool {
     text.contains(|c: char| c.is_ascii_digit())
 }
 
-/// Whether a text seems to be a calculation, such as `1000-100`.
-pub fn is_calculation(text: &str) -> bool {
-    is_number_on_both_sides(text.split_once(|c: char| "-+*/xX\u{d7}\u{2212}\u{2013}".contains(c)))
-}
-
 /// Whether a text has a time of day, such as `08:15`.
 pub(crate) fn has_time(text: &str) -> bool {
     is_number_on_both_sides(text.split_once(':'))
-}
-
-/// Whether a text is a number with a power of ten, such as `1e5`.
-pub fn has_power(text: &str) -> bool {
-    is_number_on_both_sides(text.split_once(|c: char| c == 'e' || c == 'E'))
 }
 
 /// Whether the first of two texts ends with a digit, and the second begins with one.
@@ -240,10 +232,15 @@ pub fn without_hidden(text: &str) -> &str {
     text.trim_matches(|c: char| c.is_whitespace() || is_hidden(u32::from(c)))
 }
 
-/// An id without what gets changed: case, white space, characters that can't be seen, zeros before a number,
+/// Whether a character marks a text as one, or a formula, beside an id.
+fn is_mark(c: char) -> bool {
+    "'\"=".contains(c)
+}
+
+/// An id without what gets changed: marks at its ends, case, white space, characters that can't be seen, zeros before a number,
 /// and `.0` at its end.
 pub(crate) fn plain(alloc: Global, id: &str) -> Result<String, AllocError> {
-    let id = without_hidden(id);
+    let id = without_hidden(id).trim_matches(is_mark);
     let id = id.strip_suffix(".0").unwrap_or(id);
     let mut out = String::new(alloc);
     let (mut is_front, mut is_zero) = (true, false);
@@ -320,7 +317,12 @@ pub(crate) fn how_differs(one: &str, other: &str) -> (Difference, bool) {
         (Difference::Spaces, false)
     } else if one.ends_with(".0") || other.ends_with(".0") {
         (Difference::PointZero, other.ends_with(".0"))
-    } else if one.eq_ignore_ascii_case(other) {
+    } else if one.trim_matches(is_mark) == other.trim_matches(is_mark) {
+        (Difference::Marks, !one.contains(is_mark))
+    } else if one
+        .trim_matches(is_mark)
+        .eq_ignore_ascii_case(other.trim_matches(is_mark))
+    {
         (Difference::Case, false)
     } else {
         (Difference::Zeros, other.len() < one.len())

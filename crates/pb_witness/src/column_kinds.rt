@@ -6,7 +6,7 @@ use crate::prelude::*;
 /// What columns of VOTES are called that have points, and then those that say how many ballots a row is.
 pub(crate) const NUMBERS: &str =
     "points|score|weight|weights|count|ballots|ballot_count|num_ballots|number_of_ballots|\
-    number_of_votes|voters|quantity|times";
+    number_of_votes|voters|quantity|times|freq|_freq|n_break|papers|anzahl|count(*)";
 
 /// How many of them give points.
 pub(crate) const POINTS: usize = 2;
@@ -16,7 +16,8 @@ pub(crate) const POINTS: usize = 2;
 const VALID: &str =
     "valid|is_valid|invalid|accepted|status|withdrawn|cancelled|deleted|duplicate|counted|finished|\
     completed|round|wazny|ważny|gueltig|gültig|platny|platný|geldig|valide|validation_status|\
-    _validation_status|eligible|feasible|feasibility|decision|ocena|is_current|submitdate|signature|resident";
+    _validation_status|eligible|feasible|feasibility|decision|ocena|is_current|submitdate|signature|resident|\
+    is_deleted|is_latest|is_spam|is_resident|excluded|included|eligibility|filter_$";
 
 const BEGINNINGS: &str = "withdrawn|cancelled|invalid|removed|rejected_|deleted_|revoked|voided";
 
@@ -51,11 +52,13 @@ const OTHER_PROJECTS: &str =
     conflicts_with|merged_into|merged_with|replaced_by";
 
 const OTHER_VOTES: &str =
-    "supersedes|superseded_by|replaces|replaced_by|corrects|corrected_by|cancels";
+    "supersedes|superseded_by|replaces|replaced_by|corrects|corrected_by|cancels|duplicate_of|correction_of";
 
 /// What the name of a column has in it whose numbers are of cards or the like, of which each voter has one;
 /// and that of none, within a word or as a whole one.
-const CARDS: &str = "card|ballot|receipt|serial|token|slip|ticket|coupon|envelope|pesel|passport";
+const CARDS: &str =
+    "card|ballot|receipt|serial|token|slip|ticket|coupon|envelope|pesel|passport|voucher|invitation|\
+    access_code|national_id";
 
 const NO_CARDS: &str =
     "time|date|day|hour|minute|stamp|type|station|box|place|street|language|submitted|created";

@@ -37,6 +37,9 @@ const ENOUGH: u64 = 1_000;
 
 const OF: u64 = 4;
 
+/// The fewest letters of such a number that has no digit.
+const MANY_LETTERS: usize = 8;
+
 /// A column that no count reads.
 #[derive(Drop)]
 struct FurtherColumn {
@@ -361,8 +364,9 @@ fn is_number(value: &str, projects: u64) -> bool {
     hundredths != 100 && hundredths != projects.saturating_mul(100)
 }
 
-/// Whether a value may be the number of a card: it has a digit, and at most one sign, as no time or address
-/// has.
+/// Whether a value may be the number of a card: it has a digit or many letters, and at most one sign, as no
+/// time or address has.
 fn is_card_number(value: &str) -> bool {
-    value.chars().filter(|c| !c.is_alphanumeric()).count() <= 1 && has_digit(value)
+    let may_be = has_digit(value) || value.len() >= MANY_LETTERS;
+    value.chars().filter(|c| !c.is_alphanumeric()).count() <= 1 && may_be
 }

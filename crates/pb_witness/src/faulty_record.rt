@@ -1,7 +1,8 @@
 //! A record of a .pb file that was refused, and what can be known of it.
 
 use crate::changed::{
-    form_of, has_digit, has_word, is_digits, is_nothing, is_power, letters_of, without_hidden,
+    differ_in_form, form_of, has_digit, has_word, is_digits, is_nothing, is_power, letters_of,
+    without_hidden,
 };
 use crate::fields::{JoinedBy, has_more, joined};
 use crate::heads::{OddHead, head_of, is_column, odd_head_of, section_of};
@@ -306,18 +307,20 @@ impl FaultyRecord {
             return None;
         }
         let before = text.row_at(self.seen.last)?;
-        if self.seen.last.at > self.seen.names.at && self.is_other_half(before.len()) {
+        if self.seen.last.at > self.seen.names.at && self.is_other_half(text.alloc, &before) {
             return Some(self.seen.last);
         }
         let (behind, mark) = text.find(self.mark, |_| true)?;
-        self.is_other_half(behind.len()).then_some(mark)
+        self.is_other_half(text.alloc, &behind).then_some(mark)
     }
 
-    /// Whether a row with so many fields is short, and has with this one as many as there are column names,
-    /// if the field that was cut counts once.
-    fn is_other_half(&self, fields: usize) -> bool {
-        let together = self.record.len().saturating_add(fields);
-        fields < self.seen.columns && together == self.seen.columns.saturating_add(1)
+    /// Whether a row is short, and has with this one as many fields as there are column names, if the field
+    /// that was cut counts once, and they do not begin alike.
+    fn is_other_half(&self, alloc: Global, row: &ByteRecord) -> bool {
+        let together = self.record.len().saturating_add(row.len());
+        row.len() < self.seen.columns
+            && together == self.seen.columns.saturating_add(1)
+            && differ_in_form(alloc, self.at(0), text_at(row, 0)).unwrap_or(true)
     }
 
     /// Whether it is a row of VOTES with one field in which words stand.

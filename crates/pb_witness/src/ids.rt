@@ -1,5 +1,6 @@
 //! The ids of a file's projects, as far as a witness was shown them.
 
+use crate::changed::plain;
 use crate::prelude::*;
 use crate::swallowed::later_lines;
 
@@ -8,6 +9,9 @@ use crate::swallowed::later_lines;
 pub struct Ids {
     alloc: Global,
     pub projects: Firsts,
+    /// Their names, in plain form, and the place of the column that has them.
+    pub(crate) names: Firsts,
+    name: Option<usize>,
     /// The projects that were left out.
     pub left_out: Firsts,
     /// The ids of rows that a quotation mark swallowed, each with where the row begins that has them in a
@@ -23,6 +27,8 @@ impl Ids {
         Ids {
             alloc,
             projects: Firsts::new(alloc),
+            names: Firsts::new(alloc),
+            name: None,
             left_out: Firsts::new(alloc),
             swallowed: Firsts::new(alloc),
             pieces: Firsts::new(alloc),
@@ -32,8 +38,14 @@ impl Ids {
     /// Keeps the id of a project that the reader accepts.
     pub fn take(&mut self, record: &ByteRecord, mark: Mark, part: Part) -> Result<(), AllocError> {
         match part {
+            Part::Names(Section::Projects) => {
+                self.name = column_of(record, "name");
+                Ok(())
+            }
             Part::Project(columns) => {
                 self.keep_swallowed(record, mark)?;
+                let name = plain(self.alloc, text_at(record, self.name.unwrap_or(usize::MAX)))?;
+                self.names.keep(self.alloc, name.as_str(), mark)?;
                 self.keep_project(text_at(record, columns.id), mark)
             }
             _ => Ok(()),

@@ -1,6 +1,6 @@
 //! What is known of a file in which a record was refused.
 
-use crate::cause::{Cause, cause_of};
+use crate::cause::{Cause, are_shifted, cause_of};
 use crate::changed::{has_time, is_nothing, is_one_of, is_shortened};
 use crate::faulty_record::FaultyRecord;
 use crate::prelude::*;
@@ -125,6 +125,11 @@ impl Known<'_> {
         self.again.causes.get(place as usize).copied()
     }
 
+    /// Whether an id is unknown for this cause.
+    pub fn has(&self, cause: Cause) -> bool {
+        self.again.causes.iter().any(|found| found.cause == cause)
+    }
+
     /// Why a row has the id of an earlier one.
     pub fn repeat_of<R: Files>(&self, text: &Text<'_, R>, faulty: &FaultyRecord) -> Repeat {
         let rows = &self.witness.rows;
@@ -220,9 +225,15 @@ fn causes_of<R: Files>(
     let ids = witness.unknown.found.as_slice();
     let names = text.row_at(witness.seen.names).filter(|_| !ids.is_empty());
     let has_columns = names.is_some_and(|names| witness.ids.are_columns(&names));
-    let mut has_cause = false;
+    let (mut has_cause, is_other) = (false, witness.is_of_other_projects());
+    let are_shifted = are_shifted(witness, projects);
     for unknown in ids {
-        let (cause, project) = cause_of(unknown, witness, projects, has_columns)?;
+        let (mut cause, project) = cause_of(unknown, witness, projects, (has_columns, is_other))?;
+        let is_above = projects.are_below(unknown.id.as_str());
+        let is_open = matches!(cause, Cause::Unknown | Cause::Near | Cause::Run);
+        if are_shifted && is_open && (ids.len() == 1 || is_above) {
+            cause = Cause::Shifted;
+        }
         has_cause |= !matches!(cause, Cause::OtherElection | Cause::Unknown);
         causes.push(FoundCause {
             cause,
@@ -230,10 +241,10 @@ fn causes_of<R: Files>(
             votes: unknown.votes,
         })?;
     }
-    // What could be of another election is left open where other ids have a cause.
-    for found in causes.iter_mut() {
+    // What could be of another election has another cause where other ids have one.
+    for (found, unknown) in causes.iter_mut().zip(ids) {
         if has_cause && found.cause == Cause::OtherElection {
-            found.cause = Cause::Unknown;
+            found.cause = cause_of(unknown, witness, projects, (has_columns, false))?.0;
         }
     }
     for place in 0..causes.len() {

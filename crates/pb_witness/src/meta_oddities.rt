@@ -186,8 +186,8 @@ impl MetaOddities {
             found.take(below);
         } else if is_below_most(election) {
             found.take(below.in_form(1));
-        } else if let Some(sum) = sum_below_budget(election) {
-            found.take(below.as_a(Oddity::BudgetAboveCosts).by(sum));
+        } else if let Some((sum, form)) = sum_below_budget(election) {
+            found.take(below.as_a(Oddity::BudgetAboveCosts).in_form(form).by(sum));
         }
         let are_of_parts = self.has_budget_per || has_districts;
         let further = self.further.filter(|odd| are_of_parts || odd.number > 1);
@@ -236,10 +236,19 @@ pub(crate) fn sum_of_costs(election: &Election) -> u64 {
     projects.fold(0, |sum: u64, project| sum.saturating_add(project.cost().0))
 }
 
-/// What all projects cost together, if there are any and it is less than a hundredth of the budget.
-fn sum_below_budget(election: &Election) -> Option<u64> {
-    let sum = sum_of_costs(election);
-    (0 < sum && sum.saturating_mul(100) < election.budget().0).then_some(sum)
+/// What all projects cost together, if there are any and it is less than a hundredth of the budget; or less
+/// than a tenth, and a hundredth of the budget is more than each cost, as where the budget is in cents.
+fn sum_below_budget(election: &Election) -> Option<(u64, usize)> {
+    let (sum, budget) = (sum_of_costs(election), election.budget().0);
+    let are_below = |times: u64, amount: u64| amount.saturating_mul(times) < budget;
+    let mut projects = election.projects().iter();
+    let are_all_below = projects.all(|project| are_below(100, project.cost().0));
+    match sum {
+        0 => None,
+        _ if are_below(100, sum) => Some((sum, 0)),
+        _ if are_below(10, sum) && are_all_below => Some((sum, 2)),
+        _ => None,
+    }
 }
 
 /// Whether a key has `budget` at its start or its end.

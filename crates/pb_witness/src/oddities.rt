@@ -210,12 +210,6 @@ pub struct Oddities {
     pub has_decimals: bool,
     /// Whether `min_length` is more than `max_length`.
     pub has_no_length: bool,
-    /// Whether a project's id is one that programs read as nothing, and no ballot names it alone.
-    pub has_nothing: bool,
-    /// Whether most ballots are empty, the first is not, and none is that of the row above which has one.
-    pub are_grouped: bool,
-    /// Whether each row of VOTES has a field too many, and the first fields number the rows.
-    pub are_numbered: bool,
     /// How many voters the file has.
     pub voters: u64,
     /// How many ballots are too long or too short by what their projects cost together, and not by their
@@ -247,9 +241,6 @@ impl Oddities {
             refuses_votes: false,
             has_decimals: false,
             has_no_length: false,
-            has_nothing: false,
-            are_grouped: false,
-            are_numbered: false,
             voters: 0,
             costly: 0,
             is_whole: true,

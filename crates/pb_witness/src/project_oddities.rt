@@ -164,12 +164,13 @@ impl ProjectOddities {
         found: &mut Oddities,
     ) -> Result<(), AllocError> {
         self.take_total(election, found);
+        self.take_shortened(election, projects, found)?;
         let compares = self.votes.is_some() && !has_fault;
         let is_check = found.tells(Oddity::NoSupporter);
         if !compares && self.fewest.is_none() && !is_check {
             return Ok(());
         }
-        let supporters = supporters_of(self.alloc, election)?;
+        let supporters = supporters_of(self.alloc, election, false)?;
         let form = if self.has_other_ids(&supporters) {
             2
         } else {
@@ -200,6 +201,42 @@ impl ProjectOddities {
             }
         }
         drop(supporters);
+        Ok(())
+    }
+
+    /// Takes each project that only votes for several projects name, where a spreadsheet turns its id alone into
+    /// that of another one, which votes name alone.
+    fn take_shortened(
+        &self,
+        election: &Election,
+        projects: &Firsts,
+        found: &mut Oddities,
+    ) -> Result<(), AllocError> {
+        let mut all = election.projects().iter();
+        if !all.any(|project| is_shortened(project.id(), projects)) {
+            return Ok(());
+        }
+        let alone = supporters_of(self.alloc, election, true)?;
+        let all = supporters_of(self.alloc, election, false)?;
+        let singles = alone
+            .iter()
+            .fold(0u64, |sum: u64, count| sum.saturating_add(*count));
+        let are_many = singles.saturating_mul(3) >= election.voters().len() as u64;
+        for (place, project) in election.projects().iter().enumerate() {
+            let id = project.id();
+            let other = projects.place(id.trim_end_matches('0')).unwrap_or(u32::MAX);
+            let is_other = alone.get(other as usize).is_some_and(|count| *count > 1);
+            let is_long = alone.get(place) == Some(&0)
+                && all.get(place).is_some_and(|count| *count > FEWEST);
+            if is_shortened(id, projects) && is_other && is_long && are_many {
+                if let Some(row) = self.accepted.get(place) {
+                    let odd = row.odd.as_a(Oddity::RepeatedKey).in_form(3);
+                    found.take(odd.at(row.odd.id_place));
+                }
+            }
+        }
+        drop(all);
+        drop(alone);
         Ok(())
     }
 
@@ -264,12 +301,17 @@ fn is_shortened(id: &str, projects: &Firsts) -> bool {
     is_decimal(id) && short.len() < id.len() && projects.has(short)
 }
 
-/// How many ballots approve each project.
-fn supporters_of(alloc: Global, election: &Election) -> Result<Vec<u64>, AllocError> {
+/// How many ballots approve each project, or each alone.
+fn supporters_of(
+    alloc: Global,
+    election: &Election,
+    is_alone: bool,
+) -> Result<Vec<u64>, AllocError> {
     let mut counts = Vec::new(alloc);
     counts.resize(election.projects().len(), 0u64)?;
     for voter in election.voters() {
-        for place in voter.ballot.places() {
+        let ballot = voter.ballot.places();
+        for place in ballot.iter().filter(|_| !is_alone || ballot.len() == 1) {
             if let Some(count) = counts.get_mut(*place as usize) {
                 *count = count.saturating_add(1);
             }

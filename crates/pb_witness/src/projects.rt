@@ -1,5 +1,6 @@
 //! The rows of PROJECTS, read again for what an unknown id may mean.
 
+use crate::cause::order_of;
 use crate::changed::{form_of, has_digit, is_date, is_digits, is_power, plain, with_digits};
 use crate::prelude::*;
 use crate::records::TextRecords;
@@ -44,8 +45,10 @@ pub struct Projects {
     pub(crate) length: usize,
     /// The place of the first whose id a spreadsheet seems to have changed.
     pub(crate) changed: Option<u32>,
-    /// Whether each id has a digit.
+    /// Whether each id has a digit; whether they differ by their numbers alone, and the greatest of these.
     pub(crate) have_digits: bool,
+    pub(crate) are_numbered: bool,
+    most: u64,
 }
 
 impl Projects {
@@ -59,6 +62,8 @@ impl Projects {
             length: 0,
             changed: None,
             have_digits: true,
+            are_numbered: true,
+            most: 0,
         };
         if witness.unknown.votes == 0 {
             return Ok(projects);
@@ -105,6 +110,8 @@ impl Projects {
         self.length = if is_as_long { id.len() } else { 0 };
         self.longest = self.longest.max(id.len());
         self.have_digits &= has_digit(id);
+        self.are_numbered &= self.has_front(order_of(id).0) && has_digit(id);
+        self.most = self.most.max(order_of(id).1);
         if (is_date(id, true) || is_power(id)) && !witness.rows.is_named(place) {
             self.changed = self.changed.or(Some(place));
         }
@@ -185,6 +192,25 @@ impl Projects {
             .strip_prefix(id)
             .is_some_and(is_more))?;
         u32::try_from(place).ok().filter(|_| has_digit(id))
+    }
+
+    /// Whether the first id has this text before its number, if there is one.
+    fn has_front(&self, front: &str) -> bool {
+        let first = self.rows.first();
+        first.is_none_or(|first| order_of(first.id.as_str()).0 == front)
+    }
+
+    /// Whether an id has a greater number than all of these, if they differ by their numbers alone.
+    pub(crate) fn are_below(&self, id: &str) -> bool {
+        let (front, number) = order_of(id);
+        self.are_numbered && self.has_front(front) && has_digit(id) && number > self.most
+    }
+
+    /// Whether an id ends in 0 behind something else.
+    pub fn end_in_zero(&self) -> bool {
+        self.rows
+            .iter()
+            .any(|row| row.id.len() > 1 && row.id.ends_with('0'))
     }
 
     /// Whether no id has this character.

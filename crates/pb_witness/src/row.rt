@@ -1,5 +1,6 @@
 //! A row of PROJECTS or VOTES that is accepted.
 
+use crate::changed::plain;
 use crate::prelude::*;
 use pb_read::MetaKey;
 
@@ -24,6 +25,8 @@ pub(crate) struct Row<'a> {
     pub(crate) election: &'a Election,
     /// The ids of the projects before it, each with its place.
     pub(crate) projects: &'a Firsts,
+    /// Their names, in plain form.
+    pub(crate) names: &'a Firsts,
     /// What META asks of it.
     pub(crate) limits: Limits,
 }
@@ -56,6 +59,12 @@ impl<'a> Row<'a> {
     /// Whether its id is a key of META that the count uses, as where a row of META stands in this section.
     pub(crate) fn has_key(&self) -> bool {
         MetaKey::of(self.id()).is_some()
+    }
+
+    /// Whether a text is the name of a project before it, or differs by case and white space.
+    pub(crate) fn has_name(&self, alloc: Global, text: &str) -> bool {
+        let name = plain(alloc, text);
+        name.is_ok_and(|name| !name.is_empty() && self.names.has(name.as_str()))
     }
 
     /// Its cost or its vote.

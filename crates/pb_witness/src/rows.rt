@@ -39,6 +39,9 @@ pub struct VoteRows {
     /// whether one of these has a comma.
     pub(crate) has_list: bool,
     pub(crate) has_comma: bool,
+    /// How many commas the last vote with ids has, and whether all have as many.
+    commas: Option<usize>,
+    pub differ: bool,
     /// Of each project up to the last one that a vote names whether a vote names it.
     named: Vec<bool>,
 }
@@ -62,6 +65,8 @@ impl VoteRows {
             has_long: false,
             has_list: false,
             has_comma: false,
+            commas: None,
+            differ: false,
             named: Vec::new(alloc),
         }
     }
@@ -103,6 +108,15 @@ impl VoteRows {
         self.is_second_list && self.before >= FEWEST && self.repeated.iter().any(is_other)
     }
 
+    /// Takes a vote, accepted or not.
+    pub(crate) fn see(&mut self, vote: &[u8]) {
+        if !vote.is_empty() {
+            let commas = vote.iter().filter(|byte| **byte == b',').count();
+            self.differ |= self.commas.is_some_and(|before| before != commas);
+            self.commas = Some(commas);
+        }
+    }
+
     /// Takes a project that a vote names.
     pub(crate) fn name(&mut self, place: u32) -> Result<(), AllocError> {
         let place = place as usize;
@@ -116,7 +130,7 @@ impl VoteRows {
     }
 
     /// Whether a vote names the project at this place.
-    pub(crate) fn is_named(&self, place: u32) -> bool {
+    pub fn is_named(&self, place: u32) -> bool {
         self.named.get(place as usize) == Some(&true)
     }
 

@@ -1,7 +1,6 @@
 //! The text that words speak of. Where it is a file it is read again.
 
 use crate::fields::{JoinedBy, joined, number_in};
-use crate::heads::is_head;
 use crate::prelude::*;
 use crate::records::TextRecords;
 use std::io::{Seek, SeekFrom};
@@ -116,14 +115,6 @@ impl<'a, R: Files> Text<'a, R> {
         self.row_at(mark).is_some() && self.row_behind(mark).is_none()
     }
 
-    /// The last record of the section whose column names have this mark, if it can be read again.
-    pub(crate) fn end_of(&self, names: Mark) -> Option<Mark> {
-        let mut records = self.record_at(names)?;
-        let mark = last_of_section(&mut records);
-        drop(records);
-        Some(mark)
-    }
-
     /// Its records from this mark on, if it is a file that can be read again.
     pub fn records_from(&self, start: Mark) -> Option<TextRecords<R::File>> {
         let file = self.open_at(start.byte)?;
@@ -144,18 +135,6 @@ impl<'a, R: Files> Text<'a, R> {
         drop(records);
         None
     }
-}
-
-/// Where the last record before the next heading stands, or before the end.
-fn last_of_section<F: Read>(records: &mut TextRecords<F>) -> Mark {
-    let mut mark = records.mark();
-    for _ in 0..u64::MAX {
-        if !records.advance() || is_head(text_at(&records.last, 0)) {
-            return mark;
-        }
-        mark = records.mark();
-    }
-    mark
 }
 
 /// Whether a path names a file. A pipe or a device is none: it has given what it had.

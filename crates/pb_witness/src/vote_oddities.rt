@@ -1,7 +1,8 @@
 //! What is odd in VOTES.
 
 use crate::behind_vote::{BehindVote, names_other};
-use crate::changed::{form_of, has_digit, has_one_of, is_decimal, is_one_of, without_hidden};
+use crate::cause::{comes_next, order_of};
+use crate::changed::{form_of, has_digit, has_one_of, is_decimal, is_digits, without_hidden};
 use crate::columns::FurtherColumns;
 use crate::last_vote::LastVote;
 use crate::meta_oddities::whole_number;
@@ -12,9 +13,6 @@ use crate::voter_lists::{are_lists, ends_in_projects};
 
 /// What stands in place of an id below a list that was signed.
 const SIGNED: &str = "signed|signature|podpis|unterschrift";
-
-/// Ids that programs read as nothing.
-const NOTHING: &str = "na|n/a|nan|nil|none|null";
 
 /// The fewest rows whose number a last row has.
 const FEWEST_ROWS: u64 = 5;
@@ -41,10 +39,10 @@ pub(crate) struct VoteOddities {
     /// Whether it has a text beside its id.
     first_has_more: bool,
     first_note: Option<Odd>,
-    /// How many rows have a field more than there are column names, and their own number as their id.
-    numbered: u64,
     /// The first row whose id begins as what programs leave out, measured by how many there are.
     left_out: Option<Odd>,
+    /// The first row whose id is several ids, from one to another, measured by how many there are.
+    range: Option<Odd>,
     rankings: Rankings,
     last: LastVote,
 }
@@ -70,8 +68,8 @@ impl VoteOddities {
             first_empty: None,
             first_has_more: false,
             first_note: None,
-            numbered: 0,
             left_out: None,
+            range: None,
             rankings: Rankings::new(alloc),
             last: LastVote::default(),
         })
@@ -79,7 +77,7 @@ impl VoteOddities {
 
     /// Takes a row that is accepted.
     pub(crate) fn take(&mut self, row: &Row<'_>, found: &mut Oddities) -> Result<(), AllocError> {
-        let (id_place, vote_place) = row.places();
+        let (_, vote_place) = row.places();
         let length = row.ballot().len();
         self.take_length(row, length as u64, found);
         if row.has_key() {
@@ -93,20 +91,7 @@ impl VoteOddities {
             found.take(row.odd(Oddity::TwiceInVote));
         }
         self.last_row = Some((row.mark, row.part));
-        let id = bytes_at(row.record, id_place);
-        let is_plain = is_plain_end(id.first()) && is_plain_end(id.last());
-        if (!is_plain && is_marked(row.id())) || ends_in_zero(id) {
-            let voters = row.election.voters().len().saturating_sub(1);
-            let place = u32::try_from(voters).unwrap_or(u32::MAX);
-            self.marked.push((place, row.mark))?;
-        }
-        if id.contains(&b'\n') && !id.contains(&b';') {
-            found.take(row.odd(Oddity::HiddenCharacter).in_form(2));
-        }
-        if id.starts_with(b"#") || id.starts_with(b"//") {
-            let odd = row.odd(Oddity::NoteRows).in_form(2);
-            self.left_out = Some(odd.behind(self.left_out));
-        }
+        self.take_id(row, found)?;
         let is_long = row.record.len() > self.names;
         if is_long {
             self.take_surplus(row, found);
@@ -120,12 +105,31 @@ impl VoteOddities {
         Ok(())
     }
 
+    /// Takes the id of a row, which may be that of another row, of several voters, or of none.
+    fn take_id(&mut self, row: &Row<'_>, found: &mut Oddities) -> Result<(), AllocError> {
+        let id = bytes_at(row.record, row.places().0);
+        let is_plain = is_plain_end(id.first()) && is_plain_end(id.last());
+        if (!is_plain && is_marked(row.id())) || ends_in_zero(id) {
+            let voters = row.election.voters().len().saturating_sub(1);
+            let place = u32::try_from(voters).unwrap_or(u32::MAX);
+            self.marked.push((place, row.mark))?;
+        }
+        if id.contains(&b'\n') && !id.contains(&b';') {
+            found.take(row.odd(Oddity::HiddenCharacter).in_form(2));
+        }
+        if is_range(row) {
+            let odd = row.odd(Oddity::HiddenCharacter).in_form(3);
+            self.range = Some(odd.behind(self.range));
+        }
+        if id.starts_with(b"#") || id.starts_with(b"//") {
+            let odd = row.odd(Oddity::NoteRows).in_form(2);
+            self.left_out = Some(odd.behind(self.left_out));
+        }
+        Ok(())
+    }
+
     /// Takes a row with more fields than there are column names: with ids of projects, or with other texts.
-    fn take_surplus(&mut self, row: &Row<'_>, found: &mut Oddities) {
-        let is_next = row.record.len() == self.names.saturating_add(1);
-        let number = whole_number(row.id()).filter(|_| is_next);
-        let is_numbered = number == Some(row.election.voters().len() as u64);
-        self.numbered = self.numbered.saturating_add(u64::from(is_numbered));
+    fn take_surplus(&self, row: &Row<'_>, found: &mut Oddities) {
         let is_vote = |place: usize| names_other(row.at(place), &[], row.projects).is_some();
         let is_text = |place: usize| !row.at(place).is_empty();
         let has_vote = (self.names..row.record.len()).any(is_vote);
@@ -149,7 +153,7 @@ impl VoteOddities {
         let limit = row.limits.min_length;
         let mut odd = row.odd(Oddity::EmptyBallot).by(length);
         if length == 0 {
-            odd = self.behind.with_stray(row, odd);
+            odd = self.behind.with_stray(self.alloc, row, odd);
         }
         if length < limit.unwrap_or(0) {
             found.take(Odd {
@@ -195,11 +199,9 @@ impl VoteOddities {
         found: &mut Oddities,
     ) -> Result<(), AllocError> {
         let voters = election.voters().len() as u64;
-        found.are_numbered = voters > 1 && self.numbered == voters;
-        found.has_nothing = self.empty > 0 && has_nothing(election);
-        found.are_grouped = self.empty.saturating_mul(2) > voters && are_grouped(election);
         let are_few = |odd: &Odd| odd.number.saturating_mul(2) <= voters;
         found.take_some(self.left_out.filter(are_few));
+        found.take_some(self.range);
         let may_be = self.last_empty > 0 && self.last_empty == self.empty;
         let are_last = may_be && self.are_notes(election)?;
         let is_voter = self.first_has_more && have_spaces(election);
@@ -219,7 +221,7 @@ impl VoteOddities {
         self.last.end(election, last, found);
         let are_projects = ends_in_projects(self.alloc, election, projects)?;
         let projects = election.projects().len() as u64;
-        if let (Some(odd), true) = (last, are_projects) {
+        if let (Some(odd), true) = (last, are_projects && !found.has(Oddity::NoteRows)) {
             found.take(odd.as_a(Oddity::NoteRows).in_form(3).by(projects));
         }
         if let (Some(odd), true) = (last, self.rankings.are_rankings(projects)) {
@@ -357,6 +359,29 @@ pub(crate) fn has_space(text: &str) -> bool {
     text.contains(|c: char| c.is_whitespace())
 }
 
+/// Whether the id of a row begins with that behind the row above, and ends with a later one, as a range does.
+fn is_range(row: &Row<'_>) -> bool {
+    if is_digits(row.id()) {
+        return false;
+    }
+    let is_sign = |c: char| !c.is_alphanumeric();
+    let Some((first, rest)) = row.id().split_once(is_sign) else {
+        return false;
+    };
+    let mut above = row.election.voters().iter().rev().skip(1);
+    let last = rest.rsplit(is_sign).next().unwrap_or("");
+    let ((front, number), (other, next)) = (order_of(first), order_of(last));
+    front == other
+        && !front.is_empty()
+        && number < next
+        && !row.id().contains('\n')
+        && has_digit(first)
+        && has_digit(last)
+        && above
+            .next()
+            .is_some_and(|above| comes_next(first, above.id.text()))
+}
+
 /// Whether an id has white space in it, or a word for a total, or one for a signature and no digit.
 fn is_note_id(id: &str) -> bool {
     has_space(id) || has_total(id) || (has_one_of(SIGNED, id) && !has_digit(id))
@@ -373,32 +398,6 @@ fn is_number_of_rows(election: &Election, above: usize, id: &str) -> bool {
         && whole_number(id) == Some(number)
         && above.saturating_add(1) == election.voters().len()
         && !voters.any(|voter| is_like(voter.id.text()))
-}
-
-/// Whether a project's id is one that programs read as nothing, and no ballot names it alone.
-fn has_nothing(election: &Election) -> bool {
-    let (mut projects, mut voters) = (election.projects().iter(), election.voters().iter());
-    let is_nothing = projects.position(|project| is_one_of(NOTHING, project.id()));
-    let is_it = |vote: &[u32]| matches!(vote, [one] if Some(*one as usize) == is_nothing);
-    is_nothing.is_some() && !voters.any(|voter| is_it(voter.ballot.places()))
-}
-
-/// Whether the first ballot is not empty, and each further one is empty or another than the last that is not.
-fn are_grouped(election: &Election) -> bool {
-    let mut before: &[u32] = &[];
-    let (mut groups, mut is_first) = (0u64, true);
-    for voter in election.voters() {
-        let vote = voter.ballot.places();
-        if (is_first && vote.is_empty()) || (!vote.is_empty() && vote == before) {
-            return false;
-        }
-        is_first = false;
-        if !vote.is_empty() {
-            groups = groups.saturating_add(1);
-            before = vote;
-        }
-    }
-    groups > 1
 }
 
 /// Whether the id of a voter with a vote has white space in it.

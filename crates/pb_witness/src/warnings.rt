@@ -101,6 +101,7 @@ impl Warnings {
                     part,
                     election,
                     projects: &self.witness.ids.projects,
+                    names: &self.witness.ids.names,
                     limits: self.meta.limits,
                 };
                 match (part, &mut self.projects, &mut self.votes) {

@@ -70,6 +70,7 @@ impl Witness {
         if let Part::Vote(columns) = part {
             self.rows.first = self.rows.first.or(Some(mark));
             self.rows.accepted = self.rows.accepted.saturating_add(1);
+            self.rows.see(bytes_at(record, columns.vote));
             let is_cut = bytes_at(record, columns.vote).last() == Some(&b',');
             self.rows.cut = self.rows.cut.saturating_add(u64::from(is_cut));
             let is_first = !self.rows.names_project;
@@ -105,6 +106,7 @@ impl Witness {
     ) -> Result<(), AllocError> {
         self.rows.refused = self.rows.refused.saturating_add(1);
         let vote = text_at(record, columns.vote);
+        self.rows.see(vote.as_bytes());
         match (refusal.fault.kind, refusal.piece, refusal.earlier) {
             (ReadKind::UnknownProject, Some(piece), _) => {
                 let (mut is_kept, mut is_none) = (false, true);

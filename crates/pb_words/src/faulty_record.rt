@@ -4,29 +4,16 @@ use crate::prelude::*;
 use crate::read_rules::{amount_remedy, fine_remedy, put_broken, words_of};
 use crate::section::{NO_NAMES, Names, missing, names_of, wrong_head};
 use pb_read::{Section, Stage};
-use pb_witness::fields::{column_of, place_of_no_text};
+use pb_witness::fields::{column_of, has_more, place_of_no_text};
 use pb_witness::heads::{head_of, section_of};
 
 /// What to do where VOTES has a column for each project.
 pub(crate) const BY_COLUMN: &str =
     "VOTES has a column for each project. Make one column `vote` of them, with the ids of the projects that the voter approves, and `,` between them.\n";
 
-/// What to do where a column seems to have moved by one cell.
-const VOTES_DOWN: &str =
-    "The first voter has no vote, and the last vote no voter: the column `vote` may have slid down by one cell. Compare a few rows with the ballots before you write an id. If they agree, and the row is a total, delete it.\n";
-
-const COSTS_DOWN: &str =
-    "The first project has no cost, and the last cost no project: the column `cost` may have slid down by one cell. Compare a few costs with the list that they come from before you change a row. If they agree, find out the first project's cost. If the last row is a total, delete it.\n";
-
-const COLUMN_UP: &str =
-    "A value stands among the column names, and the last row has none in this column, which may have moved up by one cell. If so, move its values down again, and write the column's name above them.\n";
-
-/// What to do about a ballot without an id: where the first row has none, and where it has.
-const FIRST_EMPTY: &str =
-    "The first row of VOTES has no id, so ids may stand in the middle of their rows or below them, as where merged cells were taken apart. Look at the ballots, or get the votes again, before you write an id. If the row is a ballot of its own, write any id that no other row has. If it is a total, delete it.\n";
-
-const LATER_EMPTY: &str =
-    "If the row is a ballot of the voter above, write that voter's id. If it is another voter's ballot, write any id that no other row has. If it is a total, delete it.\n";
+/// What to do about a ballot without an id.
+const NO_ID: &str =
+    "Look at the ballots before you write an id: ids may stand in the middle of their rows, or below, as where merged cells were taken apart, or the column `vote` may have slid down by one cell. If the row is a ballot of the voter above, write that voter's id. If it is another voter's ballot, write any id that no other row has. If it is a total, delete it.\n";
 
 const NAMES_TWICE: &str =
     "This row has ids of projects, one in each field, as a row of column names has. If it is one, delete it. If not, look at the voter's ballot.\n";
@@ -35,13 +22,26 @@ const NAMES_AND_ROW: &str =
     "The first row may stand behind the column names, on the same line. If so, begin a new line where it begins.\n";
 
 const NAMES_BELOW: &str =
-    "The row of column names stands further below. Move it up, to the line below the heading.\n";
+    "The row of column names stands further below. Move it up, to the line below the heading. If what then stands below it is no project and no vote, delete it.\n";
+
+const NOTE_ABOVE: &str =
+    "The row of column names stands further below. If this line says that rows are left out or not valid, or what signs or amounts mean, ask first. If not, delete it.\n";
 
 const LINE_ENDS: &str =
     "The line ends are characters that the program does not read as such. Save the file again with those of Unix or Windows.\n";
 
 /// So many column names are shown.
 const MOST_NAMES: usize = 12;
+
+/// What this needed column has.
+fn content_of(column: &str) -> &'static str {
+    match column {
+        "cost" => "the whole cost of each project, in the currency of the budget",
+        "project_id" => "the ids by which votes name the projects",
+        "voter_id" => "an id of one voter in each row",
+        _ => "the ids of all projects that the voter approves",
+    }
+}
 
 impl<R: Files> Case<'_, R> {
     /// What things are called where a record stands.
@@ -69,15 +69,12 @@ impl<R: Files> Case<'_, R> {
             (ReadKind::MissingColumn, _) => self.column_remedy(),
             (ReadKind::EmptyId, Stage::InVotes(_)) if self.faulty.is_names_again(ids) =>
                 NAMES_TWICE,
-            (ReadKind::EmptyId, Stage::InVotes(_)) if self.faulty.is_ballot(ids) => {
-                self.ballot_remedy()
-            }
-            (ReadKind::EmptyId | ReadKind::BadMoney, Stage::InProjects(_))
-                if self.faulty.is_slid(self.text) => COSTS_DOWN,
+            (ReadKind::EmptyId, Stage::InVotes(_)) if self.faulty.is_ballot(ids) => NO_ID,
             (ReadKind::MissingField, _) if self.faulty.is_invisible() =>
                 "Delete the line. (Some programs put such a character at the end of a file.)\n",
-            (ReadKind::BadMoney, _) if self.faulty.is_id_alone() =>
-                "Write the amount with digits only, like `1200` or `1200.50`. If the row is a heading or a note, and no project, delete it.\n",
+            (ReadKind::BadMoney, Stage::InProjects(_))
+                if self.faulty.is_id_alone() || self.faulty.value().starts_with("--") =>
+                "Write the amount with digits only, like `1200` or `1200.50`. If the row is a heading or a note, and no project, delete it, but not before you did what it says.\n",
             (ReadKind::BadMoney, _) => amount_remedy(self.faulty.value()),
             (ReadKind::MoneyTooFine, _) => fine_remedy(self.faulty.value()),
             (ReadKind::MissingField, Stage::InProjects(_)) if is_one =>
@@ -85,17 +82,6 @@ impl<R: Files> Case<'_, R> {
             (ReadKind::MissingField, Stage::InProjects(_)) =>
                 "Complete the row, or delete it if it does not belong here.\n",
             (kind, _) => words_of(kind).1,
-        }
-    }
-
-    /// What to do about a ballot without an id.
-    fn ballot_remedy(&self) -> &'static str {
-        if self.faulty.is_slid(self.text) {
-            VOTES_DOWN
-        } else if self.faulty.begins_without_id(self.text) {
-            FIRST_EMPTY
-        } else {
-            LATER_EMPTY
         }
     }
 
@@ -130,16 +116,12 @@ impl<R: Files> Case<'_, R> {
             BY_COLUMN
         } else if self.has_row_behind() {
             NAMES_AND_ROW
+        } else if self.has_note_above() {
+            NOTE_ABOVE
         } else if self.has_names_below() {
             NAMES_BELOW
-        } else if self.faulty.is_slid_up(self.text, ids) {
-            COLUMN_UP
         } else if is_of_votes && self.faulty.is_by_project() {
             "There is `project_id` in place of `vote`. Look at a ballot before you change anything.\n"
-        } else if self.is_turned() {
-            "The table seems to lie on its side. Exchange its rows and columns, so that each row is one voter or one project.\n"
-        } else if self.has_column_below() {
-            "The other column stands below this one, as in a copy of a page. Get the table again, with the fields of a row beside each other.\n"
         } else {
             self.names().add_column
         }
@@ -163,31 +145,10 @@ impl<R: Files> Case<'_, R> {
         self.text.find(self.faulty.mark, has_both).is_some()
     }
 
-    /// Whether the row below these column names begins with the needed one that they lack.
-    fn is_turned(&self) -> bool {
-        let section = section_of(&self.faulty.stage);
-        let is_first = self
-            .faulty
-            .at(0)
-            .eq_ignore_ascii_case(missing(section, false));
-        let below = self.text.row_behind(self.faulty.mark);
-        is_first
-            && self.faulty.record.len() > 1
-            && below.is_some_and(|row| text_at(&row, 0).eq_ignore_ascii_case(missing(
-                section, true,
-            )))
-    }
-
-    /// Whether these column names are one, and the other needed one stands alone in a row below.
-    fn has_column_below(&self) -> bool {
-        let section = section_of(&self.faulty.stage);
-        let first = missing(section, false);
-        let is_first = self.faulty.at(0).eq_ignore_ascii_case(first);
-        let other = missing(section, is_first);
-        let is_other = |row: &ByteRecord| {
-            row.len() == 1 && text_at(row, 0).eq_ignore_ascii_case(other)
-        };
-        self.faulty.record.len() == 1 && self.text.find(self.faulty.mark, is_other).is_some()
+    /// Whether these are one field in place of column names, as a note is, and a row below has the names.
+    fn has_note_above(&self) -> bool {
+        let is_kind = self.faulty.kind() == ReadKind::MissingColumn;
+        is_kind && !has_more(&self.faulty.record) && self.has_names_below()
     }
 
     /// Puts what is wrong with a record by itself.
@@ -268,8 +229,12 @@ impl<R: Files> Case<'_, R> {
                     ],
                 ),
                 Ok(None) => out.fill(
-                    "If {} is this column, write `{}` in its place.\n",
-                    &[Quoted(self.faulty.at(place)), Own(column)],
+                    "If {} is this column, with {}, write `{}` in its place. If not, ask whoever made the file.\n",
+                    &[
+                        Quoted(self.faulty.at(place)),
+                        Own(content_of(column)),
+                        Own(column),
+                    ],
                 ),
                 Err(_) => out.fail(),
             },

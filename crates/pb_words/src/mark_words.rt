@@ -69,7 +69,7 @@ pub(crate) fn put_over(out: &mut WordsWriter, span: Span, is_sentence: bool) -> 
     let form = if span.is_single {
         "If each line should be a row of its own, delete the quotation mark on line {} and the one on line {}.\n"
     } else {
-        "If each line should be a row of its own, line {} has one quotation mark too many, or one too few. The quotation marks on line {} may be right.\n"
+        "If each line should be a row of its own, line {} has one quotation mark too many, or one too few. Then its field may have lost its end: look at the original. The quotation marks on line {} may be right.\n"
     };
     out.fill(form, &[Number(opens), Number(closes)]);
     true

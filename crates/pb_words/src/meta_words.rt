@@ -60,8 +60,7 @@ impl<R: Files> Case<'_, R> {
                 &[Own(key.text())],
             );
         }
-        let is_put = put_like_key(out, self.text, key.text());
-        if is_put || put_apostrophes(out, self.text, seen.last) {
+        if put_like_key(out, self.text, key.text()) {
             return;
         }
         let joined = self.text.joined_at(seen.last);
@@ -88,23 +87,6 @@ impl<R: Files> Case<'_, R> {
             None => out.put(remedy),
         }
     }
-}
-
-/// Puts that apostrophes are around the fields of the row with this mark, and what to do; answers whether they
-/// are.
-fn put_apostrophes<R: Files>(out: &mut WordsWriter, text: &Text<R>, mark: Mark) -> bool {
-    let is_so = |field: &str| {
-        field.len() > 1 && field.starts_with('\'') && field.ends_with('\'')
-    };
-    let row = text.row_at(mark);
-    let are_so = row.is_some_and(|row| is_so(text_at(&row, 0)));
-    if are_so {
-        let _ = put_mark(out, text, mark);
-        out.put(
-            ": apostrophes are around the fields, which are read as part of them.\nWrite a quotation mark (`\"`) in place of each.\n",
-        )
-    }
-    are_so
 }
 
 /// Which key META lacks, that of the budget or another, and what to do.
@@ -194,7 +176,9 @@ fn put_key_elsewhere<R: Files>(out: &mut WordsWriter, text: &Text<R>, key: &'sta
 
 /// Whether a row of META has this key and more.
 fn is_like(row: &ByteRecord, key: &str) -> bool {
-    let field = without_hidden(text_at(row, 0)).as_bytes();
+    let field = without_hidden(text_at(row, 0))
+        .trim_matches('\'')
+        .as_bytes();
     let begin = field.get(..key.len()).unwrap_or(b"");
     let rest = field.get(key.len()..).unwrap_or(b"");
     let next = rest.iter().find(|byte| **byte != b' ');
@@ -263,7 +247,10 @@ pub(crate) fn put_late_meta<R: Files>(out: &mut WordsWriter, text: &Text<R>, fir
             &[line],
         );
     } else {
-        out.fill("META is on line {}: delete everything above it.\n", &[line]);
+        out.fill(
+            "META is on line {}. If a line above it says that rows are left out or not valid, or what signs or amounts mean, ask first. If not, delete everything above it.\n",
+            &[line],
+        );
         put_clean(out, text, "");
     }
     true

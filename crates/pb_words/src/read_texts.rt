@@ -38,7 +38,8 @@ Check whether the amount has too many digits.\n",
     "a project's cost is 0, but every project must cost something.
 Write the project's cost. If the project was withdrawn, delete its row, and take its id out of the votes.\n",
     "an id is empty.
-Fill in the id, or delete the row if it is a total or a note.\n",
+Fill in the id, or delete the row if it is a total or a note. First compare a few rows with the original: a column may have \
+    slid down by one cell.\n",
     "an earlier row has the same project id.
 Find out whether the rows are one project or two. Two projects need two ids, also in the votes. One project needs \
     one row, with its whole cost.\n",

@@ -146,6 +146,9 @@ impl<R: Files> Case<'_, R> {
             let _ = put_over(out, span, false);
             return;
         }
+        if put_never_closed(out, self.text, (self.faulty.mark, span)) {
+            return;
+        }
         let is_split = !shifted.is_empty() && self.known.witness.ids.are_all(shifted);
         if (is_split || self.faulty.is_two_rows()) && !is_cut_code(self.faulty.piece()) {
             let _ = put_mark(out, self.text, self.faulty.mark);
@@ -242,12 +245,21 @@ impl<R: Files> Case<'_, R> {
                 "This row and the one on line {} may be one row, cut by a line break in a text. If so, join them.\n",
                 &[Number(line_of(self.text, half))],
             )
+        } else if let Some(place) = self.moved_vote() {
+            self.put_moved(out, self.faulty, place)
         } else if let Some(words) = self.short_words() {
             out.put(words)
         } else {
             return false;
         }
         true
+    }
+
+    /// The place of a field behind the id of a short row of VOTES that names projects, and is no vote there.
+    fn moved_vote(&self) -> Option<usize> {
+        let is_short = self.faulty.kind() == ReadKind::MissingField && self.faulty.is_of_votes();
+        let place = self.faulty.moved(&self.known.witness.ids);
+        place.filter(|place| is_short && *place > 0)
     }
 
     /// What to do about a short row, by what it seems to be.
@@ -266,9 +278,9 @@ impl<R: Files> Case<'_, R> {
                     "Check whether the first comma stands for `;`. If so, commas separate the fields of this row: write `;` between them, but keep the commas between the ids of a vote.\n",
             }
         } else if self.is_message() {
-            "This may be a message of the program that wrote the file, which failed here. Then get the whole file again. If it is a heading or a note, delete it.\n"
+            "This may be a message of the program that wrote the file, which failed here. Then get the whole file again. If it is a heading or a note, do what it says of the rows below, then delete it.\n"
         } else if self.faulty.is_line_of_words() {
-            "If it is a heading or a note, delete it. If it says that rows are left out, get the whole file. If it is a vote, write all of its fields.\n"
+            "If it says that rows are left out, get the whole file; a filter leaves rows out too. If it is a heading or a note, do what it says of the rows below, then delete it. If it is a vote, write all of its fields.\n"
         } else if is_short && self.faulty.is_like_project(self.text) {
             LATE_PROJECT
         } else {
@@ -321,10 +333,7 @@ impl<R: Files> Case<'_, R> {
             return true;
         }
         let span = span_of(self.text, last);
-        if span.unclosed().is_some() {
-            let _ = put_mark(out, self.text, last);
-            let _ = put_unclosed(out, span);
-            out.put(CLOSE_IT);
+        if put_never_closed(out, self.text, (last, span)) {
             return true;
         }
         let (_, ends) = span.over.unwrap_or((0, span.begins));
@@ -346,30 +355,39 @@ impl<R: Files> Case<'_, R> {
     }
 }
 
+/// Puts which quotation mark is never closed in the record with this mark, and what to do, if one is; answers
+/// whether one is.
+fn put_never_closed<R: Files>(
+    out: &mut WordsWriter,
+    text: &Text<R>,
+    (mark, span): (Mark, Span),
+) -> bool {
+    if span.unclosed().is_none() {
+        return false;
+    }
+    let _ = put_mark(out, text, mark);
+    let _ = put_unclosed(out, span);
+    out.put(CLOSE_IT);
+    true
+}
+
 /// Words by which programs say that they failed.
 const MESSAGES: &str = "error|exception|warning|notice|fatal|traceback|timeout|timed|ora|deadlock";
 
-/// Signs that look like `;`, with their numbers.
-const LIKE_SEMICOLON: [(&str, &str); 3] = [
-    ("\u{37e}", "U+037E"),
-    ("\u{ff1b}", "U+FF1B"),
-    ("\u{61b}", "U+061B"),
-];
-
 /// Puts what stands between a voter and a vote in place of `;`, and what to do.
 fn put_joined_vote(out: &mut WordsWriter, sign: &str) {
-    let alike = LIKE_SEMICOLON.iter().find(|(it, _)| *it == sign);
-    match (alike, sign) {
-        (Some((_, number)), _) => out.fill(
-            "Between the voter's id and the vote stands {}, which looks like `;`. Write `;` in its place, and leave the commas.\n",
-            &[Own(number)],
-        ),
-        (None, "") => out.put(
+    if sign.is_empty() {
+        return out.put(
             "If a `;` is missing between the voter's id and the vote, write it there, and leave the commas. If the row is a voter's id alone, and the voter chose nothing, write `;` behind it.\n",
-        ),
-        (None, _) => out.fill(
-            "If a vote stands behind the voter's id, with {} in place of `;`, write `;` there, and leave the commas. If the row is a voter's id alone, and the voter chose nothing, write `;` behind it.\n",
-            &[Quoted(sign)],
-        ),
+        );
     }
+    let alike = if sign.is_ascii() {
+        ""
+    } else {
+        " (another character, though it may look alike)"
+    };
+    out.fill(
+        "If a vote stands behind the voter's id, with {}{} in place of `;`, write `;` there, and leave the commas. If the row is a voter's id alone, and the voter chose nothing, write `;` behind it.\n",
+        &[Quoted(sign), Own(alike)],
+    )
 }

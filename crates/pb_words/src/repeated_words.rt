@@ -83,7 +83,9 @@ impl<R: Files> Case<'_, R> {
                 "The rows are the same, but other ids repeat with other votes. What is true of those rows is probably true of these.\n",
             ),
             Repeat::Copy if is_voter && self.known.repeated_for(self.text, repeat).count > 1 => {
-                out.put("Each of these rows is a copy of an earlier one. Delete the copies.\n")
+                out.put(
+                    "Each of these rows is a copy of an earlier one. Count the ballots on paper: if the rows came in twice, delete the copies; if they are other people's, give them ids of their own; if they stand in place of other rows, get those.\n",
+                )
             }
             Repeat::Unknown => out.put(words_of(kind).1),
             _ => out.fill(remedy_of(repeat, is_voter), &[Name(self.text.path)]),
@@ -125,7 +127,8 @@ fn remedy_of(repeat: Repeat, is_voter: bool) -> &'static str {
             "The rows have different times. If a later vote replaces an earlier one, keep the later row. If not, find out whether they are one ballot, or those of different people.\n`pb_clean {} -o NEW.pb --repeated-voters last` keeps the row of each voter that stands last in the file, `merge` makes one ballot of the rows, `distinct` makes different voters.\n",
         Repeat::Copy if is_voter =>
             "The two rows are the same. If they are one person's, delete one of them. If they are two people's, give one of them another id.\n",
-        Repeat::Copy => "The two rows are the same. Delete one of them.\n",
+        Repeat::Copy =>
+            "The two rows are the same. If no other project is missing, delete one of them.\n",
         Repeat::Apart | Repeat::Unknown => "",
     }
 }

@@ -16,7 +16,7 @@ impl<R: Files> Case<'_, R> {
             )
         } else if self.faulty.has_titles() {
             out.put(
-                "If this row has titles or types of the columns, and is no vote, delete it. If not, ask whoever made the file what is meant.\n",
+                "If this row has titles or types of the columns, and is no vote, delete it; also a line of dashes below their names. If not, ask whoever made the file what is meant.\n",
             )
         } else if self.faulty.is_like_project(self.text) {
             out.put(LATE_PROJECT)
@@ -115,7 +115,7 @@ impl<R: Files> Case<'_, R> {
     }
 
     /// Puts which field of a row, the one at this place, names projects.
-    fn put_moved(&self, out: &mut WordsWriter, moved: &FaultyRecord, place: usize) {
+    pub(crate) fn put_moved(&self, out: &mut WordsWriter, moved: &FaultyRecord, place: usize) {
         out.fill("{}", &[Quoted(moved.at(place))]);
         if let Some(names) = self.text.row_at(moved.seen.names) {
             out.fill(" in column {}", &[Quoted(text_at(&names, place))]);

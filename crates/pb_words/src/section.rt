@@ -21,13 +21,13 @@ const META: &Names = &Names {
 const PROJECTS: &Names = &Names {
     subject: "project",
     add_header: "Add it below the heading PROJECTS, for example `project_id;cost`.\n",
-    add_column: "PROJECTS needs columns with the names `project_id` and `cost`. If one of these is there by another name, correct the name. If this row is a project, add the row of column names above it.\n",
+    add_column: "PROJECTS needs columns with the names `project_id` and `cost`. If one of these is there by another name, correct the name. If this row is a project, add the row of column names above it. If columns stand below each other, or as rows, or a cost among the names, get the table again.\n",
 };
 
 const VOTES: &Names = &Names {
     subject: "voter",
     add_header: "Add it below the heading VOTES, for example `voter_id;vote`.\n",
-    add_column: "VOTES needs columns with the names `voter_id` and `vote`. If one of these is there by another name, correct the name. If this row is a vote, add the row of column names above it.\n",
+    add_column: "VOTES needs columns with the names `voter_id` and `vote`. If one of these is there by another name, correct the name. If this row is a vote, add the row of column names above it. If no column has ids of voters, and each row is one ballot, add a column `voter_id` with the numbers of the rows. If columns stand below each other, or as rows, or a vote among the names, get the table again.\n",
 };
 
 /// What is said of a section that is missing, and of one without a row of column names.

@@ -17,6 +17,10 @@ pub(crate) const LATE_PROJECT: &str =
 const LISTED: &str =
     "This row and one beside it have ids of projects in place of voters: they may be a list or a tally, and no votes. If so, delete all of its rows. If not, ask whoever made the file what is meant.\n";
 
+/// What to do about an id with a character that no id of a project has.
+const ODD_LETTER: &str =
+    "This contains {}, which no id in PROJECTS contains. It may be another kind of dash or letter, a code for a missing value, or what a program put there, as € for `(e)`. Compare the id with those. Ask whoever made the file what it means.\n";
+
 /// Whether a text ends in a code of a web page without its `;`.
 pub(crate) fn is_cut_code(text: &str) -> bool {
     match text.rsplit_once('&') {
@@ -64,10 +68,11 @@ fn remedy_of(cause: Cause) -> &'static str {
         Cause::Date =>
             "A spreadsheet may have made a date of the id. Get the votes again, as text.\n",
         Cause::Nothing =>
-            "Programs write this where a value is missing. If the voter approves no project, leave the field empty.\n",
-        Cause::Beside => "Programs write this where a value is missing. Take it out of the vote.\n",
+            "Programs write this where a value is missing. Look at the ballot. If the voter approves no project, leave the field empty.\n",
+        Cause::Beside =>
+            "Programs write this where a value is missing: to fill up a vote, or for a name that they did not find. Look at the ballot. If no id is missing there, take it out of the vote.\n",
         Cause::Places =>
-            "This is beside other ids. If the votes name places in the list of projects, counted from 0, get them again, with the ids of the projects. If 0 fills up a vote for fewer projects, take it out.\n",
+            "This is beside other ids. Look at the ballot. If the votes name places in the list of projects, counted from 0, or this is the rest of a longer id, get them again, with the ids of the projects. If 0 fills up a vote for fewer projects, take it out.\n",
         Cause::Columns => BY_COLUMN,
         Cause::Tick =>
             "This says yes or no, but not of which project. Get the ids that the voter approves.\n",
@@ -85,8 +90,6 @@ fn remedy_of(cause: Cause) -> &'static str {
             "Several projects have almost this id, or this name. Ask whoever made the file which of them is meant.\n",
         Cause::Begun =>
             "The id {} on line {} begins with this one, and others may. Ask whoever made the file which project is meant.\n",
-        Cause::Word =>
-            "This seems to be a word in place of ids. Ask whoever made the file what it means.\n",
         Cause::Unknown | Cause::Near => words_of(ReadKind::UnknownProject).1,
         cause => list_remedy(cause),
     }
@@ -95,6 +98,8 @@ fn remedy_of(cause: Cause) -> &'static str {
 /// What to do about ids that are no list of ids with commas between them.
 fn list_remedy(cause: Cause) -> &'static str {
     match cause {
+        Cause::Word =>
+            "This seems to be a word in place of ids. Ask whoever made the file what it means.\n",
         Cause::OtherElection =>
             "No vote of the file names a project. PROJECTS and VOTES may be of two elections, or the ids of one of them were changed. Get the whole file again.\n",
         Cause::Coded =>
@@ -103,8 +108,6 @@ fn list_remedy(cause: Cause) -> &'static str {
             "This may be a range of ids, several ids, one in place of another, or an id with points, which this program can't count. Look at the voter's ballot, and write all ids that are meant, with `,` between them.\n",
         Cause::Joined =>
             "A word stands between the ids. It may say `and`, `or`, `to` or `not`. Look at the voter's ballot, or ask whoever made the file.\n",
-        Cause::Keycaps =>
-            "These are signs of a phone's keys. Write only the ids, with `,` between them.\n",
         Cause::Php =>
             "This looks like a list as PHP writes it. Get the votes again, with the ids of the projects.\n",
         Cause::CutOff =>
@@ -123,7 +126,8 @@ fn list_remedy(cause: Cause) -> &'static str {
         Cause::OnLines => "The ids are on lines of their own: write `,` between them.\n",
         Cause::TwoLines =>
             "A line end stands in the vote. It may part two ballots, or an old vote and a new one, or break an id, or begin a note. Look at the voter's ballot, and write all ids that are meant, with `,` between them. If a note says that the vote is not valid, delete the row.\n",
-        Cause::Blanks => "The vote has spaces between the ids: write `,` instead.\n",
+        Cause::Blanks =>
+            "The vote has spaces between the ids. Look at a ballot: if these are several ids, write `,` between them; if the space is within one id, take it out.\n",
         Cause::Bars => "The vote has `|` between the ids: write `,` instead.\n",
         Cause::Marks => "The vote has another character between the ids: write `,` instead.\n",
         Cause::Together =>
@@ -133,9 +137,13 @@ fn list_remedy(cause: Cause) -> &'static str {
     }
 }
 
-/// What to do about brackets around ids.
+/// What to do about decimals, ids that are shifted, and brackets around ids.
 fn bracket_remedy(cause: Cause) -> &'static str {
     match cause {
+        Cause::CommaZeros =>
+            "`,00` may be the decimals of a number: `5,00` for 5. If the votes name one project each, write its id without them. If not, look at the voter's ballot.\n",
+        Cause::Shifted =>
+            "The votes may have other ids than PROJECTS: rows or places of a list (then each vote is wrong), a series that a spreadsheet continued, sums of ids, as a pivot table makes them, or ids that were joined where a text between them was replaced. Compare some votes with the ballots, also those of known ids. If they differ, get the votes again. If they agree, and the project was withdrawn, take its id out of the votes.\n",
         Cause::Brackets =>
             "Brackets are around the ids, as programs write lists. Write only the ids, with `,` between them.\n",
         Cause::SomeInBrackets =>
@@ -153,7 +161,7 @@ fn alike_remedy(difference: Difference, is_project: bool) -> &'static str {
         (Zeros, true) =>
             "A spreadsheet may have taken zeros away in PROJECTS. If so, write the ids there as the votes have them, or get the projects again, as text.\n",
         (_, true) =>
-            "Some programs write `5.0` for 5. Write the ids in PROJECTS as the votes have them.\n",
+            "Some programs write `5.0` for 5, or `'5` for a text. Write the ids in PROJECTS as the votes have them.\n",
         (_, false) => "",
     }
 }
@@ -163,6 +171,7 @@ fn difference(difference: Difference) -> &'static str {
     match difference {
         Difference::PointZero => "differs only by `.0` at its end",
         Difference::Spaces => "differs only by spaces",
+        Difference::Marks => "differs only by a mark beside it",
         Difference::Case => "differs only by capital and small letters",
         Difference::Letters => "differs only by letters that look like digits, such as O and 0",
         Difference::Front =>
@@ -236,8 +245,10 @@ impl<R: Files> Case<'_, R> {
                     | Cause::Word
                     | Cause::OtherElection
                     | Cause::Nothing
+                    | Cause::Shifted
                     | Cause::Alike(Difference::Front, _)
-            );
+            )
+            || (found.cause == Cause::Signs && self.faulty.has_titles());
         let may_be = is_open || found.cause == Cause::Name;
         if may_be && self.faulty.is_listed(self.text, self.known.witness) {
             return out.put(LISTED);
@@ -291,11 +302,41 @@ impl<R: Files> Case<'_, R> {
             Some(DROP_UNKNOWN) if self.known.witness.unknown.are_series() => out.put(
                 "The numbers of unknown ids follow each other from row to row. A spreadsheet may have continued a series: then get the votes again.\n",
             ),
-            Some(DROP_UNKNOWN) if self.known.witness.rows.would_empty() => {}
+            Some(DROP_UNKNOWN) if self.loses_by_dropping(&place) => {}
+            Some(DROP_UNKNOWN) if self.put_unnamed(out, &place) => {}
             Some("") if !self.mends_all() => {}
             Some(options) => put_clean(out, self.text, options),
             None => {}
         }
+    }
+
+    /// Whether ids that votes name may be lost where unknown ones are taken out of them: parts of longer ids,
+    /// names that were not found, or ids that are shifted.
+    fn loses_by_dropping(&self, place: &UnknownPiece) -> bool {
+        let (rows, projects) = (&self.known.witness.rows, &self.known.again.projects);
+        (place.id == "0" && projects.end_in_zero())
+            || (place.cause == Cause::Beside && rows.differ)
+            || rows.would_empty()
+            || self.known.has(Cause::Shifted)
+    }
+
+    /// Puts which project no vote names, so that an unknown id may be meant for it, if there is one; answers
+    /// whether there is.
+    fn put_unnamed(&self, out: &mut WordsWriter, place: &UnknownPiece) -> bool {
+        let (rows, projects) = (&self.known.witness.rows, &self.known.again.projects);
+        let count = u32::try_from(self.known.witness.ids.projects.len()).unwrap_or(0);
+        let unnamed = (0..count).find(|place| !rows.is_named(*place));
+        match unnamed.and_then(|place| projects.row(place)) {
+            Some(row) if place.cause == Cause::Unknown => out.fill(
+                "No vote names the project {} on line {}, which may be meant: look at the ballot first.\n",
+                &[
+                    Quoted(row.id.as_str()),
+                    Number(line_of(self.text, row.mark)),
+                ],
+            ),
+            _ => return false,
+        }
+        true
     }
 
     /// Puts which project has an id that is alike, how it differs, and what to do.
@@ -340,13 +381,7 @@ impl<R: Files> Case<'_, R> {
             let from = id.trim_start_matches(|c: char| c != letter);
             let behind = from.split_once(letter).unwrap_or(("", "")).1;
             let odd = from.strip_suffix(behind).unwrap_or(from);
-            let is_dash = letter == '-' || (0x2010..=0x2015).contains(&u32::from(letter));
-            let form = if is_dash || letter.is_alphanumeric() {
-                "This contains {}, which no id in PROJECTS contains. It may be another kind of dash or letter. Compare the id with those.\n"
-            } else {
-                "This contains {}, which no id in PROJECTS contains. Ask whoever made the file what it means.\n"
-            };
-            out.fill(form, &[Quoted(odd)])
+            out.fill(ODD_LETTER, &[Quoted(odd)])
         }
     }
 

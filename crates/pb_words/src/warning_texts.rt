@@ -1,26 +1,14 @@
 //! What is said of each kind of warning, in the order in which `Oddity` declares them: a text for each form
 //! of it. A text has three lines: what is odd, with what is known of the row in place of names in braces; the
-//! same where the row can't be read again, unless it is equal; and what to do.
+//! same where the row can't be read again, unless it is equal; and what to do. They are in two tables, since a proof
+//! that reads one takes steps for each letter of it.
+
+use pb_read::Oddity;
 
 /// What to do about three digits behind a mark where other amounts have decimals.
 pub(crate) const BESIDE_DECIMALS: &str =
     "Other amounts have decimals. If the point or comma separates thousands here, \
     delete it where three digits follow it, and nowhere else. Otherwise write two decimals.\n";
-
-/// What to do about an empty ballot where an id is read as nothing, and no ballot names it alone.
-pub(crate) const READ_AS_NOTHING: &str =
-    "A project has an id that programs read as nothing, such as `NA`, and no ballot names it alone. Get the votes \
-    again, with their ids as text. Don't delete the row before that.\n";
-
-/// What to do about an empty ballot where most are empty, and no vote is that of the row above.
-pub(crate) const AS_ABOVE: &str =
-    "Most ballots are empty. If equal votes were written once, an empty field means the vote above: get the table again. \
-    Don't delete the row before that.\n";
-
-/// What to do about fields behind the vote where the rows are numbered before it.
-pub(crate) const ROW_NUMBERS: &str =
-    "Each row has a field too many, and the first fields are 1, 2, 3 and so on. If these number the rows, delete them, \
-    with the `;` behind them. If not:\n";
 
 /// What is said of a row without a vote in which another field seems to be it.
 const STRAY_VOTE: &str = "the vote is empty, but {value} stands in column {column}
@@ -39,13 +27,18 @@ This ballot is counted. Check this key and the costs. If your rules do not allow
 
 const TOO_LONG: &str = "the vote {value} names {projects}, and `max_length` allows {limit}
 the vote names {projects}, and `max_length` allows {limit}
-This ballot is counted. If your rules do not allow it, delete the row.";
+This ballot is counted. Look at it, and at that of the row below: they may be two voters' ballots in one field. If your \
+    rules do not allow the ballot, delete the row.";
 
 const TOO_SHORT: &str = "the vote {value} names {projects}, and `min_length` asks for {limit}
 the vote names {projects}, and `min_length` asks for {limit}
 This ballot is counted. If your rules do not allow it, delete the row.";
 
-pub(crate) const TEXTS: [&[&str]; 27] = [
+/// How many kinds come first in `Oddity`.
+const FIRST_KINDS: usize = 14;
+
+/// What is said of these.
+const FIRST: [&[&str]; 14] = [
     &[
         "{value} is wrong: the number of vote rows in the file is {number}
 META's number of votes is wrong: the number of vote rows in the file is {number}
@@ -59,6 +52,10 @@ Write the number in digits.",
         "only this last vote ends behind a comma, so the file may be cut off
 only the last vote ends behind a comma, so the file may be cut off
 If it is, get the whole file again. If not, delete the comma.",
+        "the vote {value} has nothing before one of its ids but a comma. This concerns {rows}
+a vote has nothing before one of its ids but a comma. This concerns {rows}
+An id may be lost there, as where a name was not found. Look at the voter's ballot. If one is lost, write it. If not, \
+    delete the comma.",
     ],
     &[
         "{value} is wrong: the number of project rows in the file is {number}
@@ -74,20 +71,25 @@ Write the number in digits.",
     &[
         "only {value} is counted. The row has {fields} fields, but the number of column names is {number}
 the row has too many fields: the number of column names is {number}
-If `;` is between the ids of the vote, write `,` instead: only the ids before the first `;` are counted.",
+Look at some ballots first. If a field before the vote is too many, such as a number of the row, delete it, with its \
+    `;`. If `;` is between the ids of the vote, write `,` instead: only the ids before the first `;` are counted.",
         "the row has a third field, {value}, which is ignored
 a row of META has a third field, which is ignored
 If a `;` has cut the amount, write it in one field. If the amount there is the right one, write it into the second field, and delete the third.",
         "only {value} is counted. The row has {fields} fields, but the number of column names is {number}
 the row has too many fields: the number of column names is {number}
-If the last field says that the vote is not valid, take the row out. If `;` is between the ids of the vote, write `,` instead.",
+Look at some ballots first. If a field before the vote is too many, such as a number of the row, delete it, with its \
+    `;`. If the last field says that the vote \
+    is not valid, take the row out. If `;` is between the ids of the vote, write `,` instead. \
+    If names of projects stand there, write the ids of all of them into the vote, with `,` between them.",
     ],
     &[TOO_LONG, TOO_COSTLY],
     &[TOO_SHORT, STRAY_VOTE, TOO_CHEAP],
     &[
         "the ballot is empty
-It is counted, and by equal shares its voter gets a share of the budget. If your rules do not allow it, and no \
-    other warning is about the row, delete the row.",
+It is counted, and by equal shares its voter gets a share of the budget. Look at the ballot. If an empty field means \
+    the vote above, or programs read an id such as `NA` as nothing, get the votes again. If the ballot is empty, your rules \
+    do not allow it, and no other warning is about the row, delete the row.",
         STRAY_VOTE,
     ],
     &[
@@ -117,7 +119,7 @@ If the point or comma separates thousands, delete it in all amounts, or run `pb_
     &[
         "this value, {value}, is used, and the one on line {line} is ignored
 a key is repeated; only the last row of a key counts
-The last row of a key counts. Delete the wrong row.",
+The last row of a key counts. Delete the wrong row. If both are parts of one budget, write their sum.",
         "its id differs from that on line {line} only by zeros, points, spaces or capital letters; cost and name are the same
 two projects have ids that differ only by zeros, points, spaces or capital letters, with the same cost and name
 If they are one project, delete one row, and write the id of the other in all votes. If not, give them different \
@@ -125,6 +127,9 @@ If they are one project, delete one row, and write the id of the other in all vo
         "the key is ignored. It may be `max_length` or `min_length`, misspelled
 a key of META is ignored. It may be `max_length` or `min_length`, misspelled
 If so, correct the key. If not, give it another name.",
+        "only votes for several projects name it. A spreadsheet turns its id, where it stands alone, into {short}, another project's
+only votes for several projects name a project. A spreadsheet turns its id, where it stands alone, into another project's
+Look at ballots for that project alone: this one may be meant. If so, get the votes again, with their ids as text.",
     ],
     &[
         "its cost, {value}, is the sum of all costs above
@@ -132,13 +137,14 @@ the cost in the last row of PROJECTS is the sum of all costs above
 It is counted as a project. If it is a total, delete the row.",
         "this last row is the only one with an empty vote
 the last row is the only one with an empty vote
-It is counted as a voter. If it is a total or a note, delete the row.",
+It is counted as a voter. If it says that rows are left out or not valid, or what signs or amounts mean, ask first. If it is a total or a note, delete the row.",
         "its cost, {value}, is the sum of all other costs
 the cost in the first row of PROJECTS is the sum of all other costs
 It is counted as a project. If it is a total, delete the row.",
         "the id of this last row looks like a total or a note, but its vote names a project
 the id of the last row looks like a total or a note, but its vote names a project
-It is counted as a voter. If it is a total or a note, delete the row.",
+It is counted as a voter. If it says that rows are left out or not valid, or what signs or amounts mean, ask first. If it \
+    is a total or a note, delete the row.",
         "its id looks like a total, and no vote names it
 the id in the last row of PROJECTS looks like a total, and no vote names it
 It is counted as a project. If it is a total, delete the row. If not, give it another id.",
@@ -164,6 +170,10 @@ The ids in the votes may have been changed. Get the votes again, and don't corre
 the column `selected` is wrong: by this count it is {number}
 Check whether the published count had other options, and whether ballots or costs were changed since.",
     ],
+];
+
+/// What is said of the other kinds.
+const OTHERS: [&[&str]; 13] = [
     &[
         "{value} is less than every cost, so no project can win
 the budget is less than every cost, so no project can win
@@ -175,9 +185,10 @@ Check whether the budget lacks digits, or is in another unit than the costs (tho
     &[
         "the last {number} rows, from here on, have no vote; every row above has one
 the last {number} rows have no vote; every row above has one
-They are counted as voters. If they are totals or notes, delete these rows.",
+They are counted as voters. If they say that rows are left out or not valid, or what signs or amounts mean, ask first. \
+    If they are totals or notes, delete these rows.",
         "the vote is empty, and the id looks like a note. This concerns {rows}
-It is counted as a voter. If it is a heading, a total or a note, delete the row.",
+It is counted as a voter. If it says that rows are left out or not valid, or what signs or amounts mean, ask first. If it is a heading, a total or a note, delete the row.",
         "the id begins with a sign by which programs leave rows out. This concerns {rows}
 It is counted as a voter. If it should be left out, delete the row. If not, write the id without the sign.",
         "the ids of the last {number} rows are those of all projects
@@ -193,11 +204,14 @@ Write `key;value` on a line of its own above it.",
     &[
         "{value}, in column {column}, names a project too, but is not counted. This concerns {rows}
 a later column names a project too, but is not counted. This concerns {rows}
-If the voters chose these projects too, write all ids of a voter into the column `vote`, with `,` between them. If \
-    these are corrected votes, write them in place of the old ones. If neither, give the column the name `comment`.",
+Look at some ballots first. If these are numbers of another list, find out which projects they mean. If the voters \
+    chose these projects too, write all ids of a voter into the column `vote`, with `,` between them. If these are corrected \
+    votes, or `vote` says how many projects the voter chose, write them in its place. If `vote` says yes \
+    or no of this project, write the id there where it says yes, and nothing where not. If none of this, give the column \
+    the name `comment`.",
         "the vote is empty, but {value} stands in column {column}. This concerns {rows}
 the vote is empty, but another field of the row names projects. This concerns {rows}
-If the voter chose these projects, write their ids into the column `vote`.",
+If the voter chose these projects, write their ids into the column `vote`. If not, and it is not the column `voter_id`, give it the name `comment`.",
     ],
     &[
         "the vote names {twice} more than once, which counts once
@@ -282,6 +296,9 @@ If it is the same voter, keep the row that your rules count. If not, give the vo
         "this id has a line end in it, so it may be the ids of several voters, and they are counted as one
 a voter's id has a line end in it, so it may be the ids of several voters, and they are counted as one
 If so, look at the ballots, and write a row for each voter. If not, delete the line end.",
+        "this id looks like several ids, from one to another, and the row is counted as one voter. This concerns {rows}
+the id of a row looks like several ids, from one to another, and the row is counted as one voter. This concerns {rows}
+If the row stands for several ballots, write a row for each of them. If not, give the voter another id.",
     ],
     &[
         "all projects together cost {sum}, which is less than a hundredth of it
@@ -290,6 +307,9 @@ Check whether the costs are in another unit than the budget (thousands, for exam
         "the cost {value} is the most that some columns of databases can hold, and {projects} have a cost like this
 several projects have a cost that is the most that some columns of databases can hold
 Check whether larger costs were cut. If so, get the costs again.",
+        "all projects together cost {sum}, which is less than a tenth of it
+all projects together cost less than a tenth of the budget
+Check whether the budget is in cents, and the costs are not. If so, write it in the unit of the costs.",
     ],
     &[
         "its numbers are ignored: every row is counted as one ballot
@@ -303,3 +323,22 @@ each row names another project, and the ids of voters are lists: rows may be the
 If so, write a row for each voter, with all projects of this voter. If not, write the ids without commas.",
     ],
 ];
+
+/// What is said of a kind: a text for each form of it.
+pub(crate) fn forms_of(oddity: Oddity) -> &'static [&'static str] {
+    let place = oddity as usize;
+    match place.checked_sub(FIRST_KINDS) {
+        Some(behind) => other_forms(behind),
+        None => first_forms(place),
+    }
+}
+
+/// What is said of the kind at this place among the first.
+fn first_forms(place: usize) -> &'static [&'static str] {
+    FIRST.get(place).copied().unwrap_or(&[])
+}
+
+/// What is said of the kind at this place among the others.
+fn other_forms(place: usize) -> &'static [&'static str] {
+    OTHERS.get(place).copied().unwrap_or(&[])
+}

@@ -2,13 +2,12 @@
 
 use crate::mark_words::CLOSE_IT;
 use crate::prelude::*;
-use crate::warning_texts::{AS_ABOVE, BESIDE_DECIMALS, READ_AS_NOTHING, ROW_NUMBERS, TEXTS};
+use crate::warning_texts::{BESIDE_DECIMALS, forms_of};
 use pb_core::money::Money;
 use pb_read::Oddity;
 use pb_rounds::options::Completion;
 use pb_rounds::rule::Rule;
 use pb_witness::changed::is_one_of;
-use pb_witness::fields::{column_of, number_in};
 use pb_witness::firsts::twice_in;
 use pb_witness::oddities::{MOST, Odd, Oddities};
 use pb_witness::quote::span_of;
@@ -22,8 +21,7 @@ const NO_OTHER_RULE: &str = "unknown|-|mes|method of equal shares";
 /// What is said of a row that is odd: what, with what is known of the row; the same where the row is not
 /// known; and what to do.
 fn said_of(odd: &Odd) -> (&'static str, &'static str, &'static str) {
-    let forms = TEXTS.get(odd.oddity as usize).copied().unwrap_or(&[]);
-    let said = forms.get(odd.form).copied().unwrap_or("");
+    let said = forms_of(odd.oddity).get(odd.form).copied().unwrap_or("");
     let (what, remedy) = said.rsplit_once('\n').unwrap_or((said, ""));
     let (what, alone) = what.split_once('\n').unwrap_or((what, what));
     (what, alone, remedy)
@@ -157,9 +155,6 @@ fn put_odd<R: Files>(out: &mut WordsWriter, text: &Text<R>, odd: &Odd, oddities:
 /// Puts what to do about an odd record.
 fn put_odd_remedy<R: Files>(out: &mut WordsWriter, text: &Text<R>, odd: &Odd, oddities: &Oddities) {
     let is_length = is_of_length(odd);
-    if oddities.are_numbered && matches!(odd.oddity, Oddity::SurplusFields | Oddity::IdBehindVote) {
-        out.put(ROW_NUMBERS);
-    }
     match (cause_of(oddities, odd), odd.oddity) {
         (Some(cause), _) if is_length => out.fill(
             "Look at the warning {} first: it may be the reason. Don't delete the row before that.\n",
@@ -170,76 +165,12 @@ fn put_odd_remedy<R: Files>(out: &mut WordsWriter, text: &Text<R>, odd: &Odd, od
             &[Own(cause.name())],
         ),
         _ if is_length && put_all_break(out, odd, oddities) => {}
-        (None, Oddity::TooLongBallot) if odd.form == 0 && has_empty_below(text, odd) => {
-            out.put(TWO_BALLOTS)
-        }
-        (None, Oddity::IdBehindVote) if odd.form == 0 && is_of_row(text, odd) => out.put(OF_ROW),
         (None, Oddity::ThousandsMark) if oddities.has_decimals => out.put(BESIDE_DECIMALS),
-        (None, Oddity::EmptyBallot) if odd.form == 0 && oddities.has_nothing => {
-            out.put(READ_AS_NOTHING)
-        }
-        (None, Oddity::EmptyBallot) if odd.form == 0 && oddities.are_grouped => out.put(AS_ABOVE),
         _ => {
-            if odd.oddity == Oddity::IdBehindVote && says_how_many(text, odd) {
-                out.put(HOW_MANY);
-            }
             put_text(out, text, odd, (said_of(odd).2, None));
             out.put("\n");
         }
     }
-}
-
-/// What to do about a column with the project of each row; and where the vote is how many ids a column has.
-const OF_ROW: &str =
-    "If `vote` says only whether the voter approves this project, write the project's id into `vote`, or leave it empty. If not, give the column the name `comment`.\n";
-
-const HOW_MANY: &str =
-    "If `vote` says how many projects the voter chose, write the ids of the column in its place. If not:\n";
-
-/// Whether the column that is odd has the name of that of projects.
-fn is_of_row<R: Files>(text: &Text<R>, odd: &Odd) -> bool {
-    let names = odd.names.and_then(|mark| text.row_at(mark));
-    names.is_some_and(|row| text_at(&row, odd.value_place).eq_ignore_ascii_case("project_id"))
-}
-
-/// So many rows are looked at for a vote that is a number of ids.
-const MOST_COUNTED: u64 = 100;
-
-/// Whether the vote of an odd row and of those behind it is the number of ids in the column that is odd, and
-/// not 1 in all of them.
-fn says_how_many<R: Files>(text: &Text<R>, odd: &Odd) -> bool {
-    let names = odd.names.and_then(|mark| text.row_at(mark));
-    let vote = names
-        .and_then(|row| column_of(&row, "vote"))
-        .unwrap_or(usize::MAX);
-    let Some(mut records) = text.record_at(odd.mark) else {
-        return false;
-    };
-    let (mut are_numbers, mut is_more) = (true, false);
-    for _ in 0..MOST_COUNTED {
-        let ids = text_at(&records.last, odd.value_place).split(',');
-        let count = ids.filter(|id| !id.is_empty()).count();
-        let number = number_in(text_at(&records.last, vote).as_bytes()).unwrap_or(0);
-        are_numbers &= number as usize == count;
-        is_more |= count > 1;
-        if !are_numbers || !records.advance() {
-            break;
-        }
-    }
-    drop(records);
-    are_numbers && is_more
-}
-
-/// What to do about a ballot that is too long, above a row without a vote.
-const TWO_BALLOTS: &str =
-    "The row below it has no vote, so this field may have the ballots of both voters. Look at both ballots before you delete a row.\n";
-
-/// Whether the row behind an odd one has an id, and no vote.
-fn has_empty_below<R: Files>(text: &Text<R>, odd: &Odd) -> bool {
-    let below = text.row_behind(odd.mark);
-    below.is_some_and(|row| {
-        !text_at(&row, odd.id_place).is_empty() && text_at(&row, odd.value_place).is_empty()
-    })
 }
 
 /// Whether a ballot is odd for how many projects it names.
