@@ -41,6 +41,8 @@ def try_doors(program, work):
                 ('no token', {}, ''), ('a wrong token', {}, 'f' * 64), ('another origin', {'Origin': 'http://evil.example'}, token),
                 ('no origin', {'Origin': None}, token), ('the origin null from elsewhere', {'Origin': 'null', 'Sec-Fetch-Site': 'cross-site'}, token),
                 ('the origin null', {'Origin': 'null'}, token), ('the origin without a port', {'Origin': 'http://127.0.0.1'}, token),
+                ('a body of no kind', {'Content-Type': None}, token), ('a body of JSON', {'Content-Type': 'application/json'}, token),
+                ('a body of parts without a boundary', {'Content-Type': 'multipart/form-data; boundary='}, token),
                 ('another host', {'Host': 'evil.example'}, token), ('no host', {'Host': ''}, token)]:
             ann.token = given
             page = ann.post('/record', fields, headers)

@@ -72,9 +72,10 @@ def check():
     g.clerk = g.session and g.session.clerk['number']
     if request.method == 'POST':
         # A page without a referrer sends its forms with the origin null; then Sec-Fetch-Site says whether they are ours.
-        origin, site = request.headers.get('Origin', 'null'), request.headers.get('Sec-Fetch-Site')
+        origin, site, kind = request.headers.get('Origin', 'null'), request.headers.get('Sec-Fetch-Site'), request.mimetype
         is_ours = origin == f'{office.scheme}://{request.host}' or (origin, site) == ('null', 'same-origin')
-        token, held = request.form.get('token', ''), cookie('session' if g.session else 'sign-in')
+        # No body of another kind is read: it could be broken in ways that fail within a library.
+        token, held = 'urlencoded' in kind and request.form.get('token') or '', cookie('session' if g.session else 'sign-in')
         if not (is_ours and held and hmac.compare_digest(token.encode(), token_of(held).encode())):
             office.log.write('refused', path=request.path, address=request.remote_addr, clerk=g.clerk)
             return say('Not accepted', STALE, 403)
