@@ -58,6 +58,8 @@ STARTS = [
     (ROW, ROW.replace('>', ' inert>'), '<tr> with the attribute inert'),
     (ROW, FALSE_ROW + ROW, 'a row without marked figures under “The winners”: “Palace30 zł”'),
     ('</head>', '<style>[data-project] { display: none }</style></head>', 'a second <style>'),
+    ('</style>', "h1::after { content: ' Park won' }\n</style>", 'a <style> that is not the one of this version’s pages'),
+    ('</title>', ': Park won</title>', 'a <title> that is not the heading'), ('<nav', "<p class='lead'>Park won.</p>\n<nav", '<p> without marked figures'),
     ("<li><a href='#winners'>The winners</a></li>", "<li><a href='#winners'>Palace has won</a></li>",
      '<a> that leads elsewhere than its text says under “Participatory budgeting”: “Palace has won”'),
     (THEN_PARK, THEN_PARK.replace('p-1', 'p-3'), '<a> that leads elsewhere than its text says under “How it was counted”: “b Park”'),
