@@ -47,8 +47,8 @@ COMPUTING_LAWS = {
 }
 # Words each of whose values a law pins in the words of a rule, for every input, or for each one that a definition gives them
 # (`last_given`: a voter whose ballot a legal journal leaves; `money_text`: an amount of 64 bits; `totals_of`: a count of an
-# election; `needed`: a project with a supporter): whoever names them, the law says what they are, and nobody has to
-# believe what computes them.
+# election; `count_of`, `outcome_of`: an election, and options in range; `needed`: a project with a supporter): whoever names
+# them, the law says what they are, and nobody has to believe what computes them.
 PINNED = {
     ("pb_core", "Money", "money_of"): ("pb_core", "money_is_what_its_text_names"),
     ("pb_core", "MoneyText", "money_text"): ("pb_core", "money_reads_back"),
@@ -57,12 +57,16 @@ PINNED = {
     ("pb_read", "Voting", "names_only"): ("pb_read", "a_vote_names_places"),
     ("pb_read", "Voting", "ballot_of"): ("pb_read", "a_vote_names_places"),
     ("pb_price", "Price", "price_at"): ("pb_price", "price_is_least_payment"),
+    ("pb_rounds", "Count", "count_of"): ("pb_rounds", "count_is_computed"),
     ("pb_rounds", "Count", "opening_share"): ("pb_rounds", "opening_share_is_largest"),
+    ("pb_rounds", "Run", "outcome_of"): ("pb_rounds", "run_is_its_rule"),
     ("pb_rounds", "MostVotes", "most_votes_first"): ("pb_rounds", "most_votes_first_is_its_rule"),
     ("pb_rounds", "MostVotes", "comes_first"): ("pb_rounds", "tests_of_most_votes_are_their_words"),
     ("pb_rounds", "MostVotes", "fits"): ("pb_rounds", "tests_of_most_votes_are_their_words"),
     ("pb_rounds", "MostVotes", "is_taken"): ("pb_rounds", "tests_of_most_votes_are_their_words"),
     ("pb_export", "Export", "is_of_file"): ("pb_export", "files_are_so"),
+    ("pb_page", "Amount", "grouped"): ("pb_page", "digits_stand_in_threes"),
+    ("pb_page", "Amount", "shown"): ("pb_page", "amounts_stand_by_digits"),
     ("pb_reasons", "Counted", "is_selected"): ("pb_reasons", "winners_share_the_budget"),
     ("pb_reasons", "Totals", "totals_of"): ("pb_reasons", "winners_share_the_budget"),
     ("pb_reasons", "Fairness", "losers"): ("pb_reasons", "rows_of_fairness_are_their_words"),

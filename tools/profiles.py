@@ -1,15 +1,15 @@
 """The files of conformance/, each with its reports by profile.
 
 For each NAME.pb, NAME.txt has lines of remarks, which begin with `#`, and then for each profile a line
-    == ES/MEASURE/COMPLETION/hundredths[/step=AMOUNT][/raises=MOST]/ties=file[: status STATUS]
-or `== MV/ties=file` for most votes first, and the lines of standard output up to the next such line.
+    == ES/MEASURE/COMPLETION/hundredths[/step=AMOUNT][/raises=MOST]/ties=TIES[: status STATUS]
+or `== MV/ties=TIES` for most votes first, and the lines of standard output up to the next such line.
 """
 import collections, re
 from arguments import TOP
 
 FOLDER = TOP / 'conformance'
-HEAD = re.compile(r'== (MV/ties=file|ES/(votes|cost)/(none|add1|utilitarian|add1u)/hundredths'
-                  r'(?:/step=([0-9]+)[.]([0-9]{2}))?(?:/raises=([0-9]+))?/ties=file)(?:: status ([1-9]))?')
+HEAD = re.compile(r'== ((?:MV|ES/(votes|cost)/(none|add1|utilitarian|add1u)/hundredths'
+                  r'(?:/step=([0-9]+)[.]([0-9]{2}))?(?:/raises=([0-9]+))?)/ties=([a-z,]*(?:lot:[A-Za-z0-9-]+)?))(?:: status ([1-9]))?')
 # What stands as completion for most votes first, which has no other options.
 MOST_VOTES = 'most-votes'
 
@@ -24,19 +24,21 @@ class Malformed(Exception):
 
 def options_of(head):
     """The options to which a profile's line gives a value."""
-    _, measure, completion, units, decimals, raises, _ = head.groups()
+    _, measure, completion, units, decimals, raises, ties, _ = head.groups()
+    named = {'ties': ties} if ties != 'file' else {}
     if measure is None:
-        return {'completion': MOST_VOTES}
+        return {'completion': MOST_VOTES} | named
     options = {'measure': measure, 'completion': completion}
     options |= {'step': int(units + decimals)} if units else {}
-    return options | ({'raises': int(raises)} if raises else {})
+    return options | ({'raises': int(raises)} if raises else {}) | named
 
 
 def words_of(options):
     """The words of a command that say these options."""
-    if options['completion'] == MOST_VOTES:
-        return ['--rule', MOST_VOTES]
-    return [word for name, value in options.items() for word in (f'--{name}', str(value))]
+    said = dict(options)
+    if said['completion'] == MOST_VOTES:
+        said = {'rule': said.pop('completion')} | said
+    return [word for name, value in said.items() for word in (f'--{name}', str(value))]
 
 
 def cases_of(path):
@@ -49,7 +51,7 @@ def cases_of(path):
         head = HEAD.fullmatch(first)
         if not head or not text.endswith('\n') or '\n\n' in text:
             raise Malformed(f'{path.name} has no profile with a report at: {first}')
-        yield Case(path.with_suffix('.pb'), head[1], options_of(head), text, int(head[7] or 0))
+        yield Case(path.with_suffix('.pb'), head[1], options_of(head), text, int(head[8] or 0))
 
 
 def all_cases():

@@ -5,7 +5,7 @@ It was written from the docs to check the reports of conformance/, and shares no
 tools/recount.py. It saves no work: it makes each raise's run, and searches each price by its definition. It
 judges no limits of records, projects and voters.
 """
-import collections, csv, fractions, io, sys
+import collections, csv, fractions, hashlib, io, re, sys
 
 sys.dont_write_bytecode = True
 import arguments
@@ -15,8 +15,31 @@ from third_file import Election, Refused
 MEASURES, COMPLETIONS = ('votes', 'cost'), ('none', 'add1', 'utilitarian', 'add1u')
 MOST_VOTES = 'most-votes'
 
-# What is counted by: a measure, a completion, a step in hundredths, and how many raises there may be.
-Rule = collections.namedtuple('Rule', 'measure completion step most')
+# What is counted by: a measure, a completion, a step in hundredths, how many raises there may be, and what breaks ties:
+# names of keys and perhaps a lot.
+Rule = collections.namedtuple('Rule', 'measure completion step most ties')
+SEED = '[A-Za-z0-9-]{1,64}'
+
+
+def ties(text):
+    """A rule for ties, as it is given."""
+    if not re.fullmatch(f'file|(votes|cost|votes,cost|cost,votes)(,lot:{SEED})?|lot:{SEED}', text):
+        raise ValueError(text)
+    return text
+
+
+def in_order(election, rule):
+    """The projects as ties are broken: `min` and `sorted` keep the order of equals."""
+    keys, _, seed = rule.ties.partition('lot:')
+    order = list(election.costs)
+    if seed:
+        order.sort(key=lambda it: hashlib.sha256(f'{seed}\n{it}'.encode()).digest())
+    for key in reversed(keys.split(',')):
+        if key == 'cost':
+            order.sort(key=lambda it: election.costs[it])
+        elif key == 'votes':
+            order.sort(key=lambda it: -len(election.supporters[it]))
+    return order
 
 
 def least_price(cost, rests):
@@ -30,17 +53,17 @@ def least_price(cost, rests):
     return low
 
 
-def run(election, measure, share):
+def run(election, rule, share):
     """What the rounds elect at a share, in their order: each project's price, and what it collected."""
     elected, rests = {}, dict.fromkeys(election.ballots, share)
 
     def order(priced):
         project, price = priced
-        return fractions.Fraction(price, election.costs[project]) if measure == 'cost' else price
+        return fractions.Fraction(price, election.costs[project]) if rule.measure == 'cost' else price
 
     while True:
-        prices = {project: least_price(cost, [rests[voter] for voter in election.supporters[project]])
-                  for project, cost in election.costs.items() if project not in elected}
+        prices = {project: least_price(election.costs[project], [rests[voter] for voter in election.supporters[project]])
+                  for project in in_order(election, rule) if project not in elected}
         prices = {project: price for project, price in prices.items() if price is not None}
         if not prices:
             return elected
@@ -56,7 +79,7 @@ def decided(election, rule):
     opening, answer = election.budget // len(election.ballots) if election.ballots else 0, None
     for raises in range(rule.most + 1):
         share = opening + raises * rule.step
-        elected = run(election, rule.measure, share)
+        elected = run(election, rule, share)
         left = election.budget - election.cost_of(elected)
         if left < 0:
             return answer
@@ -66,11 +89,12 @@ def decided(election, rule):
     raise Refused('fault;count;4;RaisesSpent', 1)
 
 
-def filled_up(election, elected):
+def filled_up(election, rule, elected):
     """What most votes first adds to the elected, in its order."""
     added, left = [], election.budget - election.cost_of(elected)
+    order = in_order(election, rule)
     while fitting := election.fitting([*elected, *added], left):
-        added.append(min(fitting, key=lambda it: (-len(election.supporters[it]), election.costs[it])))
+        added.append(min(fitting, key=lambda it: (-len(election.supporters[it]), election.costs[it], order.index(it))))
         left -= election.costs[added[-1]]
     return added
 
@@ -82,7 +106,7 @@ def report(election, rule):
     if not 0 <= rule.most <= 10**6:
         raise Refused('fault;count;3;RaisesRange', 2)
     raises, share, elected = (0, 0, {}) if rule.completion == MOST_VOTES else decided(election, rule)
-    added = filled_up(election, elected) if rule.completion in ('utilitarian', 'add1u', MOST_VOTES) else []
+    added = filled_up(election, rule, elected) if rule.completion in ('utilitarian', 'add1u', MOST_VOTES) else []
     yield 'budget', money(election.budget)
     yield 'voters', len(election.ballots)
     yield 'share', money(share)
@@ -108,9 +132,10 @@ def given_arguments():
     parser.add_argument('--step', type=int, default=100, metavar='HUNDREDTHS', help='what a raise adds')
     parser.add_argument('--raises', type=int, default=10**6, metavar='MOST', help='how many there may be')
     parser.add_argument('--rule', choices=('equal-shares', MOST_VOTES), help='most-votes has no shares')
+    parser.add_argument('--ties', type=ties, default='file', metavar='RULE', help='what breaks ties')
     given = parser.parse_args()
     completion = MOST_VOTES if given.rule == MOST_VOTES else given.completion
-    return given.file, Rule(given.measure, completion, given.step, given.raises)
+    return given.file, Rule(given.measure, completion, given.step, given.raises, given.ties)
 
 
 def main():

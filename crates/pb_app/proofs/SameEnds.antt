@@ -8,7 +8,7 @@ use Rattle.pb_commands.specs.Inner.Written.{HasWritten}
 use Rattle.pb_commands.proofs.Endings.{given, known_map, memory_end, passed_on}
 use Rattle.pb_app.specs.Inner.Page.{FirstDiffers}
 use Rattle.pb_faults.specs.declared.fault.AppFault.{AppFault}
-use Rattle.pb_faults.specs.declared.fault.AppFault.TheVariants.{Read, Script, ClerkCount, Audit, OtherFile, OpenDesk, Count, Export, Open, Write, Memory, Warned, Roll, Serving}
+use Rattle.pb_faults.specs.declared.fault.AppFault.TheVariants.{Read, Script, ClerkCount, Audit, OtherFile, OpenDesk, Count, TooManyRuns, Export, Open, Write, Memory, Warned, Roll, Serving}
 
 is_write : (fault : AppFault) → (fault ≢ Write) ⊎ (fault ≡ Write)
 is_write (Read x) = inl (λ same. cc)
@@ -18,6 +18,7 @@ is_write (Audit x) = inl (λ same. cc)
 is_write OtherFile = inl (λ same. cc)
 is_write OpenDesk = inl (λ same. cc)
 is_write (Count x) = inl (λ same. cc)
+is_write TooManyRuns = inl (λ same. cc)
 is_write (Export x) = inl (λ same. cc)
 is_write (Open x) = inl (λ same. cc)
 is_write Write = inr refl

@@ -9,14 +9,12 @@ use pb_core::answer::Answer;
 use pb_faults::RunText;
 use pb_script::{Admission, Notice, RowRefusal, read_roll};
 use pb_streams::{Typing, open_file};
-use pb_witness::entry_counts::EntryCounts;
 use pb_witness::rule_counts::RuleCounts;
 use pb_words::refused_words::{RefusedRow, refused_words};
 use pb_words::say_words;
 use std::cell::Cell;
 
-/// Says on standard error why a row is refused, and counts the rows that the rules refuse, and the answers to
-/// the others.
+/// Says on standard error why a row is refused, and counts the rows that the rules refuse.
 #[derive(Drop)]
 pub(crate) struct RowNotice<'a, R> {
     rt: &'a R,
@@ -28,7 +26,6 @@ pub(crate) struct RowNotice<'a, R> {
     /// Who is told of rows that are not of the form, and of answers.
     typing: &'a Typing,
     by_rule: Cell<RuleCounts>,
-    answers: Cell<EntryCounts>,
 }
 
 impl<'a, R: System> RowNotice<'a, R> {
@@ -45,18 +42,12 @@ impl<'a, R: System> RowNotice<'a, R> {
             refuses_script,
             typing: run.typing,
             by_rule: Cell::new(RuleCounts::new()),
-            answers: Cell::new(EntryCounts::new()),
         }
     }
 
     /// How many rows each rule has refused.
     pub(crate) fn by_rule(&self) -> RuleCounts {
         self.by_rule.get()
-    }
-
-    /// How many entries that it heard of have which answer.
-    pub(crate) fn answers(&self) -> EntryCounts {
-        self.answers.get()
     }
 }
 
@@ -80,9 +71,6 @@ impl<R: System> Notice for RowNotice<'_, R> {
     }
 
     fn answered(&self, answer: Answer) {
-        let mut answers = self.answers.get();
-        answers.add(answer);
-        self.answers.set(answers);
         self.typing.hear_answer(self.rt, answer);
     }
 }

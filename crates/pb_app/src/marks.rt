@@ -10,6 +10,7 @@ use pb_rounds::measure::Measure;
 use pb_rounds::options::{Completion, LARGEST_STEP, MOST_RAISES};
 use pb_rounds::rule::FillUp;
 use pb_rounds::rule_names::{completion_named, measure_named};
+use pb_rounds::tie_rule::{TieRule, ties_named};
 use std::alloc::Global;
 
 /// What a published page marks of how it was made; what it does not mark is nothing. A wrong mark makes another
@@ -35,6 +36,7 @@ enum RuleOption {
     Completion,
     Step,
     Raises,
+    Ties,
 }
 
 impl Marks {
@@ -155,6 +157,7 @@ fn rule_of(page: &str) -> SaidRule {
     rule.method = Some(Method::EqualShares);
     rule.measure = Some(Measure::Votes);
     rule = rule.completed(Some((Completion::Add1, FillUp::Nothing)));
+    rule.ties = Some(TieRule::file());
     let mut option = None;
     for word in commands.split_whitespace() {
         match option {
@@ -163,6 +166,7 @@ fn rule_of(page: &str) -> SaidRule {
             Some(RuleOption::Completion) => rule = rule.completed(completion_named(word)),
             Some(RuleOption::Step) => rule.step = step_named(word),
             Some(RuleOption::Raises) => rule.max_raises = raises_named(word),
+            Some(RuleOption::Ties) => rule.ties = ties_named(word),
             None => {}
         }
         if word == "--plain" {
@@ -181,6 +185,7 @@ fn option_named(word: &str) -> Option<RuleOption> {
         "--completion" => Some(RuleOption::Completion),
         "--step" => Some(RuleOption::Step),
         "--raises" => Some(RuleOption::Raises),
+        "--ties" => Some(RuleOption::Ties),
         _ => None,
     }
 }

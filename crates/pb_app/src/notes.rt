@@ -2,7 +2,7 @@
 
 use pb_read::ReadFault;
 use pb_rounds::rule::Rule;
-use pb_witness::entry_counts::EntryCounts;
+use pb_script::EntryCounts;
 use pb_witness::rule_counts::RuleCounts;
 use pb_witness::warnings::Warnings;
 use std::alloc::Global;

@@ -1,7 +1,7 @@
 //! Who makes a page of a count.
 
 ghost use Rattle.std.specs.Prelude.{◌≡◌, IfOk, IfSome};
-ghost use Rattle.pb_app.specs.Inner.Page.{AreAsked, IsPageBy};
+ghost use Rattle.pb_app.specs.Inner.Page.{AreAsked, IsPageOf};
 
 use crate::keeping_watch::KeepingWatch;
 use crate::tongue::Tongue;
@@ -55,7 +55,7 @@ impl<S: Tongue> PageMaker<'_, '_, '_, S> {
         watch: &KeepingWatch<'_, H, PageNotes>,
         count: &CountedElection,
     ) -> Result<Vec<u8>, NoMemory>
-        ensures { IfOk result (λ text. IsPageBy self.now.run.now count.now.rule count.now.election text.items) }
+        ensures { IfOk result (λ text. IsPageOf self.now.run.now count.now text.items) }
     {
         let notes = &watch.keeper;
         if !notes.is_whole() {
@@ -82,7 +82,7 @@ fn page_with<'a, T: Threads + Sync, G: Gate, S: Tongue>(
     speech: &'a S,
     seen: &'a SeenOfFile<'a>,
 ) -> Result<Vec<u8>, NoMemory>
-    ensures { IfOk result (λ text. IsPageBy seen.now.run.now count.now.rule count.now.election text.items) }
+    ensures { IfOk result (λ text. IsPageOf seen.now.run.now count.now text.items) }
 {
     let (rt, alloc, gate) = (counting.rt, counting.alloc, counting.gate);
     let said = speech.said(alloc, currency_of(seen))?;

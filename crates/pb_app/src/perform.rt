@@ -8,11 +8,11 @@ use crate::published::Published;
 use crate::same_page::same_page;
 use crate::serve::serve;
 use crate::system::System;
-use crate::tables::{audit, ballots, check, count, desk, tell};
+use crate::tables::{audit, ballots, check, count, desk, tell, ties};
 use crate::what_if::what_if;
 use crate::words::is_quiet;
 use pb_command_line::{Asked, CompareRun, PageRun, Task, refuses_page};
-use pb_commands::{Counting, Table};
+use pb_commands::{AppFault, Counting, Table};
 use pb_rounds::rule::Rule;
 use pb_streams::{End, Kinship, Output, ProgressLine, RunRefusal, Telling, Typing};
 use pb_witness::warnings::Warnings;
@@ -84,7 +84,7 @@ fn write_result<'a, R: System, W: Write>(
         published: prepared.published,
         typing: &typing,
     };
-    let done = do_task(&run, writer, notes);
+    let done = ended(do_task(&run, writer, notes), &notes.seen);
     drop(run);
     let done = match (done, kinship.refusal.replace(None)) {
         // Of a journal that is refused no more is known than that it could not be read.
@@ -95,6 +95,17 @@ fn write_result<'a, R: System, W: Write>(
         (done, _) => done,
     };
     drop(kinship);
+    done
+}
+
+/// How a task has ended, whose file was seen so. Where memory ran out as warnings were sought, the first one may
+/// be another: then a file that a warning refuses is not refused for it, but for memory.
+fn ended(done: Result<(), RunRefusal>, seen: &Warnings) -> Result<(), RunRefusal> {
+    let is_warned = matches!(&done, Err(RunRefusal::Fault(AppFault::Warned(_))));
+    if is_warned && seen.found().is_some_and(|found| !found.is_whole()) {
+        drop(done);
+        return Err(RunRefusal::Fault(AppFault::Memory));
+    }
     done
 }
 
@@ -118,6 +129,7 @@ fn do_task<'a, R: System, W: Write>(
                 &mut notes.seen,
             )
         }
+        Task::Ties(ballots) => ties(run, ballots, writer, &mut notes.seen),
         Task::WhatIf(asked) => return what_if(run, asked, writer, &mut notes.seen),
         Task::Page(asked) => {
             return page_or_same(run, asked, writer, &mut notes.seen);

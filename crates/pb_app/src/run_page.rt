@@ -39,7 +39,7 @@ pub(crate) fn run_page<
     maker: &PageMaker<'_, '_, '_, S>,
 ) -> Result<(), AppFault>
     ensures runs { Runs (Gives (IsPageBy maker.now.run.now counting.now.rule.now))
-        (CountRefuses counting.now.rule.now.options) (P.remaining inputs.file)
+        (CountRefuses counting.now.rule.now) (P.remaining inputs.file)
         (known J.remaining inputs.journal)
         (H.refused_for watch.new.warnings.now) W.contents writer.old writer.new result }
 

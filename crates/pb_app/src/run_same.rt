@@ -49,7 +49,7 @@ pub(crate) fn run_same<
     ensures is_other { IfOk result (λ found. IfSome found (λ at. (e : ElectionView) × (text : List ℕ)
         × IsPageBy maker.now.run.now counting.now.rule.now e text × FirstDiffers text published.now at)) }
     ensures ends { Ends (Gives (IsPageBy maker.now.run.now counting.now.rule.now))
-        (CountRefuses counting.now.rule.now.options) (P.remaining inputs.file)
+        (CountRefuses counting.now.rule.now) (P.remaining inputs.file)
         (known J.remaining inputs.journal) (H.refused_for watch.new.warnings.now) result }
 {
     let mut made = Vec::new(counting.alloc);

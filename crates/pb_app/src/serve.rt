@@ -9,16 +9,18 @@ use pb_commands::AppFault;
 use pb_commands::run_desk::admission_of;
 use pb_core::election::Election;
 use pb_core::project::Project;
-use pb_durable::file_device::{FileDevice, FileFailure};
+use pb_durable::file_device::{FileDevice, FileFailure, FileFault};
 use pb_durable::moved::keep_text;
 use pb_durable::{Belonging, Device, DurableDesk, FileChange, JournalFile, OpenedDesk};
 use pb_faults::RunText;
 use pb_read::read_pb_watched;
 use pb_rows::read_number;
 use pb_script::{Admission, ROOM, RequestRows};
-use pb_serving::run_serve::run_serve;
+use pb_serving::run_serve::{ServedRows, run_serve};
 use pb_serving::{AtHand, Paced, Session};
-use pb_streams::{Digested, RunRefusal, TornFile, TypedReader, ended, open_file, unopened};
+use pb_streams::{
+    Digested, RunRefusal, TornFile, TypedReader, behind_link, ended, open_file, unopened,
+};
 use pb_witness::witness::Witness;
 use pb_words::refused_words::like_a_place_words;
 use pb_words::say_words;
@@ -34,7 +36,8 @@ struct Serving<'a, 'r, R> {
     run: &'r CommandRun<'a, R>,
     rt: &'a R,
     alloc: Global,
-    journal: &'a str,
+    /// No link.
+    journal: &'r str,
     admission: &'r Admission,
     notice: RowNotice<'a, R>,
 }
@@ -48,20 +51,34 @@ pub(crate) fn serve<'a, R: System, W: Write>(
     notes: &mut Notes,
 ) -> Result<(), RunRefusal> {
     let (election, admission) = read_both(run, asked, &mut notes.seen.witness)?;
+    let rt = run.counting.rt;
+    let own = match behind_link(rt, asked.journal) {
+        Ok(own) => own,
+        Err(error) => {
+            drop(election);
+            drop(admission);
+            return Err(unopened(rt.alloc(), asked.journal, &FileFault::Open(error)));
+        }
+    };
     let serving = Serving {
         run,
-        rt: run.counting.rt,
+        rt,
         alloc: run.counting.alloc,
-        journal: asked.journal,
+        journal: match &own {
+            Some(own) => own.as_str(),
+            None => asked.journal,
+        },
         admission: &admission,
         notice: RowNotice::new(run),
     };
     let served = serve_journal(&serving, election, writer);
-    notes.entries = serving.notice.answers();
     notes.by_rule = serving.notice.by_rule();
     drop(serving);
+    drop(own);
     drop(admission);
-    notes.refused = served?;
+    let ServedRows { refused, counts } = served?;
+    notes.refused = refused;
+    notes.entries = counts;
     Ok(())
 }
 
@@ -97,12 +114,12 @@ fn admission_on<R: System>(
     Ok(admission_of(rt.alloc(), rules, election)?)
 }
 
-/// Serves the desk of an election on its journal, and answers how many rows were refused.
+/// Serves the desk of an election on its journal.
 fn serve_journal<R: System, W: Write>(
     serving: &Serving<'_, '_, R>,
     election: Election,
     writer: &mut W,
-) -> Result<u64, RunRefusal> {
+) -> Result<ServedRows, RunRefusal> {
     let failure = Cell::new(None);
     match FileDevice::open(serving.rt, serving.journal, &failure) {
         Ok(device) => serve_device(serving, election, device, writer),
@@ -120,7 +137,7 @@ fn serve_device<R: System, W: Write>(
     election: Election,
     mut device: FileDevice<'_, R>,
     writer: &mut W,
-) -> Result<u64, RunRefusal> {
+) -> Result<ServedRows, RunRefusal> {
     let belonging = match seen_on(serving, &mut device) {
         Ok(belonging) => belonging,
         Err(refusal) => {
@@ -216,9 +233,9 @@ fn serve_desk<R: System, W: Write>(
     torn: usize,
     failure: &Cell<Option<FileFailure>>,
     writer: &mut W,
-) -> Result<u64, RunRefusal> {
+) -> Result<ServedRows, RunRefusal> {
     let served = match serve_rows(serving, &mut desk, torn, writer) {
-        Ok(refused) => Ok(refused),
+        Ok(served) => Ok(served),
         Err(fault) => {
             let why = failure.get();
             let kept = match why {
@@ -252,7 +269,7 @@ fn serve_rows<R: System, W: Write>(
     desk: &mut DurableDesk<FileDevice<'_, R>>,
     torn: usize,
     writer: &mut W,
-) -> Result<u64, AppFault> {
+) -> Result<ServedRows, AppFault> {
     let (rt, alloc, typing) = (serving.rt, serving.alloc, serving.run.typing);
     if !typing.by_id() {
         say_like_a_place(rt, desk.desk().projects());

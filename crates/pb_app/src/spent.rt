@@ -9,6 +9,8 @@ use pb_core::money::Money;
 use pb_read::NoWatch;
 use pb_reasons::{Patience, RaiseLimit, find_raise_limit};
 use pb_rounds::options::{CountOptions, LARGEST_STEP, MOST_RAISES};
+use pb_rounds::rule::Rule;
+use pb_rounds::tie_order::put_in_tie_order;
 use pb_witness::text::Text;
 use pb_words::count_words::Deciding;
 use std::fs::File;
@@ -28,15 +30,22 @@ pub(crate) struct MoreRaises {
 pub(crate) fn look_further<R: System, G: Gate>(
     rt: &R,
     task: &Task<'_>,
-    options: &CountOptions,
+    rule: &Rule,
     took: Option<Duration>,
     gate: &G,
 ) -> MoreRaises {
     let allowed = Allowed::new(rt, took);
     match ballots_again(rt, task) {
         Some(election) => {
-            let deciding = deciding(rt, &election, options, &allowed, gate);
-            let step = sure_step(options.max_raises, election.budget());
+            let mut election = election;
+            let deciding = match put_in_tie_order(rt.alloc(), &mut election, &rule.ties) {
+                Ok(order) => {
+                    drop(order);
+                    deciding(rt, &election, &rule.options, &allowed, gate)
+                }
+                Err(_) => Deciding::Unread,
+            };
+            let step = sure_step(rule.options.max_raises, election.budget());
             drop(election);
             MoreRaises { deciding, step }
         }

@@ -11,6 +11,7 @@ use pb_commands::run_check::{run_check, run_check_against};
 use pb_commands::run_desk::run_admitted_desk;
 use pb_commands::run_history::run_history;
 use pb_commands::run_table::run_table;
+use pb_commands::run_ties::run_ties;
 use pb_commands::{AppFault, Demand, Digests, Table, write_digested, write_out};
 use pb_core::gate::NoGate;
 use pb_faults::RunText;
@@ -30,6 +31,17 @@ pub(crate) fn tell<'a, R: System, W: Write>(
 ) -> Result<(), AppFault> {
     let inputs = run.inputs(ballots)?;
     run_table(&run.counting, inputs, seen, writer, table)
+}
+
+/// Counts these ballots, and writes the table of all ties.
+pub(crate) fn ties<'a, R: System, W: Write>(
+    run: &CommandRun<'a, R>,
+    ballots: &Ballots<'a>,
+    writer: &mut W,
+    seen: &mut Warnings,
+) -> Result<(), AppFault> {
+    let inputs = run.inputs(ballots)?;
+    run_ties(&run.counting, inputs, seen, writer)
 }
 
 /// Counts ballots: the report, alone or below the digests of what was read.
@@ -85,11 +97,10 @@ pub(crate) fn desk<R: System, W: Write>(
     };
     let (clerks, shuts) = (asked.clerks, asked.shuts);
     let notice = RowNotice::new(run);
-    let done = run_admitted_desk(
-        rt, alloc, file, script, clerks, shuts, &NoGate, rules, &notice, writer,
-    );
-    notes.entries = notice.answers();
-    done
+    let counts = &mut notes.entries;
+    run_admitted_desk(
+        rt, alloc, file, script, clerks, shuts, &NoGate, rules, &notice, counts, writer,
+    )
 }
 
 /// Audits a journal on a .pb file: the report, alone or below the digests of what was read. Nothing is written
@@ -188,10 +199,8 @@ fn report<'a, R: System, W: Write>(
             Demand::Any
         },
     };
-    let notice = RowNotice::new(run);
-    let audited = run_audit_watched(&run.counting, inputs, &notice, &mut notes.seen, writer);
-    notes.entries = notice.answers();
-    audited
+    let Notes { entries, seen, .. } = notes;
+    run_audit_watched(&run.counting, inputs, entries, seen, writer)
 }
 
 /// Writes the table of the ballots that a journal leaves on the desk of a file, or of what one voter's ballot

@@ -11,12 +11,12 @@ use pb_export::ExportFault;
 use pb_faults::RunText;
 use pb_rounds::count_fault::CountFault;
 use pb_script::ScriptFault;
-use pb_streams::{End, ProgressLine, RunRefusal};
+use pb_streams::{End, ProgressLine, RunRefusal, behind_link};
 use pb_witness::audited::AuditPaths;
 use pb_witness::text::is_file;
 use pb_witness::warnings::Warnings;
 use pb_words::belonging_words::other_file_words;
-use pb_words::count_words::{count_words, spent_words};
+use pb_words::count_words::{count_words, spent_words, too_many_runs_words};
 use pb_words::export_words::{comma_words, heading_words, lacking_words};
 use pb_words::journal_words::journal_words;
 use pb_words::read_words::{list_words, read_words};
@@ -90,6 +90,7 @@ fn say_counts<R: System>(rt: &R, task: &Task<'_>, notes: &Notes) {
         | Task::Voters(_)
         | Task::Fairness(_)
         | Task::Compare(_)
+        | Task::Ties(_)
         | Task::WhatIf(..)
         | Task::Page(..)
         | Task::Export(_)
@@ -164,6 +165,7 @@ fn words_of<R: System>(
     let (alloc, task) = (rt.alloc(), &asked.task);
     let (first, second) = task.paths();
     let path = path_of(asked, RunText::Journal);
+    let counted = task.journal().unwrap_or(task.texts().0);
     match fault {
         AppFault::Open(RunText::Page) => unread_page_words(rt, published_path(task)),
         AppFault::Read(fault) => read_words(rt, alloc, first, &fault, &notes.seen.witness),
@@ -179,10 +181,8 @@ fn words_of<R: System>(
         }
         AppFault::OtherFile => words_of_other_file(rt, first, path),
         AppFault::OpenDesk => open_desk_words(alloc, second),
-        AppFault::Count(fault) => {
-            let counted = task.journal().unwrap_or(task.texts().0);
-            count_words(alloc, counted.path(), fault, &notes.rule.options)
-        }
+        AppFault::Count(fault) => count_words(alloc, counted.path(), fault, &notes.rule.options),
+        AppFault::TooManyRuns => too_many_runs_words(alloc, counted.path()),
         AppFault::Export(ExportFault::SectionWord) => heading_words(rt, alloc, first, second),
         AppFault::Export(_) => comma_words(rt, alloc, first, task.journal().is_some()),
         AppFault::Open(text) => open_words(rt, alloc, path_of(asked, text)),
@@ -250,12 +250,18 @@ fn words_of_script<R: System>(rt: &R, task: &Task<'_>, fault: ScriptFault) -> Sa
 /// Words where the journal with this path belongs to another .pb file than the one with that path.
 fn words_of_other_file<R: System>(rt: &R, file: Option<&str>, journal: &str) -> Said {
     let alloc = rt.alloc();
+    let own = behind_link(rt, journal).unwrap_or(None);
+    let journal = match &own {
+        Some(own) => own.as_str(),
+        None => journal,
+    };
     let text = match read_file_beside(rt, alloc, journal) {
         Ok(Some(text)) => text,
         _ => Vec::new(alloc),
     };
     let words = other_file_words(alloc, file, journal, text.as_slice());
     drop(text);
+    drop(own);
     words
 }
 
@@ -289,7 +295,7 @@ pub(crate) fn say_spent<R: System>(
     progress: &ProgressLine<'_, R>,
 ) {
     let options = &notes.rule.options;
-    let found = look_further(rt, &asked.task, options, took, progress);
+    let found = look_further(rt, &asked.task, &notes.rule, took, progress);
     progress.clear();
     say_words(
         rt,

@@ -9,7 +9,8 @@ use pb_core::gate::{Gate, NoGate};
 use pb_desk::desk::Desk;
 use pb_desk::into_fault::IntoFault;
 use pb_rounds::count::count_watched;
-use pb_rounds::options::CountOptions;
+use pb_rounds::rule::Rule;
+use pb_rounds::tie_order::put_in_tie_order;
 use pb_shared::clerk::Clerk;
 use pb_shared::shared_desk::SharedDesk;
 use pb_shared::unfinished::Unfinished;
@@ -17,7 +18,7 @@ use std::alloc::Global;
 use std::thread::Threads;
 
 /// Takes the clerks of a shared desk back. Where the desk is shut, the ballots that its journal leaves are
-/// counted with these options; else the desk is the answer, whatever the options are.
+/// counted as this rule elects; else the desk is the answer, whatever the rule is.
 ///
 /// To publish the journal, write it by a clerk's `look` before: what a clerk has seen begins the journal, and
 /// is all of it where it has as many entries as the answer says.
@@ -26,11 +27,11 @@ pub fn close_and_count<T: Threads + Sync>(
     alloc: Global,
     shared: SharedDesk,
     clerks: Vec<Clerk>,
-    options: &CountOptions,
+    rule: &Rule,
 ) -> Result<Closing, CloseFault>
     requires own { All (λ clerk. clerk.desk ≡ shared) clerks.items }
     // The headline: there is one journal, and the answer is what it comes to; and when each refusal comes.
-    ensures closed { IsClosedAs shared clerks.items options.now result }
+    ensures closed { IsClosedAs shared clerks.items rule.now result }
 
     // With all clerks handed back the lock is never the reason.
     ensures all { ((number : ℕ) → number < shared.clerks
@@ -38,7 +39,7 @@ pub fn close_and_count<T: Threads + Sync>(
         → IfErr result (λ fault. (word : ℕ) → fault ≢ CloseFault.Unfinished word) }
 {
     match shared.finish(clerks) {
-        Ok(desk) => count_desk(rt, alloc, desk, options, &NoGate),
+        Ok(desk) => count_desk(rt, alloc, desk, rule, &NoGate),
         Err(Unfinished(word)) => Err(CloseFault::Unfinished(word)),
     }
 }
@@ -49,23 +50,28 @@ pub fn count_desk<T: Threads + Sync, G: Gate>(
     rt: &T,
     alloc: Global,
     desk: Desk,
-    options: &CountOptions,
+    rule: &Rule,
     gate: &G,
 ) -> Result<Closing, CloseFault>
-    ensures { ComesTo desk options.now result }
+    ensures { ComesTo desk rule.now result }
 {
     let entries = desk.entries();
-    let election = match desk.into_election() {
+    let mut election = match desk.into_election() {
         Ok(election) => election,
         Err(IntoFault::NotShut(desk)) => return Ok(Closing::Open(desk)),
         Err(IntoFault::NoMemory(desk)) => return Err(CloseFault::NoMemory(desk)),
     };
-    match count_watched(rt, alloc, &election, options, gate) {
+    let order = match put_in_tie_order(alloc, &mut election, &rule.ties) {
+        Ok(order) => order,
+        Err(_) => return Err(CloseFault::NotSorted(election)),
+    };
+    match count_watched(rt, alloc, &election, &rule.options, gate) {
         Ok(outcome) => Ok(Closing::Counted(DeskCount {
             entries,
             election,
+            order,
             outcome,
         })),
-        Err(fault) => Err(CloseFault::NotCounted(fault, election)),
+        Err(fault) => Err(CloseFault::NotCounted(fault, order, election)),
     }
 }

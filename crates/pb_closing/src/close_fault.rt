@@ -1,6 +1,7 @@
 //! Why a shared desk is not closed and counted.
 
 use pb_core::election::Election;
+use pb_core::order::ProjectOrder;
 use pb_desk::desk::Desk;
 use pb_rounds::count_fault::CountFault;
 use std::fmt;
@@ -16,9 +17,13 @@ pub enum CloseFault {
     /// The desk is shut, and memory was refused before its ballots were an election. Here is the desk.
     #[error("out of memory")]
     NoMemory(Desk),
-    /// The desk is shut, and the count of its ballots is refused. Here is the election, to be counted again.
+    /// The desk is shut, and memory was refused for the order in which ties take its projects. Here is the election.
+    #[error("out of memory")]
+    NotSorted(Election),
+    /// The desk is shut, and the count of its ballots is refused. Here is the election, to be counted again, with its
+    /// projects in this order, in which ties take them.
     #[error("{0}")]
-    NotCounted(CountFault, Election),
+    NotCounted(CountFault, ProjectOrder, Election),
 }
 
 impl fmt::Debug for CloseFault {
@@ -26,7 +31,8 @@ impl fmt::Debug for CloseFault {
         f.write_str(match self {
             CloseFault::Unfinished(_) => "Unfinished",
             CloseFault::NoMemory(_) => "NoMemory",
-            CloseFault::NotCounted(_, _) => "NotCounted",
+            CloseFault::NotSorted(_) => "NotSorted",
+            CloseFault::NotCounted(_, _, _) => "NotCounted",
         })
     }
 }

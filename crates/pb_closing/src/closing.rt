@@ -1,6 +1,7 @@
 //! What a shared desk comes to once its clerks are back.
 
 use pb_core::election::Election;
+use pb_core::order::ProjectOrder;
 use pb_desk::desk::Desk;
 use pb_rounds::outcome::Outcome;
 
@@ -9,8 +10,11 @@ use pb_rounds::outcome::Outcome;
 pub struct DeskCount {
     /// How many entries the desk's journal has.
     pub entries: u32,
-    /// The election that the desk leaves: the one that it opened with, with the ballots that stand.
+    /// The election that the desk leaves: the one that it opened with, with the ballots that stand. Its
+    /// projects stand in the order in which ties take them.
     pub election: Election,
+    /// This order, by their places in the election that the desk opened with.
+    pub order: ProjectOrder,
     /// Who is elected in it.
     pub outcome: Outcome,
 }

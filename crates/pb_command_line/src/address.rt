@@ -6,10 +6,15 @@ pub fn is_link(address: &str) -> bool {
 }
 
 /// Whether an address is one of http or https, or a relative one. A browser passes over control characters
-/// and over blanks at the ends: with one in it, another address might be read than is seen here.
+/// and over blanks at the ends: with one in it, another address might be read than is seen here. Two slashes
+/// first, of which a browser takes a backslash for one, lead to another site.
 pub(crate) fn is_address(address: &str) -> bool {
     let bytes = address.as_bytes();
+    let slashes = bytes
+        .iter()
+        .take_while(|byte| matches!(**byte, b'/' | b'\\'));
     !bytes.is_empty()
+        && slashes.count() < 2
         && bytes.iter().all(|byte| *byte > b' ' && *byte != 127)
         && scheme_of(bytes).is_none_or(|scheme| {
             scheme.eq_ignore_ascii_case(b"https") || scheme.eq_ignore_ascii_case(b"http")

@@ -21,6 +21,8 @@ pub(crate) enum Takes {
     Completion,
     /// The name of a method.
     Method,
+    /// The name of a rule for ties.
+    Ties,
     /// The name of a rule, where none of what it says is said by an option of its own.
     Profile,
     /// A text, which its help calls so.
@@ -63,6 +65,7 @@ impl Argument {
             Takes::Measure => "MEASURE",
             Takes::Completion => "COMPLETION",
             Takes::Method => "RULE",
+            Takes::Ties => "TIES",
             Takes::Profile => "NAME",
             Takes::Path | Takes::Nothing | Takes::All => self.name,
         }

@@ -142,11 +142,18 @@ pub(crate) const RULE: Argument = Argument {
     help: "Which rule counts. equal-shares: the Method of Equal Shares; most-votes: projects win in the order of their votes, each if the rest of the budget pays for it. There are no shares with most-votes, so it can't be used with --measure, --completion, --plain, --step or --raises, nor by fairness, compare and page --compare [default: equal-shares]",
 };
 
+/// Which of equal projects comes first.
+pub(crate) const TIES: Argument = Argument {
+    name: "ties",
+    takes: Takes::Ties,
+    help: "Which of equal projects wins. file: the one that comes first in FILE; votes: the one with more votes; cost: the cheaper one; votes,cost and cost,votes: by the one, then by the other. Each of the last four may end in ,lot:SEED, and lot:SEED may stand alone: then a lot that SEED draws decides; SEED has 1 to 64 of A-Z, a-z, 0-9 and -. Projects that are still equal go by FILE [default: file]",
+};
+
 /// The one name of the rule.
 pub(crate) const PROFILE: Argument = Argument {
     name: "profile",
     takes: Takes::Profile,
-    help: "The rule by its name, in place of --rule, --measure, --completion, --plain and --step; for example ES/cost/add1u/hundredths/step=1.00/ties=file (without shares that are raised: ES/votes/none/hundredths/ties=file; most votes first: MV)",
+    help: "The rule by its name, in place of --rule, --measure, --completion, --plain, --step and --ties; for example ES/cost/add1u/hundredths/step=1.00/ties=file (without shares that are raised: ES/votes/none/hundredths/ties=file; most votes first: MV)",
 };
 
 /// The file that gets the result.
@@ -351,7 +358,7 @@ pub(crate) fn of_count() -> &'static [Argument] {
 }
 
 const OF_COUNT: &[Argument] = &[
-    WORKERS, STEP, RAISES, PLAIN, COMPLETION, MEASURE, RULE, PROFILE,
+    WORKERS, STEP, RAISES, PLAIN, COMPLETION, MEASURE, RULE, TIES, PROFILE,
 ];
 
 /// The options of what prints the result of a count, which stand together too.

@@ -11,6 +11,7 @@ use clap::ArgMatches;
 use pb_core::money::Money;
 use pb_rounds::options::CountOptions;
 use pb_rounds::rule::{FillUp, Rule};
+use pb_rounds::tie_rule::TieRule;
 
 /// How many losers are asked about, where no option says it.
 const FIRST: u32 = 100;
@@ -39,6 +40,7 @@ pub(crate) fn asked_by<'a>(matches: &ArgMatches<'a>, said: &SaidRule) -> Asked<'
             rule: Rule {
                 options: CountOptions::standard(),
                 fill_up: FillUp::Nothing,
+                ties: TieRule::file(),
             },
             output: None,
             shows: None,
@@ -77,6 +79,7 @@ fn count_of<'a>(
             ballots,
             by_project: given.get_flag("projects"),
         }),
+        "ties" => Task::Ties(ballots),
         "whatif" => Task::WhatIf(WhatIfRun {
             ballots,
             whose: whose_of(given),

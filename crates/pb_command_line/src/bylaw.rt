@@ -3,6 +3,7 @@
 use pb_rounds::measure::Measure;
 use pb_rounds::options::Completion;
 use pb_rounds::rule::{FillUp, Rule};
+use pb_rounds::tie_rule::{TieKeys, ties_named};
 use std::alloc::{AllocError, Global};
 
 /// The method, up to the rule by which a round chooses.
@@ -24,13 +25,24 @@ const KEPT: &str = "What is left of the budget is not spent.";
 const FILLED_UP: &str =
     "What is left of the budget then goes to other projects that have supporters: those with the most supporters first, among these the cheapest first, each if what is left covers its cost. What still remains is not spent.";
 
-/// Who wins among equals.
-const TIES: &str =
-    "Where projects are equal by these rules, the one that comes first in the published list wins.";
+/// Who wins among equals, where nothing else decides.
+const FIRST_LISTED: &str = "the one that comes first in the published list wins.";
+
+/// How a lot is drawn: its seed may not be known while ballots can still change, so a by-law has no seed.
+const LOT: &str =
+    "a lot decides. Its seed is drawn in public after the ballots are closed, for example as the winning numbers of a lottery on a day that is named before the vote. For each of the equal projects the SHA-256 of the seed, a line feed and the id of the project is taken, and the one with the least wins.";
+
+/// What stands behind the name of a rule with a lot.
+const SEED_OF_NAME: &str = ", with the seed in place of SEED";
 
 /// The paragraph of a by-law that asks for this rule, and its name.
 pub(crate) fn bylaw_text(alloc: Global, rule: &Rule) -> Result<String, AllocError> {
-    let Ok(name) = rule.profile(alloc) else {
+    let behind = if rule.ties.lot.is_some() {
+        SEED_OF_NAME
+    } else {
+        ""
+    };
+    let Ok(name) = unseeded(rule).profile(alloc) else {
         return Err(AllocError);
     };
     let winners = match winners_text(alloc, rule) {
@@ -40,10 +52,56 @@ pub(crate) fn bylaw_text(alloc: Global, rule: &Rule) -> Result<String, AllocErro
             return Err(refused);
         }
     };
-    let text = format!(in alloc; "{winners} {TIES} The name of this rule is {name}.\n");
+    let text = match ties_text(alloc, rule) {
+        Ok(ties) => {
+            let text = format!(in alloc;
+                "{winners} {ties} The name of this rule is {name}{behind}.\n"
+            );
+            drop(ties);
+            text
+        }
+        Err(refused) => Err(refused),
+    };
     drop(name);
     drop(winners);
     text
+}
+
+/// The same rule, with the word SEED for the seed of its lot, if it has one.
+fn unseeded(rule: &Rule) -> Rule {
+    let mut unseeded = *rule;
+    if unseeded.ties.lot.is_some() {
+        unseeded.ties.lot = match ties_named("lot:SEED") {
+            Some(ties) => ties.lot,
+            None => None,
+        };
+    }
+    unseeded
+}
+
+/// Who wins among equals. By most votes first these have as many votes and the same cost, so that keys decide nothing.
+fn ties_text(alloc: Global, rule: &Rule) -> Result<String, AllocError> {
+    let keys = match (rule.options.completion, rule.ties.keys) {
+        (Completion::NoShares, _) | (_, TieKeys::Nothing) => None,
+        (_, TieKeys::Votes) => Some("the one with the most supporters wins"),
+        (_, TieKeys::Cost) => Some("the cheapest one wins"),
+        (_, TieKeys::VotesThenCost) => {
+            Some("the one with the most supporters wins, and among these the cheapest")
+        }
+        (_, TieKeys::CostThenVotes) => {
+            Some("the cheapest one wins, and among these the one with the most supporters")
+        }
+    };
+    let last = if rule.ties.lot.is_some() {
+        LOT
+    } else {
+        FIRST_LISTED
+    };
+    let equal = "Where projects are equal by these rules";
+    match keys {
+        None => format!(in alloc; "{equal}, {last}"),
+        Some(keys) => { format!(in alloc; "{equal}, {keys}. Where they are still equal, {last}") }
+    }
 }
 
 /// How this rule finds the winners, but for ties.

@@ -2,8 +2,8 @@
 
 use crate::argument::{Argument, Takes};
 use crate::arguments::{
-    AGAINST, ALL, COMPLETION, COST, FIRST, HISTORY, MEASURE, PLAIN, PROJECT, RULE, STEP, VOTER,
-    VOTERS,
+    AGAINST, ALL, COMPLETION, COST, FIRST, HISTORY, MEASURE, PLAIN, PROJECT, RULE, STEP, TIES,
+    VOTER, VOTERS,
 };
 use crate::commands::{CommandForm, forms};
 use crate::helps::{ABOUT, AFTER_HELP};
@@ -156,5 +156,6 @@ fn alone<'a>(arg: Arg<'a>) -> Result<Arg<'a>, AllocError> {
         .conflicts_with(MEASURE.name)?
         .conflicts_with(COMPLETION.name)?
         .conflicts_with(PLAIN.name)?
-        .conflicts_with(STEP.name)
+        .conflicts_with(STEP.name)?
+        .conflicts_with(TIES.name)
 }

@@ -7,7 +7,7 @@ use crate::arguments::{
     DURABLE, ELECTION, FILES, FIRST, HISTORY, JOURNAL, KEEP_FILE, KEEP_VOTERS, LEAST, LEFT_BY,
     MEASURE, NO_SHUT, OTHER_FILE, OUTPUT, PLAIN, PROFILE, PROGRESS, PROJECT, QUIET, QUIET_BALLOTS,
     QUIET_DESK, QUIET_SERVE, RECOUNT, REQUIRE_SHUT, ROLL, RULE, SAME_AS, SCRIPT, SERVED, SHUT,
-    STEP, STRICT, TITLE, VOTER, VOTERS, WORDS,
+    STEP, STRICT, TIES, TITLE, VOTER, VOTERS, WORDS,
 };
 use crate::helps::{AFTER_BALLOTS, AFTER_SERVE};
 
@@ -24,13 +24,14 @@ pub(crate) struct CommandForm {
 
 /// The forms of all commands, in the order in which the help lists them. A function that names a form is
 /// checked with all its texts, so a function of its own names each.
-pub(crate) fn forms() -> [&'static CommandForm; 14] {
+pub(crate) fn forms() -> [&'static CommandForm; 15] {
     [
         count(),
         projects(),
         voters(),
         fairness(),
         compare(),
+        ties(),
         what_if(),
         page(),
         export(),
@@ -105,6 +106,18 @@ const COMPARISON: &CommandForm = &CommandForm {
         OfCount,
         OfResult,
     ],
+};
+
+/// The command that shows all ties of a count.
+fn ties() -> &'static CommandForm {
+    ALL_TIES
+}
+
+const ALL_TIES: &CommandForm = &CommandForm {
+    name: "ties",
+    notes: "At most 1000 runs are counted, one for each raise. changes: 1 if exchanging just these two in the order of ties changes the winners (of the first hundred pairs).\n\nManual pages: man pb_app-election, man 5 pb_app-ties, man pb_app-counting.",
+    about: "Counts a .pb file, and prints each tie and its winner",
+    groups: &[Own(&[ELECTION, LEFT_BY, OTHER_FILE]), OfCount, OfResult],
 };
 
 /// The command that counts changed elections.
@@ -258,5 +271,5 @@ pub(crate) const BYLAW: &CommandForm = &CommandForm {
     name: "bylaw",
     notes: "Manual pages: man pb_app-counting.",
     about: "Prints the rule of a count as a paragraph for a by-law",
-    groups: &[Own(&[STEP, PLAIN, COMPLETION, MEASURE, RULE, PROFILE])],
+    groups: &[Own(&[STEP, PLAIN, COMPLETION, MEASURE, RULE, TIES, PROFILE])],
 };

@@ -34,6 +34,8 @@ pub(crate) enum Flaw<'a> {
     OfShares(&'static str),
     /// The command tells of shares, and the rule has none.
     NoShares,
+    /// This text names no rule for ties.
+    Ties(&'a str),
     /// The rule would be compared with itself.
     OneRule,
 }
@@ -107,10 +109,9 @@ impl<'a> Flaw<'a> {
             Flaw::NoVoter => {
                 eprintln!(rt; "error: --history needs the id of a voter. Give it with --voter.")
             }
+            Flaw::Ties(text) => return say_ties(rt, text),
             Flaw::OfShares(option) => return say_of_shares(rt, option),
-            Flaw::NoShares => eprintln!(rt;
-                "error: fairness is about shares, and there are no shares with most votes first. Count by equal shares."
-            ),
+            Flaw::NoShares => return say_no_shares(rt),
             Flaw::OneRule => return say_one_rule(rt),
         };
     }
@@ -125,11 +126,27 @@ fn beside_the_page(option: &str) -> (&'static str, &'static str) {
     }
 }
 
+/// Says that fairness is about shares, which most votes first has none of.
+fn say_no_shares<R: Eprint>(rt: &R) {
+    let _ = eprintln!(rt;
+        "error: fairness is about shares, and there are no shares with most votes first. Count by equal shares."
+    );
+}
+
 /// Says that this option is none of most votes first.
 fn say_of_shares<R: Eprint>(rt: &R, option: &'static str) {
     let _ = eprintln!(rt;
         "error: --{option} is an option of equal shares, and there are no shares with most votes first. Omit --{option}, or count by equal shares."
     );
+}
+
+/// Which texts name a rule for ties.
+pub(crate) const TIES_ARE: &str =
+    "Give file, votes, cost, votes,cost or cost,votes; all but file may end in ,lot:SEED, and lot:SEED may stand alone. A SEED has 1 to 64 of A-Z, a-z, 0-9 and -.";
+
+/// Says that this text names no rule for ties.
+fn say_ties<R: Eprint>(rt: &R, text: &str) {
+    let _ = eprintln!(rt; "option --ties: {text:?} is not allowed. {TIES_ARE}");
 }
 
 /// Says that most votes first is not compared with itself.

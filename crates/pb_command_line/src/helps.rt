@@ -91,9 +91,10 @@ Why a row is refused:
   8;FromFile   with --keep-file-ballots: the voter's ballot came with FILE
   9;NoShut     with --no-shut: the row shuts the desk
 
-The output begins with the row entries;N;open or entries;N;shut: the journal has N entries. If the journal ended in an
-incomplete row (after a crash), serve moves that end to JOURNAL.torn, and prints the row torn;BYTES first. BYTES is how
-many bytes it moved. The request in an incomplete row was never answered.
+The output begins with the row entries;N;open or entries;N;shut: the journal has N entries. A crash may leave an empty
+line at the journal's end, and rows behind it, which were never answered. serve moves these rows to JOURNAL.torn, and
+prints the row torn;BYTES first. BYTES is how many bytes it moved. A journal that ends within a row, such as a copy that
+broke off, is refused: get the whole file.
 
 JOURNAL.file says to which .pb file the journal belongs: its first line is the SHA-256 of FILE. With another FILE, a
 position may mean another project. So once the journal has entries, serve refuses any other file (fault;other-file).

@@ -7,7 +7,9 @@ use crate::commands::BYLAW;
 use crate::elsewhere::{elsewhere_words, uncounted_words, without_dashes};
 use crate::flaw::Flaw;
 use crate::numbers::{BadNumber, bad_number};
-use crate::rule::{compares, named_rule, refuse_profile, rule_of, said_rule, without_shares};
+use crate::rule::{
+    bad_ties, compares, named_rule, refuse_profile, rule_of, said_rule, without_shares,
+};
 use crate::said_rule::SaidRule;
 use crate::task::Asked;
 use clap::error::ErrorKind;
@@ -62,6 +64,9 @@ fn parsed_by<'a, R: Print + Eprint>(
     if let Some((name, given)) = matches.subcommand() {
         if let Some(bad) = bad_number(given) {
             return Ok(Parsed::Ends(refuse_number(rt, &bad)));
+        }
+        if let Some(text) = bad_ties(given) {
+            return Ok(refused_by(rt, Flaw::Ties(text)));
         }
         let named = named_rule(alloc, given)?;
         if let (Some(profile), None) = (given.get_str("profile"), named) {

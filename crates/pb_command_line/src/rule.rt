@@ -1,8 +1,8 @@
 //! The options of a count, and the rule that they name.
 
 use crate::argument::Argument;
-use crate::arguments::{COMPARE, COMPLETION, MEASURE, PLAIN, RAISES, RULE, STEP, of_count};
-use crate::flaw::Flaw;
+use crate::arguments::{COMPARE, COMPLETION, MEASURE, PLAIN, RAISES, RULE, STEP, TIES, of_count};
+use crate::flaw::{Flaw, TIES_ARE};
 use crate::method::Method;
 use crate::said_rule::SaidRule;
 use crate::task::PageRun;
@@ -13,6 +13,7 @@ use pb_rounds::options::{Completion, CountOptions};
 use pb_rounds::profile_named::{nearest_rule, profile_named};
 use pb_rounds::rule::{FillUp, Rule};
 use pb_rounds::rule_names::{completion_named, measure_named};
+use pb_rounds::tie_rule::{TieRule, ties_named};
 use std::alloc::{AllocError, Global};
 
 /// The options that say a part of how shares are used.
@@ -138,15 +139,22 @@ fn by_options(given: &ArgMatches<'_>) -> SaidRule {
     let mut said = SaidRule::nothing().completed(completion_of(given));
     said.measure = measure_of(given);
     said.step = given.get_one::<u32>("step").map(step_of);
+    said.ties = ties_of(given);
     said
 }
 
-/// Says that no rule has this name, and which rule's name is the nearest.
+/// Says that no rule has this name: which part of it is no rule for ties, or else which rule's name is the nearest.
 pub(crate) fn refuse_profile<R: Eprint>(
     rt: &R,
     alloc: Global,
     name: &str,
 ) -> Result<(), AllocError> {
+    if let Some(ties) = no_ties(name) {
+        let _ = eprintln!(rt;
+            "option --profile: {name:?} is not the name of a rule: {ties:?} is no rule for ties. {TIES_ARE}"
+        );
+        return Ok(());
+    }
     let nearest = match nearest_rule(name).profile(alloc) {
         Ok(nearest) => nearest,
         Err(_) => return Err(AllocError),
@@ -156,6 +164,32 @@ pub(crate) fn refuse_profile<R: Eprint>(
     );
     drop(nearest);
     Ok(())
+}
+
+/// What stands in the name of a rule for its rule for ties, if it is none.
+fn no_ties(name: &str) -> Option<&str> {
+    for part in name.split('/') {
+        if let Some(ties) = part.strip_prefix("ties=") {
+            if ties_named(ties).is_none() {
+                return Some(ties);
+            }
+        }
+    }
+    None
+}
+
+/// The text for `--ties` that names no rule for ties, if one is given.
+pub(crate) fn bad_ties<'a>(given: &ArgMatches<'a>) -> Option<&'a str> {
+    let text = given.get_str(TIES.name)?;
+    match ties_named(text) {
+        Some(_) => None,
+        None => Some(text),
+    }
+}
+
+/// Which of equal projects comes first, if an option says so.
+fn ties_of(given: &ArgMatches<'_>) -> Option<TieRule> {
+    ties_named(given.get_str(TIES.name)?)
 }
 
 /// A step of so many hundredths.

@@ -5,6 +5,7 @@ use pb_core::money::Money;
 use pb_rounds::measure::Measure;
 use pb_rounds::options::{Completion, CountOptions};
 use pb_rounds::rule::{FillUp, Rule};
+use pb_rounds::tie_rule::TieRule;
 
 /// A rule, as far as options or a page say it.
 #[derive(Clone, Copy)]
@@ -22,6 +23,8 @@ pub struct SaidRule {
     pub step: Option<Money>,
     /// The most raises that are allowed.
     pub max_raises: Option<u32>,
+    /// Which of equal projects comes first.
+    pub ties: Option<TieRule>,
 }
 
 impl SaidRule {
@@ -41,7 +44,7 @@ impl SaidRule {
         let step = match options.completion {
             Completion::Add1 => Some(options.step),
             Completion::Plain => None,
-            Completion::NoShares => return SaidRule::method(Method::MostVotes),
+            Completion::NoShares => return SaidRule::most_votes(rule.ties),
         };
         SaidRule {
             method: Some(Method::EqualShares),
@@ -51,6 +54,7 @@ impl SaidRule {
             fill_up: Some(rule.fill_up),
             step,
             max_raises: None,
+            ties: Some(rule.ties),
         }
     }
 
@@ -58,6 +62,13 @@ impl SaidRule {
     pub fn method(method: Method) -> SaidRule {
         let mut rule = SaidRule::nothing();
         rule.method = Some(method);
+        rule
+    }
+
+    /// Most votes first is said, and this rule for ties.
+    fn most_votes(ties: TieRule) -> SaidRule {
+        let mut rule = SaidRule::method(Method::MostVotes);
+        rule.ties = Some(ties);
         rule
     }
 
@@ -71,6 +82,7 @@ impl SaidRule {
             fill_up: None,
             step: None,
             max_raises: None,
+            ties: None,
         }
     }
 
@@ -84,6 +96,10 @@ impl SaidRule {
             fill_up: self.fill_up.or(other.fill_up),
             step: self.step.or(other.step),
             max_raises: self.max_raises.or(other.max_raises),
+            ties: match self.ties {
+                Some(ties) => Some(ties),
+                None => other.ties,
+            },
         }
     }
 
@@ -95,8 +111,12 @@ impl SaidRule {
     /// The rule of a count by so many workers; what is not said is as in the standard one.
     pub fn rule(&self, workers: u32) -> Rule {
         let standard = CountOptions::standard();
+        let ties = match self.ties {
+            Some(ties) => ties,
+            None => TieRule::file(),
+        };
         if self.is_most_votes() {
-            return most_votes(workers);
+            return most_votes(workers, ties);
         }
         let options = CountOptions {
             step: self.step.unwrap_or(standard.step),
@@ -108,17 +128,19 @@ impl SaidRule {
         Rule {
             options,
             fill_up: self.fill_up.unwrap_or(FillUp::Nothing),
+            ties,
         }
     }
 }
 
-/// Most votes first, by so many workers.
-fn most_votes(workers: u32) -> Rule {
+/// Most votes first, by so many workers, with this rule for ties.
+fn most_votes(workers: u32, ties: TieRule) -> Rule {
     let mut options = CountOptions::standard();
     options.workers = workers;
     options.completion = Completion::NoShares;
     Rule {
         options,
         fill_up: FillUp::MostVotes,
+        ties,
     }
 }

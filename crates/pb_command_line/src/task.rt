@@ -160,6 +160,8 @@ pub enum Task<'a> {
     Fairness(Ballots<'a>),
     /// A count of these ballots beside most votes first.
     Compare(CompareRun<'a>),
+    /// All ties of a count of these ballots.
+    Ties(Ballots<'a>),
     /// Counts of changed elections.
     WhatIf(WhatIfRun<'a>),
     /// The page of a count.
@@ -186,6 +188,7 @@ impl<'a> Task<'a> {
             Task::Projects(ballots)
             | Task::Voters(ballots)
             | Task::Fairness(ballots)
+            | Task::Ties(ballots)
             | Task::Export(ballots)
             | Task::Count(CountRun { ballots, .. })
             | Task::Compare(CompareRun { ballots, .. })
@@ -221,6 +224,7 @@ impl<'a> Task<'a> {
             | Task::Projects(_)
             | Task::Fairness(_)
             | Task::Compare(_)
+            | Task::Ties(_)
             | Task::WhatIf(..)
             | Task::Page(..)
             | Task::Check(_)

@@ -12,6 +12,9 @@ use pb_read::read_pb;
 use pb_rounds::count_fault::CountFault;
 use pb_rounds::options::CountOptions;
 use pb_rounds::outcome::Elected;
+use pb_rounds::rule::{FillUp, Rule};
+use pb_rounds::tie_order::put_in_tie_order;
+use pb_rounds::tie_rule::TieRule;
 use pb_shared::clerk::Clerk;
 use pb_shared::shared_desk::SharedDesk;
 use std::alloc::Global;
@@ -72,7 +75,12 @@ fn close<R: Threads + Sync + Abort>(
         workers,
         ..CountOptions::standard()
     };
-    close_and_count(rt, alloc, shared, clerks, &options)
+    let rule = Rule {
+        options,
+        fill_up: FillUp::Nothing,
+        ties: TieRule::file(),
+    };
+    close_and_count(rt, alloc, shared, clerks, &rule)
 }
 
 /// Of each winner the place, the price and what was collected.
@@ -100,7 +108,7 @@ fn said(rt: &impl Abort, alloc: Global, closed: &Result<Closing, CloseFault>) ->
             let (entries, ballots) = (desk.entries(), desk.ballots());
             format!(in alloc; "open: {entries}, {ballots}").expect(rt, "memory")
         }
-        Err(CloseFault::NotCounted(fault, election)) => {
+        Err(CloseFault::NotCounted(fault, _, election)) => {
             let voters = election.voters().len();
             format!(in alloc; "{}: {voters}", fault.name()).expect(rt, "memory")
         }
@@ -154,7 +162,10 @@ fn a_closing_tells_its_faults(rt: HostRuntime) {
     tells(&rt, alloc, CloseFault::Unfinished(4), "the lock word is 4");
     let open = desk(&rt, alloc);
     tells(&rt, alloc, CloseFault::NoMemory(open), "out of memory");
-    let election = read_pb(alloc, THREE_VOTERS.as_bytes()).expect(&rt, "an election");
-    let spent = CloseFault::NotCounted(CountFault::RaisesSpent, election);
+    let mut election = read_pb(alloc, THREE_VOTERS.as_bytes()).expect(&rt, "an election");
+    let order = put_in_tie_order(alloc, &mut election, &TieRule::file()).expect(&rt, "an order");
+    let spent = CloseFault::NotCounted(CountFault::RaisesSpent, order, election);
     tells(&rt, alloc, spent, "the raises are spent");
+    let election = read_pb(alloc, THREE_VOTERS.as_bytes()).expect(&rt, "an election");
+    tells(&rt, alloc, CloseFault::NotSorted(election), "out of memory");
 }

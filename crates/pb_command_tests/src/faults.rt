@@ -130,6 +130,10 @@ const RUN_FAULTS: &[(AppFault, &str)] = &[
         "count: the raises are spent",
     ),
     (
+        AppFault::TooManyRuns,
+        "ties: the count rests on too many runs",
+    ),
+    (
         AppFault::Open(RunText::Journal),
         "file 2 could not be opened",
     ),

@@ -8,6 +8,7 @@ use pb_core::money::Money;
 use pb_read::NoWatch;
 use pb_rounds::options::CountOptions;
 use pb_rounds::rule::{FillUp, Rule};
+use pb_rounds::tie_rule::TieRule;
 use std::sync::atomic::Ordering::Relaxed;
 use std::sync::atomic::{AtomicBool, AtomicU32};
 
@@ -56,6 +57,7 @@ fn a_count_tells_of_its_raises(rt: HostRuntime) {
     let rule = Rule {
         options: CountOptions::standard(),
         fill_up: FillUp::Nothing,
+        ties: TieRule::file(),
     };
     let counting = Counting {
         rt: &rt,

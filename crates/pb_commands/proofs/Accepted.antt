@@ -1,5 +1,5 @@
 -- Which faults come from outside, what merged faults are, and that a file has one report.
-use Rattle.std.proofs.Common.{◌≡◌, ℕ, List, None, Ok, Err, refl, sym, ◌∙◌, ap, subst, inl, inr}
+use Rattle.std.proofs.Common.{◌≡◌, ◌≢◌, ℕ, List, None, Ok, Err, refl, sym, ◌∙◌, ap, subst, inl, inr}
 use Rattle.std.specs.Prelude.{IfErr, IsErrAnd, Result}
 use Rattle.std.proofs.lemmas.Option.{none-some}
 use Rattle.pb_core.specs.Election.{ElectionView}
@@ -11,7 +11,12 @@ use Rattle.pb_export.specs.declared.export_fault.ExportFault.{ExportFault}
 use Rattle.pb_export.specs.declared.export_fault.ExportFault.TheVariants as export
 use Rattle.pb_read.specs.declared.fault.ReadKind.{ReadKind}
 use Rattle.pb_read.specs.declared.fault.ReadKind.TheVariants.{NoMemory}
+use Rattle.pb_core.specs.Order.{in_order}
 use Rattle.pb_reasons.specs.Counted.{counted}
+use Rattle.pb_reasons.specs.CountedElection.{CountedElectionView, IsCountIn, IsFaultIn}
+use Rattle.pb_rounds.proofs.OneOrder.{one_order}
+use Rattle.pb_rounds.specs.TieOrder.{IsSortedFor}
+use Rattle.pb_rounds.specs.declared.tie_rule.TieRule.{TieRule}
 use Rattle.pb_rounds.proofs.Counted.{is_computed, one_outcome, spent_is_none}
 use Rattle.pb_rounds.specs.Counted.{IsCountFault, IsCountOf}
 use Rattle.pb_rounds.specs.Outcome.{OutcomeView}
@@ -34,7 +39,7 @@ use Rattle.pb_script.specs.declared.roll.RollFault.TheVariants as roll
 use Rattle.pb_script.specs.declared.script_fault.ScriptFault.{ScriptFault}
 use Rattle.pb_script.specs.declared.script_fault.ScriptFault.TheVariants as script
 use Rattle.pb_faults.specs.declared.fault.AppFault.{AppFault}
-use Rattle.pb_faults.specs.declared.fault.AppFault.TheVariants.{Read, Script, ClerkCount, Audit, OtherFile, OpenDesk, Count, Export, Open, Write, Memory, Warned, Roll, Serving}
+use Rattle.pb_faults.specs.declared.fault.AppFault.TheVariants.{Read, Script, ClerkCount, Audit, OtherFile, OpenDesk, Count, TooManyRuns, Export, Open, Write, Memory, Warned, Roll, Serving}
 
 pub read_from_outside : (kind : ReadKind) (at : ℕ) → IsFromOutside kind → IsOutsideFault (merged (Read (record { kind = kind; at = at })))
 read_from_outside kind at (inl is) = rw is refl
@@ -77,6 +82,7 @@ merged_again (Audit fault) = audit_again fault
 merged_again (Count fault) = count_again fault
 merged_again (Export fault) = export_again fault
 merged_again ClerkCount = refl
+merged_again TooManyRuns = refl
 merged_again OtherFile = refl
 merged_again OpenDesk = refl
 merged_again (Open number) = refl
@@ -87,7 +93,7 @@ merged_again (Roll fault) = roll_again fault
 merged_again (Serving why) = refl
 
 -- the count of an election that has an outcome is refused from outside alone
-pub count_from_outside : (e : ElectionView) (options : CountOptions) (o : OutcomeView) → IsCountOf e options o
+count_from_outside : (e : ElectionView) (options : CountOptions) (o : OutcomeView) → IsCountOf e options o
     → (fault : CountFault) → IsCountFault e options fault → IsOutsideFault (merged (Count fault))
 count_from_outside e options o is_count count.WorkerCount refused = absurd (none-some _ (sym is_count.in_range ∙ refused))
 count_from_outside e options o is_count count.StepRange refused = absurd (none-some _ (sym is_count.in_range ∙ refused))
@@ -102,18 +108,40 @@ unfolding report_of
 report_of_other e Nothing o priced = refl
 report_of_other e MostVotes o priced = refl
 
+-- an election stands in one way as ties take its projects
+pub one_sorted : (ties : TieRule) (e : ElectionView) (order other : List ℕ) (s t : ElectionView) → IsSortedFor ties e order s → IsSortedFor ties e other t → s ≡ t
+one_sorted ties e order other s t first second =
+    first.1 ∙ ap (λ (o : List ℕ). in_order o e) (one_order ties e order other first.0 second.0) ∙ sym second.1
+
+-- an election that was counted is refused from outside alone
+fault_from_outside : (rule : Rule) (e : ElectionView) (x : CountedElectionView) → IsCountIn rule e x → (fault : CountFault) → IsFaultIn rule e fault → IsOutsideFault (merged (Count fault))
+fault_from_outside rule e x is fault (order, sorted, is_put, refused) =
+    let (o, is_count, filled) = is.2 in
+    count_from_outside sorted rule.options o
+    (subst (λ (s : ElectionView). IsCountOf s rule.options o) (one_sorted rule.ties e x.order order x.election sorted is.1 is_put) is_count) fault refused
+
+pub counted_from_outside : (rule : Rule) (e : ElectionView) (x : CountedElectionView) → IsCountIn rule e x → (fault : CountFault) → (fault ≢ count.NoMemory → IsFaultIn rule e fault)
+    → IsOutsideFault (merged (Count fault))
+counted_from_outside rule e x is count.WorkerCount refused = fault_from_outside rule e x is count.WorkerCount (refused (λ same. cc))
+counted_from_outside rule e x is count.StepRange refused = fault_from_outside rule e x is count.StepRange (refused (λ same. cc))
+counted_from_outside rule e x is count.RaisesRange refused = fault_from_outside rule e x is count.RaisesRange (refused (λ same. cc))
+counted_from_outside rule e x is count.RaisesSpent refused = fault_from_outside rule e x is count.RaisesSpent (refused (λ same. cc))
+counted_from_outside rule e x is count.NoMemory refused = refl
+
 -- an election has one report by a rule
 pub one_report : (rule : Rule) (e : ElectionView) (a b : List ℕ) → IsTold report_of rule e a → IsTold report_of rule e b → a ≡ b
-one_report rule e a b first second =
-    let one = first.1 in
-    let other = second.1 in
-    let outcome = one_outcome e rule.options one.0 other.0 one.1 other.1 in
-    first.2 ∙ ap (report_of e) one.2 ∙ ap (λ o. report_of e (counted e rule.fill_up o)) outcome
-    ∙ report_of_other e rule.fill_up other.0 one.0.priced ∙ ap (report_of e) (sym other.2) ∙ sym second.2
+one_report rule e a b (x, is, same) (y, other, also) =
+    let sorted : x.election ≡ y.election = one_sorted rule.ties e x.order y.order x.election y.election is.1 other.1 in
+    let (o, is_count, filled) = is.2 in
+    let (p, other_count, other_filled) = other.2 in
+    let outcome = one_outcome x.election rule.options o p is_count (subst (λ (s : ElectionView). IsCountOf s rule.options p) (sym sorted) other_count) in
+    same ∙ ap (report_of x.election) filled ∙ ap (λ o. report_of x.election (counted x.election rule.fill_up o)) outcome
+    ∙ report_of_other x.election rule.fill_up p o.priced ∙ ap (λ (s : ElectionView). report_of s (counted s rule.fill_up p)) sorted
+    ∙ ap (report_of y.election) (sym other_filled) ∙ sym also
 
 report_told : (rule : Rule) (e : ElectionView) (text : List ℕ) → IsTableOf Report rule e text → IsTold report_of rule e text
 unfolding table_of
-report_told rule e text is = (is.0, is.1, is.3)
+report_told rule e text is = (is.0, is.2, is.3)
 
 pub one_text : (rule : Rule) (bytes : List ℕ) (a b : List ℕ) → Gives (IsTableOf Report rule) bytes None a → Gives (IsTableOf Report rule) bytes None b → a ≡ b
 one_text rule bytes a b first second =

@@ -28,7 +28,7 @@ use Rattle.pb_commands.specs.declared.demand.Demand.{Demand}
 use Rattle.pb_commands.specs.Inner.Outside.{IsOutsideFault}
 use Rattle.pb_faults.specs.Fault.{merged}
 use Rattle.pb_faults.specs.declared.fault.AppFault.TheVariants.{Audit, Count}
-use Rattle.pb_commands.proofs.Accepted.{count_from_outside, one_report}
+use Rattle.pb_commands.proofs.Accepted.{counted_from_outside, one_report}
 
 -- these bytes are those of one desk at most
 pub one_desk : (bytes journal : List ℕ) (d other : DeskView) → IsDeskOf bytes journal d → IsDeskOf bytes journal other → d ≡ other
@@ -52,12 +52,11 @@ journal_from_outside o journal sound audit.NoMemory fails = refl
 
 -- a desk that has a text is refused from outside alone
 pub desk_from_outside : (rule : Rule) (d : DeskView) (text : List ℕ) → IsTextOf rule d text
-    → (fault : CountFault) → IsRefusedDesk d rule.options fault → IsOutsideFault (merged (Count fault))
+    → (fault : CountFault) → IsRefusedDesk d rule fault → IsOutsideFault (merged (Count fault))
 desk_from_outside rule d text written count.NoMemory refused = refl
 desk_from_outside rule d text written fault refused =
     let report : IsTold report_of rule (closed_election d) written.0 = rw refused.0 at written.2 in
-    let count = report.1 in
-    count_from_outside (closed_election d) rule.options count.0 count.1 fault refused.1
+    counted_from_outside rule (closed_election d) report.0 report.1 fault (λ unlike. refused.1)
 
 -- the desk that an audit answers to a file's election
 pub desk_of : (bytes journal : List ℕ) (e : ElectionView) (d : DeskView) → StandsFor (records_of bytes) e → IsAudited e program_room (Some journal) d

@@ -1,40 +1,43 @@
 -- The count of a shut desk, as its report.
-use Rattle.std.proofs.Common.{◌≡◌, ◌∙◌, ◌++◌, List, [], ℕ, Bool, false, true, sym, subst, refl, ap, append_assoc}
-use Rattle.std.proofs.lemmas.List.{append-nil}
+use Rattle.std.proofs.Common.{◌≡◌, ◌∙◌, ◌++◌, ◌<◌, All, List, [], ℕ, Bool, false, true, sym, subst, refl, ap, append_assoc, get_or, length}
+use Rattle.std.proofs.lemmas.List.{append-nil, length-map}
 use Rattle.std.specs.Prelude.{MatchBool}
+use Rattle.pb_core.proofs.InOrder.{nothing, those_at}
+use Rattle.pb_core.proofs.Orders.{order_known}
 use Rattle.pb_core.specs.Election.{ElectionView}
 use Rattle.pb_desk.specs.Desk.{DeskView, closed_election, standing_of}
-use Rattle.pb_reasons.specs.Counted.{CountedView, IsCountBy}
+use Rattle.pb_reasons.specs.Counted.{IsCountBy}
+use Rattle.pb_reasons.specs.CountedElection.{CountedElectionView, IsCountIn, IsCountedElection}
+use Rattle.pb_reasons.proofs.Sorted.{is_order, one_each}
 use Rattle.pb_rounds.specs.Counted.{IsCountFault}
+use Rattle.pb_rounds.specs.TieOrder.{IsSortedFor}
 use Rattle.pb_rounds.specs.declared.count_fault.CountFault.{CountFault}
 use Rattle.pb_rounds.specs.declared.count_fault.CountFault.TheVariants.{NoMemory}
-use Rattle.pb_rounds.specs.declared.options.CountOptions.{CountOptions}
 use Rattle.pb_rounds.specs.declared.rule.Rule.{Rule}
 use Rattle.pb_rows.specs.Writing.{text_of_row}
 use Rattle.pb_faults.specs.DeskRow.{entries_row}
 use Rattle.pb_commands.specs.Audited.{IsTextOf}
 use Rattle.pb_commands.specs.Inner.Audited.{IsRefusedDesk}
-use Rattle.pb_commands.specs.Inner.Counted.{IsTold}
 use Rattle.pb_commands.specs.Report.{report_of}
 
 when_true : (b : Bool) (A B : Type 0) → b ≡ true → A → MatchBool b A B
 when_true b A B is a = subst (λ (t : Bool). MatchBool t A B) (sym is) a
 
 -- the desk's row and the report of a count of its ballots are what is to be written of the desk
-pub report_of_count : (rule : Rule) (d : DeskView) (c : CountedView) → (standing_of d).is_shut ≡ true → IsCountBy rule (closed_election d) c
-    → IsTextOf rule d (text_of_row (entries_row d) ++ report_of (closed_election d) c)
-report_of_count rule d c shut is_count = (report_of (closed_election d) c, refl, when_true (standing_of d).is_shut _ _ shut (c, is_count, refl))
+pub report_of_count : (rule : Rule) (d : DeskView) (x : CountedElectionView) → (standing_of d).is_shut ≡ true → IsCountIn rule (closed_election d) x
+    → IsTextOf rule d (text_of_row (entries_row d) ++ report_of x.election x.counted)
+report_of_count rule d x shut is_count = (report_of x.election x.counted, refl, when_true (standing_of d).is_shut _ _ shut (x, is_count, refl))
 
 -- the report of a shut desk's ballots goes after the desk's row
-pub report_follows : (rule : Rule) (d : DeskView) (e : ElectionView) (c : CountedView) (before middle after : List ℕ) → (standing_of d).is_shut ≡ true
-    → e ≡ closed_election d → IsCountBy rule e c → middle ≡ before ++ text_of_row (entries_row d) → after ≡ middle ++ report_of e c
+pub report_follows : (rule : Rule) (d : DeskView) (x : CountedElectionView) (before middle after : List ℕ) → (standing_of d).is_shut ≡ true
+    → IsCountIn rule (closed_election d) x → middle ≡ before ++ text_of_row (entries_row d) → after ≡ middle ++ report_of x.election x.counted
     → (text : List ℕ) × IsTextOf rule d text × (after ≡ before ++ text)
-report_follows rule d e c before middle after shut is count row_is put =
+report_follows rule d x before middle after shut count row_is put =
     let row = text_of_row (entries_row d) in
-    let of_closed = subst (λ (x : ElectionView). IsTold report_of rule x (report_of e c)) is (c, count, refl) in (
-      row ++ report_of e c,
-      (report_of e c, refl, when_true (standing_of d).is_shut _ _ shut of_closed),
-      put ∙ ap (λ (t : List ℕ). t ++ report_of e c) row_is ∙ append_assoc before row (report_of e c),
+    let report = report_of x.election x.counted in (
+      row ++ report,
+      (report, refl, when_true (standing_of d).is_shut _ _ shut (x, count, refl)),
+      put ∙ ap (λ (t : List ℕ). t ++ report) row_is ∙ append_assoc before row report,
     )
 
 -- nothing goes after the row of an open desk
@@ -43,11 +46,30 @@ pub row_alone : (rule : Rule) (d : DeskView) (before after : List ℕ) → (stan
 row_alone rule d before after unshut is =
     let row = text_of_row (entries_row d) in
     let none : List ℕ = [] in
-    let P : Bool → Type 0 = λ t. MatchBool t (IsTold report_of rule (closed_election d) none) (none ≡ none) in
+    let P : Bool → Type 0 = λ t. MatchBool t ((x : CountedElectionView) × IsCountIn rule (closed_election d) x × (none ≡ report_of x.election x.counted)) (none ≡ none) in
     (row, (none, sym (append-nil row), subst P (sym unshut) refl), is)
 
--- what a desk comes to that a count of it refuses, or for want of memory
-pub refused_desk : (d : DeskView) (options : CountOptions) (e : ElectionView) (fault : CountFault) → (standing_of d).is_shut ≡ true → e ≡ closed_election d
-    → IsCountFault e options fault → IsRefusedDesk d options fault
-refused_desk d options e NoMemory shut is refused = tt
-refused_desk d options e fault shut is refused = (shut, subst (λ (e : ElectionView). IsCountFault e options fault) is refused)
+-- what a desk comes to that a count of it refuses
+pub refused_desk : (d : DeskView) (rule : Rule) (order : List ℕ) (e : ElectionView) (fault : CountFault) → (standing_of d).is_shut ≡ true
+    → IsSortedFor rule.ties (closed_election d) order e → IsCountFault e rule.options fault → IsRefusedDesk d rule fault
+refused_desk d rule order e NoMemory shut is_put refused = tt
+refused_desk d rule order e fault shut is_put refused = (shut, (order, e, is_put, refused))
+
+-- a sorted election has as many projects as its order has places
+pub desk_one_each : (rule : Rule) (d : DeskView) (order : List ℕ) (e : ElectionView) → IsSortedFor rule.ties (closed_election d) order e
+    → length order ≡ length e.projects
+desk_one_each rule d order e is_put =
+    let file = closed_election d in
+    let many = one_each rule.ties file order is_put.0 in
+    let known = subst (λ n. All (λ place. place < n) order) many (order_known order (is_order rule.ties file order is_put.0)) in
+    sym (ap (λ (s : ElectionView). length s.projects) is_put.1 ∙ ap length (those_at file.projects nothing order known)
+    ∙ length-map order (λ place. get_or file.projects place nothing))
+
+pub count_of_desk : (rule : Rule) (d : DeskView) (order : List ℕ) (e : ElectionView) (x : CountedElectionView) → IsCountedElection x → x.election ≡ e → x.order ≡ order
+    → x.rule ≡ rule → IsSortedFor rule.ties (closed_election d) order e → IsCountIn rule (closed_election d) x
+count_of_desk rule d order e x is election_is order_is rule_is is_put = (
+  rule_is,
+  subst (λ (o : List ℕ). IsSortedFor rule.ties (closed_election d) o x.election) (sym order_is)
+      (subst (λ (s : ElectionView). IsSortedFor rule.ties (closed_election d) order s) (sym election_is) is_put),
+  subst (λ (r : Rule). IsCountBy r x.election x.counted) rule_is (x.counted.outcome, is.is_count, is.is_filled_up),
+)

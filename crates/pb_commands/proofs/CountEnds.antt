@@ -3,12 +3,11 @@ use Rattle.std.proofs.Common.{◌≡◌, ◌≢◌, ◌∙◌, ℕ, List, Option
 use Rattle.std.specs.Prelude.{IfSome}
 use Rattle.pb_core.specs.Election.{ElectionView}
 use Rattle.pb_read.specs.declared.warning.Warning.{Warning}
-use Rattle.pb_rounds.specs.Counted.{IsCountFault, IsCountOf}
-use Rattle.pb_rounds.specs.Outcome.{OutcomeView}
+use Rattle.pb_reasons.specs.CountedElection.{CountedElectionView, IsCountIn, IsFaultIn}
 use Rattle.pb_rounds.specs.declared.count_fault.CountFault.{CountFault}
 use Rattle.pb_rounds.specs.declared.count_fault.CountFault.TheVariants as count
-use Rattle.pb_rounds.specs.declared.options.CountOptions.{CountOptions}
-use Rattle.pb_commands.proofs.Accepted.{count_again, count_from_outside}
+use Rattle.pb_rounds.specs.declared.rule.Rule.{Rule}
+use Rattle.pb_commands.proofs.Accepted.{count_again, counted_from_outside}
 use Rattle.pb_commands.proofs.Endings.{Bars, FailsAs, IsElectionFile, IsLate, given_end, known_map, late_end, passed_on}
 use Rattle.pb_commands.proofs.InputEnds.{file_of, one_left}
 use Rattle.pb_commands.specs.Closed.{CountRefuses, Gives, Leaves, LeavesNone}
@@ -35,40 +34,46 @@ count_of_any count.NoMemory is = cc
 count_of_any fault is = cc
 
 -- what refuses an election before its count refuses its count
-pub none_counted : (options : CountOptions) (bytes : List ℕ) (journal : Option (List ℕ)) (e : ElectionView) (fault : AppFault) → LeavesNone bytes journal e fault → CountRefuses options bytes journal e fault
-none_counted options bytes None e (Count fault) refused = absurd refused
-none_counted options bytes (Some rows) e (Count fault) refused = absurd refused
-none_counted options bytes journal e fault refused = refused
+pub none_counted : (rule : Rule) (bytes : List ℕ) (journal : Option (List ℕ)) (e : ElectionView) (fault : AppFault) → LeavesNone bytes journal e fault → CountRefuses rule bytes journal e fault
+none_counted rule bytes None e (Count fault) refused = absurd refused
+none_counted rule bytes (Some rows) e (Count fault) refused = absurd refused
+none_counted rule bytes journal e fault refused = refused
 
--- the outcome of the count of the election that is left
-abbrev pub Outcomes : CountOptions → List ℕ → Option (List ℕ) → OutcomeView → Type 0
-Outcomes options = Gives (λ e. IsCountOf e options)
+-- a count of the election that is left
+abbrev pub Outcomes : Rule → List ℕ → Option (List ℕ) → CountedElectionView → Type 0
+Outcomes rule = Gives (IsCountIn rule)
+
+abbrev IsRefusal : Rule → ElectionView → CountFault → Type 0
+IsRefusal rule e fault = fault ≢ count.NoMemory → IsFaultIn rule e fault
 
 -- the count of an election that is left, refused
-module _ (options : CountOptions) (files : Option (List ℕ)) (journals : Option (Option (List ℕ))) (warning : Option Warning) where
-  count_fails : (e : ElectionView) (fault : CountFault) (bytes : List ℕ) (journal : Option (List ℕ)) → IsCountFault e options fault → Leaves bytes journal e
-      → FailsAs (Outcomes options) (CountRefuses options) (merged (Count fault)) bytes journal
+module _ (rule : Rule) (files : Option (List ℕ)) (journals : Option (Option (List ℕ))) (warning : Option Warning) where
+  count_fails : (e : ElectionView) (fault : CountFault) (bytes : List ℕ) (journal : Option (List ℕ)) → IsRefusal rule e fault → Leaves bytes journal e
+      → FailsAs (Outcomes rule) (CountRefuses rule) (merged (Count fault)) bytes journal
   count_fails e count.NoMemory bytes journal refused leaves = tt
-  count_fails e fault bytes journal refused leaves = let file = file_of bytes journal e leaves in (file.0, file.1, (e, leaves, refused))
+  count_fails e count.WorkerCount bytes journal refused leaves = let file = file_of bytes journal e leaves in (file.0, file.1, (e, leaves, refused (λ is. cc)))
+  count_fails e count.StepRange bytes journal refused leaves = let file = file_of bytes journal e leaves in (file.0, file.1, (e, leaves, refused (λ is. cc)))
+  count_fails e count.RaisesRange bytes journal refused leaves = let file = file_of bytes journal e leaves in (file.0, file.1, (e, leaves, refused (λ is. cc)))
+  count_fails e count.RaisesSpent bytes journal refused leaves = let file = file_of bytes journal e leaves in (file.0, file.1, (e, leaves, refused (λ is. cc)))
 
-  count_bars : (e : ElectionView) (fault : CountFault) (bytes : List ℕ) (journal : Option (List ℕ)) → IsCountFault e options fault → Leaves bytes journal e
-      → (o : OutcomeView) → Outcomes options bytes journal o → IsOutsideFault (merged (Count fault))
-  count_bars e fault bytes journal refused leaves o counts =
-      let is_count = subst (λ (e : ElectionView). IsCountOf e options o) (one_left bytes journal counts.0 e counts.1 leaves) counts.2 in
-      count_from_outside e options o is_count fault refused
+  count_bars : (e : ElectionView) (fault : CountFault) (bytes : List ℕ) (journal : Option (List ℕ)) → IsRefusal rule e fault → Leaves bytes journal e
+      → (x : CountedElectionView) → Outcomes rule bytes journal x → IsOutsideFault (merged (Count fault))
+  count_bars e fault bytes journal refused leaves x counts =
+      let is_count = subst (λ (e : ElectionView). IsCountIn rule e x) (one_left bytes journal counts.0 e counts.1 leaves) counts.2 in
+      counted_from_outside rule e x is_count fault refused
 
-  pub count_ends : {T : Type 0} (e : ElectionView) (app : AppFault) (fault : CountFault) → app ≡ merged (Count fault) → IsCountFault e options fault
+  pub count_ends : {T : Type 0} (e : ElectionView) (app : AppFault) (fault : CountFault) → app ≡ merged (Count fault) → IsRefusal rule e fault
       → IfBothKnown files journals (λ bytes journal. Leaves bytes journal e) → IfSome files (λ bytes. IsElectionFile bytes) → warning ≡ None
-      → Ends {T = T} (Outcomes options) (CountRefuses options) files journals warning (Err app)
+      → Ends {T = T} (Outcomes rule) (CountRefuses rule) files journals warning (Err app)
   count_ends {T = T} e app fault is refused leaves file none =
-      given_end (Outcomes options) (CountRefuses options) files journals warning (Err app) (merged (Count fault)) is
-      (late_end (Outcomes options) (CountRefuses options) files journals warning (merged (Count fault)) (count_late fault) (count_again fault) file none
-      (known_map (λ bytes journal. Leaves bytes journal e) (FailsAs (Outcomes options) (CountRefuses options) (merged (Count fault))) files journals (λ bytes journal leaves. count_fails e fault bytes journal refused leaves) leaves)
-      (known_map (λ bytes journal. Leaves bytes journal e) (Bars (Outcomes options) (CountRefuses options) (merged (Count fault))) files journals (λ bytes journal leaves. count_bars e fault bytes journal refused leaves) leaves))
+      given_end (Outcomes rule) (CountRefuses rule) files journals warning (Err app) (merged (Count fault)) is
+      (late_end (Outcomes rule) (CountRefuses rule) files journals warning (merged (Count fault)) (count_late fault) (count_again fault) file none
+      (known_map (λ bytes journal. Leaves bytes journal e) (FailsAs (Outcomes rule) (CountRefuses rule) (merged (Count fault))) files journals (λ bytes journal leaves. count_fails e fault bytes journal refused leaves) leaves)
+      (known_map (λ bytes journal. Leaves bytes journal e) (Bars (Outcomes rule) (CountRefuses rule) (merged (Count fault))) files journals (λ bytes journal leaves. count_bars e fault bytes journal refused leaves) leaves))
 
   -- what is read is refused
   pub inputs_pass : {T A : Type 0} (fault : AppFault) → fault ≢ Write → Ends {T = T} Leaves LeavesNone files journals warning (Err fault)
-      → Ends {T = A} (Outcomes options) (CountRefuses options) files journals warning (Err fault)
+      → Ends {T = A} (Outcomes rule) (CountRefuses rule) files journals warning (Err fault)
   inputs_pass fault reads ends =
-      passed_on (λ (journal : Option (List ℕ)). journal) Leaves LeavesNone (Outcomes options) (CountRefuses options) files journals journals warning fault (λ journal is. is)
-      (λ bytes journal e refused. none_counted options bytes journal e fault refused) (λ bytes journal o counts. (counts.0, counts.1)) reads ends
+      passed_on (λ (journal : Option (List ℕ)). journal) Leaves LeavesNone (Outcomes rule) (CountRefuses rule) files journals journals warning fault (λ journal is. is)
+      (λ bytes journal e refused. none_counted rule bytes journal e fault refused) (λ bytes journal x counts. (counts.0, counts.1)) reads ends

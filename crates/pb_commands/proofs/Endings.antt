@@ -1,5 +1,6 @@
 -- How what reads a file ends, from the ends of its parts.
-use Rattle.std.proofs.Common.{◌≡◌, ◌≢◌, ℕ, List, Option, Some, None, Ok, Err, refl, sym, subst}
+use Rattle.std.proofs.Common.{◌≡◌, ◌≢◌, ℕ, List, Option, Some, None, Ok, Err, refl, sym, subst, take}
+use Rattle.std.proofs.KnownBytes.{Appends-nil}
 use Rattle.std.specs.Io.KnownBytes.{Appends}
 use Rattle.std.specs.Option.{option_map}
 use Rattle.std.specs.Prelude.{IfErr, IfSome, IsErrAnd, OnOk, Result, ⊤}
@@ -8,7 +9,7 @@ use Rattle.pb_read.specs.StandsFor.{StandsFor}
 use Rattle.pb_read.specs.declared.warning.Warning.{Warning}
 use Rattle.pb_rows.specs.Reading.{records_of}
 use Rattle.pb_commands.specs.Ends.{Ends, IfBothKnown, Judges, Runs}
-use Rattle.pb_commands.specs.Inner.Written.{HasWritten}
+use Rattle.pb_commands.specs.Inner.Written.{HasBegun, HasWritten}
 use Rattle.pb_commands.specs.Inner.Outside.{IsOutsideFault}
 use Rattle.pb_faults.specs.Fault.{merged}
 use Rattle.pb_faults.specs.declared.fault.AppFault.{AppFault}
@@ -159,7 +160,13 @@ module _ {X W : Type 0} (IsText : List ℕ → X → List ℕ → Type 0) (Refus
     (files : Option (List ℕ)) (beside : Option X) (warning : Option Warning) (contents : W → Option (List ℕ)) (old : W) where
   -- a fault before anything is written
   pub run_ended : (fault : AppFault) → Ends {T = Unit {0}} IsText Refuses files beside warning (Err fault) → Runs IsText Refuses files beside warning contents old old (Err fault)
-  run_ended fault ends = record { writes = tt; unchanged = λ _. refl; ends = ends }
+  run_ended fault ends = record { writes = tt; unchanged = λ _. refl; front = front; ends = ends }
+    where
+      front : fault ≡ Write → IfBothKnown files beside (λ bytes x. HasBegun (IsText bytes x) (contents old) (contents old))
+      front is =
+          let gives = subst (λ fault. Judges {T = Unit {0}} IsText Refuses files beside warning (Err fault)) is ends.judges in
+          known_map (λ bytes x. (text : List ℕ) × IsText bytes x text) (λ bytes x. HasBegun (IsText bytes x) (contents old) (contents old)) files beside
+          (λ bytes x (text, told). (text, 0, told, Appends-nil (contents old))) gives.1
 
   pub run_given : (r : Result (Unit {0}) AppFault) (fault : AppFault) → IsErrAnd r (λ app. app ≡ fault) → Ends {T = Unit {0}} IsText Refuses files beside warning (Err fault)
       → Runs IsText Refuses files beside warning contents old old r
@@ -168,16 +175,20 @@ module _ {X W : Type 0} (IsText : List ℕ → X → List ℕ → Type 0) (Refus
 
   -- the writer's turn
   pub run_written : (new : W) (text : List ℕ) (r : Result (Unit {0}) AppFault) → OnOk r (Appends (contents old) (contents new) text) → IfErr r (λ fault. fault ≡ Write)
+      → IfErr r (λ fault. (n : ℕ) × Appends (contents old) (contents new) (take n text))
       → IfSome files (λ bytes. IsElectionFile bytes) → warning ≡ None → IfBothKnown files beside (λ bytes x. IsText bytes x text)
       → Runs IsText Refuses files beside warning contents old new r
-  run_written new text (Ok done) appends is file none told = record {
+  run_written new text (Ok done) appends is front file none told = record {
     writes = known_map (λ bytes x. IsText bytes x text) (λ bytes x. HasWritten (IsText bytes x) (contents old) (contents new)) files beside (λ bytes x told. (text, told, appends)) told;
     unchanged = tt;
+    front = tt;
     ends = given IsText Refuses files beside warning done file none;
   }
-  run_written new text (Err fault) appends is file none told = record {
+  run_written new text (Err fault) appends is front file none told = record {
     writes = tt;
     unchanged = λ other. absurd (other is);
+    front = λ _. known_map (λ bytes x. IsText bytes x text) (λ bytes x. HasBegun (IsText bytes x) (contents old) (contents new)) files beside
+        (λ bytes x told. (text, front.0, told, front.1)) told;
     ends = subst (λ fault. Ends {T = Unit {0}} IsText Refuses files beside warning (Err fault)) (sym is)
         (late_end IsText Refuses files beside warning Write tt refl file none
         (known_map (λ bytes x. IsText bytes x text) (FailsAs IsText Refuses Write) files beside (λ bytes x told. (text, told)) told)

@@ -13,6 +13,7 @@ pub mod DeskRuns
 pub mod Recounts
 pub mod TablesTell
 pub mod TableColumns
+pub mod PaymentsInFile
 pub mod PaymentsText
 pub mod CheckWritten
 pub mod CheckedAgainst
@@ -25,3 +26,4 @@ pub mod BallotRows
 pub mod IdsText
 mod Exports
 pub mod WhatIfRows
+pub mod TiesEnds

@@ -1,18 +1,18 @@
 -- Tables by their columns.
-use Rattle.std.proofs.Common.{◌≡◌, ◌∙◌, ◌+◌, ◌++◌, ◌<◌, ℕ, List, [], ◌∷◌, ap, append-nil, arith, Bool, cond, decimal, drop, false, get_or, length, map, refl, sym, take, true}
-use Rattle.std.specs.Prelude.{filter, if◌then◌else◌, slice_index_or}
-use Rattle.std.specs.List.{range_with_len}
+use Rattle.std.proofs.Common.{◌≡◌, ◌∙◌, ◌+◌, ◌++◌, ◌<◌, ℕ, List, [], ◌∷◌, ap, append-nil, arith, Bool, cond, decimal, drop, false, get_or, length, map, refl, subst, sym, take, true}
+use Rattle.std.specs.Prelude.{◌==◌, All, codes, filter, flat_map, if◌then◌else◌, slice_index, slice_index_or}
+use Rattle.std.specs.List.{join_with_byte, range_with_len}
+use Rattle.pb_core.specs.Order.{position_in}
 use Rattle.std.proofs.lemmas.List.FromFn.{map-range_with_len_more}
 use Rattle.std.proofs.lemmas.List.{get_or-map, map-append}
 use Rattle.std.proofs.lemmas.List.Elements.{filter-append}
-use Rattle.pb_price.proofs.BuiltLists.{range_with_len_more}
 use Rattle.pb_core.specs.Election.{ElectionView, ProjectView, VoterView}
 use Rattle.pb_core.specs.MoneyText.{money_text}
 use Rattle.pb_price.specs.Supporters.{support_of}
 use Rattle.pb_reasons.proofs.WinnerSums.{cost_at-known}
 use Rattle.pb_reasons.specs.BesideVotes.{elected_by_votes}
 use Rattle.pb_reasons.specs.Counted.{winners_of}
-use Rattle.pb_reasons.specs.CountedElection.{CountedElectionView}
+use Rattle.pb_reasons.specs.CountedElection.{CountedElectionView, IsCountedElection}
 use Rattle.pb_reasons.specs.Fairness.{needed, spent}
 use Rattle.pb_reasons.specs.Reasons.{project_reason, voter_payments, voter_reason}
 use Rattle.pb_reasons.specs.declared.payment.Payment.{Payment}
@@ -28,7 +28,8 @@ use Rattle.pb_rows.specs.declared.field.Field.TheVariants.{Amount, Number}
 use Rattle.pb_rows.specs.Writing.{text_of_row, text_of_rows}
 use Rattle.pb_commands.proofs.ReportSums.{id_at-known}
 use Rattle.pb_commands.proofs.RowsGrown.{none_grown, row_grown, rows_grown}
-use Rattle.pb_commands.specs.Inner.Tables.{all_columns, payments_text, row_of}
+use Rattle.pb_commands.proofs.PaymentsInFile.{payments_known, texts_in_file}
+use Rattle.pb_commands.specs.Inner.Tables.{all_columns, payments_in_file, payments_text, row_of}
 use Rattle.pb_commands.specs.Tables.{columns_of}
 use Rattle.pb_commands.specs.declared.table.Table.TheVariants.{Fairness, Projects, RuledProjects, Voters}
 
@@ -53,7 +54,7 @@ module _ {X : Type 0} (columns : List (Column X)) where
       row_grown (map (λ c. c.0) columns ∷ map (row_of columns) xs) (row_of columns x) old before after so_far put
       ∙ ap (λ (rows : List Fields). old ++ text_of_rows (map (λ c. c.0) columns ∷ rows)) (sym (map-append (row_of columns) xs (x ∷ [])))
 
--- the row of one place more
+-- the row of one position more
 pub place_put : (columns : List (Column ℕ)) (n : ℕ) (old before after : List ℕ) → before ≡ old ++ table_text columns (range_with_len 0 n)
     → after ≡ before ++ text_of_row (row_of columns n) → after ≡ old ++ table_text columns (range_with_len 0 (n + 1))
 unfolding table_text
@@ -61,23 +62,30 @@ place_put columns n old before after so_far put =
     row_grown (map (λ c. c.0) columns ∷ map (row_of columns) (range_with_len 0 n)) (row_of columns n) old before after so_far put
     ∙ ap (λ (rows : List Fields). old ++ text_of_rows (map (λ c. c.0) columns ∷ rows)) (sym (map-range_with_len_more (row_of columns) 0 n n (omega arith)))
 
--- the row of one place more, where it passes a test
-module _ (columns : List (Column ℕ)) (test : ℕ → Bool) (n : ℕ) (old before : List ℕ)
-    (so_far : before ≡ old ++ table_text columns (filter test (range_with_len 0 n))) where
-  one_more : filter test (range_with_len 0 (n + 1)) ≡ filter test (range_with_len 0 n) ++ cond (test n) (n ∷ []) []
-  one_more = ap (filter test) (range_with_len_more n) ∙ filter-append test (range_with_len 0 n) (n ∷ [])
+-- the row of one project more, as they stand in the file
+pub file_place_put : (columns : List (Column ℕ)) (at : ℕ → ℕ) (n : ℕ) (old before after : List ℕ) → before ≡ old ++ table_text columns (map at (range_with_len 0 n))
+    → after ≡ before ++ text_of_row (row_of columns (at n)) → after ≡ old ++ table_text columns (map at (range_with_len 0 (n + 1)))
+file_place_put columns at n old before after so_far put =
+    row_put columns (map at (range_with_len 0 n)) (at n) old before after so_far put
+    ∙ ap (λ xs. old ++ table_text columns xs) (sym (map-range_with_len_more at 0 n n (omega arith)))
 
-  pub passing_put : test n ≡ true → (after : List ℕ) → after ≡ before ++ text_of_row (row_of columns n)
-      → after ≡ old ++ table_text columns (filter test (range_with_len 0 (n + 1)))
+-- where it passes a test
+module _ (columns : List (Column ℕ)) (test : ℕ → Bool) (at : ℕ → ℕ) (n : ℕ) (old before : List ℕ)
+    (so_far : before ≡ old ++ table_text columns (filter test (map at (range_with_len 0 n)))) where
+  one_more : filter test (map at (range_with_len 0 (n + 1))) ≡ filter test (map at (range_with_len 0 n)) ++ cond (test (at n)) (at n ∷ []) []
+  one_more = ap (filter test) (map-range_with_len_more at 0 n n (omega arith)) ∙ filter-append test (map at (range_with_len 0 n)) (at n ∷ [])
+
+  pub passing_put : test (at n) ≡ true → (after : List ℕ) → after ≡ before ++ text_of_row (row_of columns (at n))
+      → after ≡ old ++ table_text columns (filter test (map at (range_with_len 0 (n + 1))))
   passing_put passes after put =
-      row_put columns (filter test (range_with_len 0 n)) n old before after so_far put
-      ∙ ap (λ xs. old ++ table_text columns xs) (sym (one_more ∙ ap (λ b. filter test (range_with_len 0 n) ++ cond b (n ∷ []) []) passes))
+      row_put columns (filter test (map at (range_with_len 0 n))) (at n) old before after so_far put
+      ∙ ap (λ xs. old ++ table_text columns xs) (sym (one_more ∙ ap (λ b. filter test (map at (range_with_len 0 n)) ++ cond b (at n ∷ []) []) passes))
 
-  pub failing_kept : test n ≡ false → before ≡ old ++ table_text columns (filter test (range_with_len 0 (n + 1)))
+  pub failing_kept : test (at n) ≡ false → before ≡ old ++ table_text columns (filter test (map at (range_with_len 0 (n + 1))))
   failing_kept fails =
       so_far
       ∙ ap (λ xs. old ++ table_text columns xs)
-      (sym (one_more ∙ ap (λ b. filter test (range_with_len 0 n) ++ cond b (n ∷ []) []) fails ∙ append-nil (filter test (range_with_len 0 n))))
+      (sym (one_more ∙ ap (λ b. filter test (map at (range_with_len 0 n)) ++ cond b (at n ∷ []) []) fails ∙ append-nil (filter test (map at (range_with_len 0 n)))))
 
 pub name_at-known : (e : ElectionView) (place : ℕ) (p : ProjectView) → place < length e.projects → p ≡ get_or e.projects place p
     → slice_index_or (map (λ q. q.name) e.projects) place [] ≡ p.name
@@ -101,7 +109,7 @@ names_taken x width is = ap (λ n. take n (map (λ k. k.0) (all_columns x))) (is
 
 -- the row of a project, as it is written
 pub project_row_read : (x : CountedElectionView) (place : ℕ) (p : ProjectView) → place < length x.election.projects → p ≡ get_or x.election.projects place p
-    → (number cost votes : Field) → number ≡ Number place → cost ≡ Amount p.cost → votes ≡ Number (project_reason x.election x.counted place).votes
+    → (number cost votes : Field) → number ≡ Number (slice_index x.order place) → cost ≡ Amount p.cost → votes ≡ Number (project_reason x.election x.counted place).votes
     → (id name : List ℕ) → id ≡ p.id → name ≡ p.name → (more : Fields) → more ≡ drop 5 (row_of (all_columns x) place)
     → (width : ℕ) → width ≡ length (columns_of Projects x)
     → take width (field_text number ∷ id ∷ name ∷ field_text cost ∷ field_text votes ∷ more) ≡ row_of (columns_of Projects x) place
@@ -112,7 +120,7 @@ project_row_read x place p known is number cost votes number_is cost_is votes_is
 
 -- the row of a project by both rules, as it is written
 pub ruled_row_read : (x : CountedElectionView) (place : ℕ) (p : ProjectView) → place < length x.election.projects → p ≡ get_or x.election.projects place p
-    → (number cost wins otherwise : Field) → number ≡ Number place → cost ≡ Amount p.cost → wins ≡ Number (if is_taken (winners_of x.counted) place then 1 else 0)
+    → (number cost wins otherwise : Field) → number ≡ Number (slice_index x.order place) → cost ≡ Amount p.cost → wins ≡ Number (if is_taken (winners_of x.counted) place then 1 else 0)
     → otherwise ≡ Number (if is_taken (elected_by_votes x.election) place then 1 else 0) → (id name : List ℕ) → id ≡ p.id → name ≡ p.name
     → (votes : ℕ) → votes ≡ votes_at (support_of x.election) place
     → field_text number ∷ id ∷ name ∷ field_text cost ∷ decimal votes ∷ field_text wins ∷ field_text otherwise ∷ [] ≡ row_of (columns_of RuledProjects x) place
@@ -129,8 +137,14 @@ loser_row_read x place p known is id id_is votes votes_is share need share_is ne
     rw (id_is, votes_is, share_is, need_is, most_is, ← id_at-known x.election place p known is) refl
 
 -- the row of a voter, as it is written
-pub voter_row_read : (x : CountedElectionView) (voter : ℕ) (v : VoterView) → voter < length x.election.voters → v ≡ get_or x.election.voters voter v
-    → (id : List ℕ) → id ≡ v.id → (r : VoterReason) → r ≡ voter_reason x.election x.counted voter → (payments : List Payment) → payments ≡ voter_payments x.election x.counted.outcome voter
+pub voter_row_read : (x : CountedElectionView) (voter : ℕ) (v : VoterView) → IsCountedElection x → voter < length x.election.voters → v ≡ get_or x.election.voters voter v
+    → (id : List ℕ) → id ≡ v.id → (r : VoterReason) → r ≡ voter_reason x.election x.counted voter → (payments : List Payment) → payments ≡ payments_in_file x.order (voter_payments x.election x.counted.outcome voter)
     → id ∷ decimal r.votes ∷ decimal r.elected ∷ money_text r.paid ∷ money_text r.left ∷ payments_text payments ∷ [] ≡ row_of (columns_of Voters x) voter
-voter_row_read x voter v known is id id_is r r_is payments payments_is =
-    rw (r_is, payments_is, id_is ∙ ap (λ (u : VoterView). u.id) is ∙ sym (get_or-map (λ (u : VoterView). u.id) x.election.voters voter v [] known)) refl
+voter_row_read x voter v counted known is id id_is r r_is payments payments_is =
+    let own = voter_payments x.election x.counted.outcome voter in
+    let below = subst (λ many. All (λ (p : Payment). p.place < many) own) (sym counted.one_each) (payments_known x.election x.counted.outcome voter counted.is_election known) in
+    let texts = texts_in_file x.order counted.is_order own below
+    ∙ ap (λ many. join_with_byte 44 (map (λ (p : Payment). decimal (slice_index x.order p.place) ++ (codes ":" ++ money_text p.amount))
+    (flat_map (λ place. filter (λ p. p.place == place) own) (map (position_in x.order) (range_with_len 0 many))))) counted.one_each in
+    ap (λ (t : List ℕ). id ∷ decimal r.votes ∷ decimal r.elected ∷ money_text r.paid ∷ money_text r.left ∷ t ∷ []) (ap payments_text payments_is ∙ texts)
+    ∙ rw (r_is, id_is ∙ ap (λ (u : VoterView). u.id) is ∙ sym (get_or-map (λ (u : VoterView). u.id) x.election.voters voter v [] known)) refl

@@ -3,7 +3,7 @@ use Rattle.std.specs.Prelude.{◌≡◌, ℕ, ◌++◌, MatchBool, List, [], Som
 use Rattle.pb_desk.specs.Audit.{IsAudited}
 use Rattle.pb_desk.specs.Desk.{DeskView, closed_election, standing_of}
 use Rattle.pb_read.specs.StandsFor.{StandsFor}
-use Rattle.pb_reasons.specs.Counted.{CountedView, IsCountBy}
+use Rattle.pb_reasons.specs.CountedElection.{CountedElectionView, IsCountIn}
 use Rattle.pb_rounds.specs.declared.rule.Rule.{Rule}
 use Rattle.pb_rows.specs.Reading.{records_of}
 use Rattle.pb_rows.specs.Writing.{text_of_row}
@@ -19,18 +19,14 @@ pub record IsDeskOf (bytes journal : List ℕ) (d : DeskView) : Type 0 where
   pub stands : StandsFor (records_of bytes) d.opening.election
   pub audited : IsAudited d.opening.election program_room (Some journal) d
 
--- what is given is such a one of the desk of these bytes: a text, a fault
-abbrev pub OfDesk : {X : Type 0} → (DeskView → X → Type 0) → List ℕ → List ℕ → X → Type 0
-OfDesk IsSuch bytes journal x = (d : DeskView) × IsDeskOf bytes journal d × IsSuch d x
-
 -- what is written of a desk: its row, and then, where it is shut, the report of the ballots that its journal
 -- leaves
 abbrev pub IsTextOf : Rule → DeskView → List ℕ → Type 0
 IsTextOf rule d text = (report : List ℕ) × (text ≡ text_of_row (entries_row d) ++ report)
     × MatchBool (standing_of d).is_shut
-    ((c : CountedView) × IsCountBy rule (closed_election d) c × (report ≡ report_of (closed_election d) c)) (report ≡ [])
+    ((x : CountedElectionView) × IsCountIn rule (closed_election d) x × (report ≡ report_of x.election x.counted)) (report ≡ [])
 
 -- what these bytes make a run of `audit` write: of a shut desk, where one is demanded
 abbrev pub AuditWrites : Demand → Rule → List ℕ → List ℕ → List ℕ → Type 0
-AuditWrites demand rule =
-    OfDesk (λ d text. (demand ≡ Shut → (standing_of d).is_shut ≡ true) × IsTextOf rule d text)
+AuditWrites demand rule bytes journal text = (d : DeskView) × IsDeskOf bytes journal d
+    × ((demand ≡ Shut → (standing_of d).is_shut ≡ true) × IsTextOf rule d text)

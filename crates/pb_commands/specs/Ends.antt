@@ -1,5 +1,5 @@
 -- How a run of a command ends.
-use Rattle.std.specs.Prelude.{◌≡◌, ◌≢◌, ℕ, ⊤, List, IfErr, IfSome, OnOk, Option, Some, None, Result, Ok, Err}
+use Rattle.std.specs.Prelude.{◌≡◌, ◌≢◌, ℕ, ⊤, List, IfErr, IfSome, OnOk, Option, Some, None, Result, Ok, Err, take}
 use Rattle.std.specs.Io.KnownBytes.{Appends}
 use Rattle.std.specs.Option.{option_map, option_map_or}
 use Rattle.pb_core.specs.Election.{ElectionView}
@@ -57,10 +57,13 @@ module _ {X Y T : Type 0} (Gives : List ℕ → X → Y → Type 0) (Refuses : L
 -- How a run ends that writes such a text.
 -- `writes`: it wrote the text alone, and the bytes decide which.
 -- `unchanged`: a fault writes nothing, unless it is the writer's.
+-- `front`: where the writer fails, what it wrote is the front of such a text.
 pub record Runs {X W : Type 0} (IsText : List ℕ → X → List ℕ → Type 0) (Refuses : List ℕ → X → ElectionView → AppFault → Type 0)
     (file : Option (List ℕ)) (beside : Option X) (warning : Option Warning) (contents : W → Option (List ℕ)) (old new : W)
     (result : Result (Unit {0}) AppFault) : Type 0 where
   pub writes : OnOk result (IfBothKnown file beside (λ bytes x. (text : List ℕ) × IsText bytes x text
       × Appends (contents old) (contents new) text))
   pub unchanged : IfErr result (λ fault. fault ≢ Write → new ≡ old)
+  pub front : IfErr result (λ fault. fault ≡ Write → IfBothKnown file beside (λ bytes x. (text : List ℕ) × (n : ℕ)
+      × IsText bytes x text × Appends (contents old) (contents new) (take n text)))
   pub ends : Ends IsText Refuses file beside warning result

@@ -11,4 +11,5 @@ pub mod Exported
 pub mod History
 pub mod WhatIf
 pub mod Losers
+pub mod AllTies
 pub mod Inner

@@ -5,10 +5,10 @@ use Rattle.pb_core.specs.Election.{ElectionView, project_ids}
 use Rattle.pb_core.specs.MoneyText.{money_text}
 use Rattle.pb_core.specs.Numbered.{numbered}
 use Rattle.pb_price.specs.Supporters.{cost_at, support_of}
-use Rattle.pb_rounds.specs.Counted.{IsCountFault}
+use Rattle.pb_reasons.specs.CountedElection.{IsFaultIn}
 use Rattle.pb_rounds.specs.CountFault.{refusal_of}
 use Rattle.pb_rounds.specs.declared.count_fault.CountFault.TheVariants.{NoMemory}
-use Rattle.pb_rounds.specs.declared.options.CountOptions.{CountOptions}
+use Rattle.pb_rounds.specs.declared.rule.Rule.{Rule}
 use Rattle.pb_rows.specs.Tables.{Column, table_text}
 use Rattle.pb_commands.specs.declared.what_if_rows.Changes.{Changes}
 use Rattle.pb_commands.specs.declared.what_if_rows.TheConstants.{VERDICTS}
@@ -50,10 +50,10 @@ IsWhatIfText e q (One change value) text = (row : Row) × (row.value ≡ value) 
 
 -- when each fault comes, out of memory aside: no project has the id; the count of the election is refused, or
 -- the options are out of their ranges; the election can't be changed so, and to this value at most
-abbrev pub WhatIfRefuses : ElectionView → CountOptions → (id : List ℕ) → Changes → WhatIfFault → Type 0
-WhatIfRefuses e options id changes NoProject = ¬ Contains (project_ids e) id
-WhatIfRefuses e options id Searched (Count fault) = fault ≢ NoMemory → IsCountFault e options fault
-WhatIfRefuses e options id Searched (OutOfRange most) = ⊥
-WhatIfRefuses e options id (One change value) (Count fault) = fault ≢ NoMemory → refusal_of options ≡ Some fault
-WhatIfRefuses e options id (One change value) (OutOfRange most) =
+abbrev pub WhatIfRefuses : ElectionView → Rule → (id : List ℕ) → Changes → WhatIfFault → Type 0
+WhatIfRefuses e rule id changes NoProject = ¬ Contains (project_ids e) id
+WhatIfRefuses e rule id Searched (Count fault) = fault ≢ NoMemory → IsFaultIn rule e fault
+WhatIfRefuses e rule id Searched (OutOfRange most) = ⊥
+WhatIfRefuses e rule id (One change value) (Count fault) = fault ≢ NoMemory → refusal_of rule.options ≡ Some fault
+WhatIfRefuses e rule id (One change value) (OutOfRange most) =
     (¬ CanBe (seen e) change value) × CanBe (seen e) change most × (¬ CanBe (seen e) change (most + 1))

@@ -2,8 +2,8 @@
 
 ghost use Rattle.std.specs.Prelude.{◌≡◌, ◌≢◌, IfErr, IfOk};
 ghost use Rattle.pb_faults.specs.Fault.{merged};
-ghost use Rattle.pb_reasons.specs.CountedElection.{IsCountedElection};
-ghost use Rattle.pb_rounds.specs.Counted.{IsCountFault, IsCountOf};
+ghost use Rattle.pb_reasons.specs.CountedElection.{IsCountIn, IsCountedElection, IsFaultIn};
+ghost use Rattle.pb_core.specs.Election.{ElectionView, IsElection};
 ghost use Rattle.pb_commands.specs.Closed.{CountRefuses, Gives, Leaves};
 ghost use Rattle.pb_commands.specs.Ends.{Ends, IfBothKnown, known};
 
@@ -16,6 +16,7 @@ use pb_reasons::CountedElection;
 use pb_rounds::count::count_watched;
 use pb_rounds::count_fault::CountFault;
 use pb_rounds::rule::Rule;
+use pb_rounds::tie_order::put_in_tie_order;
 use std::alloc::Global;
 use std::io::Read;
 use std::thread::Threads;
@@ -39,11 +40,12 @@ pub fn count_inputs<T: Threads + Sync, P: Read + Drop, J: Read + Drop, G: Gate, 
     inputs: Inputs<P, J>,
     watch: &mut H,
 ) -> Result<CountedElection, AppFault>
-    ensures left { IfOk result (λ x. IfBothKnown (P.remaining inputs.file) (known J.remaining inputs.journal)
-        (λ bytes journal. Leaves bytes journal x.election)) }
-    ensures counted { IfOk result (λ x. IsCountedElection x × (x.rule ≡ counting.now.rule.now)) }
-    ensures ends { Ends (Gives (λ e. IsCountOf e counting.now.rule.now.options))
-        (CountRefuses counting.now.rule.now.options) (P.remaining inputs.file)
+    ensures counted { IfOk result IsCountedElection }
+    ensures given { IfOk result (λ x. (e : ElectionView) × IsElection e × IsCountIn counting.now.rule.now e x
+        × IfBothKnown (P.remaining inputs.file) (known J.remaining inputs.journal)
+        (λ bytes journal. Leaves bytes journal e)) }
+    ensures ends { Ends (Gives (IsCountIn counting.now.rule.now))
+        (CountRefuses counting.now.rule.now) (P.remaining inputs.file)
         (known J.remaining inputs.journal) (H.refused_for watch.new) result }
     ensures reads { IfErr result (λ fault. fault ≢ AppFault.Write) }
 {
@@ -69,19 +71,32 @@ pub(crate) fn counted<T: Threads + Sync, G: Gate>(
     counting: &Counting<T, G>,
     election: Election,
 ) -> Result<CountedElection, CountFault>
-    ensures election { IfOk result (λ x. x.election ≡ election) }
-    ensures counted { IfOk result (λ x. IsCountedElection x × (x.rule ≡ counting.now.rule.now)) }
-    ensures fault { IfErr result (IsCountFault election counting.now.rule.now.options) }
+    ensures counted { IfOk result IsCountedElection }
+    ensures given { IfOk result (IsCountIn counting.now.rule.now election) }
+    ensures is_election { IsElection election }
+    ensures fault { IfErr result (λ fault. fault ≢ CountFault.NoMemory
+        → IsFaultIn counting.now.rule.now election fault) }
 {
     let (rt, alloc, rule) = (counting.rt, counting.alloc, counting.rule);
+    // What is true of every election holds of this one.
+    let _projects = election.projects();
+    let mut election = election;
+    let order = match put_in_tie_order(alloc, &mut election, &rule.ties) {
+        Ok(order) => order,
+        Err(_) => {
+            drop(election);
+            return Err(CountFault::NoMemory);
+        }
+    };
     let outcome = match count_watched(rt, alloc, &election, &rule.options, counting.gate) {
         Ok(outcome) => outcome,
         Err(fault) => {
             drop(election);
+            drop(order);
             return Err(fault);
         }
     };
-    let count = CountedElection::of(alloc, election, *rule, outcome)?;
+    let count = CountedElection::of(alloc, election, order, *rule, outcome)?;
     // What is true of every count is so of this one.
     let _election = count.election();
     Ok(count)

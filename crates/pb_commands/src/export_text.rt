@@ -1,9 +1,11 @@
 //! The file of a counted election, as text.
 
-ghost use Rattle.std.specs.Prelude.{◌≡◌, ◌++◌, IfErr, IfOk, OnOk, length, map, string_bytes};
-ghost use Rattle.std.specs.List.{range_with_len};
+ghost use Rattle.std.specs.Prelude.{◌≡◌, ◌++◌, IfErr, IfOk, OnOk, map, string_bytes};
+ghost use Rattle.pb_core.specs.Election.{ElectionView, IsElection};
 ghost use Rattle.pb_commands.specs.Inner.Exporting.{IsStopped, own_comment};
 ghost use Rattle.pb_commands.specs.Exported.{IsExportOf};
+ghost use Rattle.pb_reasons.specs.CountedElection.{in_file};
+ghost use Rattle.pb_rounds.specs.TieOrder.{IsSortedFor};
 ghost use Rattle.pb_faults.specs.Fault.{merged};
 ghost use Rattle.pb_price.specs.Supporters.{support_of};
 ghost use Rattle.pb_reasons.specs.Counted.{is_selected};
@@ -21,20 +23,23 @@ use std::alloc::Global;
 /// The file of an election that was counted, with what was kept of the file that was read.
 pub(crate) fn export_text(
     alloc: Global,
-    count: &CountedElection,
+    count: CountedElection,
     carried: &Carried,
 ) -> Result<Vec<u8>, AppFault>
-    ensures ok { IfOk result (λ text. IsExportOf count.now.rule carried.now.further count.now.election
-        text.items) }
-    ensures fault { IfErr result (IsStopped count.now.election) }
+    ensures ok { (e : ElectionView) → IsElection e → IsSortedFor count.rule.ties e count.order count.election
+        → IfOk result (λ text. IsExportOf count.rule carried.now.further e text.items) }
+    ensures fault { (e : ElectionView) → IsElection e → IsSortedFor count.rule.ties e count.order count.election
+        → IfErr result (IsStopped e) }
     ensures merged { IfErr result (λ fault. merged fault ≡ fault) }
 {
     let further = carried.further()?;
-    let election = count.election();
+    // What is true of every count is so of this one.
+    let _election = count.election();
     let rule = count.rule();
     let comment = comment_text(alloc, &rule, further.comment())?;
-    let votes = votes_of(alloc, count)?;
-    let selected = selected_of(alloc, count)?;
+    let votes = votes_of(alloc, &count)?;
+    let selected = selected_of(alloc, &count)?;
+    let election = count.into_file(alloc)?;
     let told = Told {
         rule: rule.word(),
         comment: comment.as_str(),
@@ -42,18 +47,18 @@ pub(crate) fn export_text(
         selected: selected.as_slice(),
         further,
     };
-    let text = write_pb(alloc, election, &told)?;
+    let text = write_pb(alloc, &election, &told)?;
     Ok(text)
 }
 
 /// How many ballots approve each project.
 fn votes_of(alloc: Global, count: &CountedElection) -> Result<Vec<u32>, NoMemory>
     ensures { IfOk result (λ votes. votes.items ≡
-        map (votes_at (support_of count.now.election)) (range_with_len 0 (length count.now.election.projects))) }
+        map (votes_at (support_of count.now.election)) (in_file count.now)) }
 {
     let mut votes = Vec::new(alloc);
     for place in 0..count.election().projects().len() {
-        let reason = count.project(place as u32);
+        let reason = count.project(count.position(place as u32));
         votes.push(reason.votes)?;
     }
     Ok(votes)
@@ -62,11 +67,11 @@ fn votes_of(alloc: Global, count: &CountedElection) -> Result<Vec<u32>, NoMemory
 /// Whether each project is elected or added.
 fn selected_of(alloc: Global, count: &CountedElection) -> Result<Vec<bool>, NoMemory>
     ensures { IfOk result (λ selected. selected.items ≡
-        map (is_selected count.now.counted) (range_with_len 0 (length count.now.election.projects))) }
+        map (is_selected count.now.counted) (in_file count.now)) }
 {
     let mut selected = Vec::new(alloc);
     for place in 0..count.election().projects().len() {
-        selected.push(count.has_won(place as u32))?;
+        selected.push(count.has_won(count.position(place as u32)))?;
     }
     Ok(selected)
 }

@@ -27,9 +27,9 @@ pub(crate) fn put_fairness(
     rows.put_row(&["project_id", "votes", "share", "needed", "spent"])?;
     let spent = most_spent(alloc, count)?;
     for position in 0..count.election().projects().len() {
-        let place = position as u32;
+        let place = count.position(position as u32);
         if has_lost(count, place) {
-            put_loser(rows, count, place, spent[position])?;
+            put_loser(rows, count, place, spent[place as usize])?;
         }
     }
     Ok(())

@@ -14,12 +14,12 @@ ghost use Rattle.pb_desk.specs.Step.{voter_of};
 ghost use Rattle.pb_read.specs.StandsFor.{StandsFor};
 ghost use Rattle.pb_rows.specs.Reading.{records_of};
 ghost use Rattle.pb_rows.specs.Writing.{text_of_row};
-ghost use Rattle.pb_reasons.specs.Counted.{CountedView, IsCountBy};
+ghost use Rattle.pb_reasons.specs.CountedElection.{CountedElectionView, IsCountIn};
 ghost use Rattle.pb_rounds.specs.declared.rule.Rule.{Rule};
 ghost use Rattle.pb_script.specs.Scripts.{IsScript};
 ghost use Rattle.pb_script.specs.Serving.{program_room};
 ghost use Rattle.pb_faults.specs.DeskRow.{entries_row};
-ghost use Rattle.pb_commands.specs.Audited.{AuditWrites, IsDeskOf, IsTextOf, OfDesk};
+ghost use Rattle.pb_commands.specs.Audited.{AuditWrites, IsDeskOf, IsTextOf};
 ghost use Rattle.pb_commands.specs.Ballots.{last_given};
 ghost use Rattle.pb_commands.specs.Closed.{Gives};
 ghost use Rattle.pb_commands.specs.declared.demand.Demand.{Demand};
@@ -42,8 +42,8 @@ pub fn one_report()
         → AuditWrites demand rule bytes journal first → AuditWrites demand rule bytes journal second
         → first ≡ second }
     ensures ballots { (table : DeskView → List ℕ) (bytes journal first second : List ℕ)
-        → OfDesk (λ d text. text ≡ table d) bytes journal first
-        → OfDesk (λ d text. text ≡ table d) bytes journal second → first ≡ second }
+        → ((d : DeskView) × IsDeskOf bytes journal d × (first ≡ table d))
+        → ((d : DeskView) × IsDeskOf bytes journal d × (second ≡ table d)) → first ≡ second }
 {}
 
 /// The recount. For every file that stands for an election, and every legal journal of its desk that fits the
@@ -74,9 +74,9 @@ pub fn journals_recount()
         (((standing_of d).is_shut ≡ true) × (answer : Answer)
         × (d.journal ≡ served ++ record { clerk = 0; request = Shut; answer = answer } ∷ []))
         (d.journal ≡ served) }
-    ensures winners { (d : DeskView) (rule : Rule) (c : CountedView)
-        → (standing_of d).is_shut ≡ true → IsCountBy rule (closed_election d) c
-        → IsTextOf rule d (text_of_row (entries_row d) ++ report_of (closed_election d) c) }
+    ensures winners { (d : DeskView) (rule : Rule) (x : CountedElectionView)
+        → (standing_of d).is_shut ≡ true → IsCountIn rule (closed_election d) x
+        → IsTextOf rule d (text_of_row (entries_row d) ++ report_of x.election x.counted) }
 {}
 
 /// What the number in a row of the table of ballots says. Of each ballot that a legal journal leaves on the

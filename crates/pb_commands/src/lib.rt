@@ -1,5 +1,5 @@
-//! The commands `count`, `projects`, `voters`, `fairness`, `compare`, `export`, `desk`, `audit`, `ballots` and
-//! `check`, from bytes to bytes.
+//! The commands `count`, `projects`, `voters`, `fairness`, `compare`, `ties`, `export`, `desk`, `audit`,
+//! `ballots` and `check`, from bytes to bytes.
 //!
 //! A run reads its inputs in their order, makes its whole text in memory, and then writes it: so a run that
 //! is refused has written nothing. Each refusal has one line and one status.
@@ -27,8 +27,10 @@ pub mod run_desk;
 pub mod run_export;
 pub mod run_history;
 pub mod run_table;
+pub mod run_ties;
 pub mod table;
 pub mod table_laws;
+mod ties_table;
 mod voters_table;
 pub mod what_if_rows;
 

@@ -5,11 +5,11 @@ ghost use Rattle.std.specs.Prelude.{string_bytes};
 ghost use Rattle.std.specs.Option.{option_map_or};
 ghost use Rattle.pb_core.specs.Election.{project_ids};
 ghost use Rattle.pb_core.specs.MoneyText.{money_text};
-ghost use Rattle.pb_rounds.specs.Counted.{IsCountFault};
 ghost use Rattle.pb_rows.specs.Tables.{field_text, table_text};
 ghost use Rattle.pb_rows.specs.Writing.{text_of_row};
 ghost use Rattle.pb_commands.specs.Losers.{loser_columns, winning};
 ghost use Rattle.pb_commands.specs.Inner.Tables.{row_of};
+ghost use Rattle.pb_reasons.specs.CountedElection.{IsFaultIn};
 ghost use Rattle.pb_reasons.specs.Losers.{AreFound};
 ghost use Rattle.pb_reasons.specs.WhatIf.{wins};
 ghost use Rattle.pb_reasons.specs.declared.changes.loser.Loser.{Loser};
@@ -35,7 +35,7 @@ pub fn losers_text<T: Threads + Sync, G: Gate + ProjectGate>(
     ensures ok { IfOk result (λ text. (found : List Loser) × AreFound election counting.now.rule.now first found
         × (text.items ≡ table_text (loser_columns (project_ids election)) found)) }
     ensures fault { IfErr result (λ fault. fault ≢ CountFault.NoMemory
-        → IsCountFault election counting.now.rule.now.options fault) }
+        → IsFaultIn counting.now.rule.now election fault) }
 {
     let recounts = Recounts {
         rt: counting.rt,
@@ -66,7 +66,7 @@ fn text_by_ids<T: Threads + Sync, G: Gate + ProjectGate>(
     ensures ok { IfOk result (λ text. (found : List Loser) × AreFound election recounts.now.rule first found
         × (text.items ≡ table_text (loser_columns (map string_bytes ids.now)) found)) }
     ensures fault { IfErr result (λ fault. fault ≢ CountFault.NoMemory
-        → IsCountFault election recounts.now.rule.options fault) }
+        → IsFaultIn recounts.now.rule election fault) }
 {
     let alloc = recounts.alloc;
     let found = match what_if_losers(recounts, election, first) {
@@ -79,8 +79,8 @@ fn text_by_ids<T: Threads + Sync, G: Gate + ProjectGate>(
     }
 }
 
-/// The ids of an election's projects, in the order of the file.
-fn ids_of(alloc: Global, election: &Election) -> Result<Vec<String>, NoMemory>
+/// The ids of an election's projects, in their order.
+pub(crate) fn ids_of(alloc: Global, election: &Election) -> Result<Vec<String>, NoMemory>
     ensures { IfOk result (λ ids. map string_bytes ids.items ≡ project_ids election.now) }
 {
     let mut ids = Vec::new(alloc);
@@ -129,7 +129,7 @@ fn put_loser(rows: &mut RowsWriter, ids: &[String], loser: &Loser) -> Result<(),
 }
 
 /// The id at this place; none is empty.
-fn id_at(ids: &[String], place: u32) -> &str
+pub(crate) fn id_at(ids: &[String], place: u32) -> &str
     ensures { result.now ≡ slice_index_or (map string_bytes ids.now) place [] }
 {
     match ids.get(place as usize) {

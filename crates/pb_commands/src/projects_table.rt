@@ -36,7 +36,7 @@ pub(crate) fn put_projects(rows: &mut RowsWriter, count: &CountedElection) -> Re
     let width = width(count.rule().fill_up);
     rows.put_row(&names[..width])?;
     for place in 0..projects.len() {
-        put_project(rows, width, count, place as u32)?;
+        put_project(rows, width, count, count.position(place as u32))?;
     }
     Ok(())
 }
@@ -53,7 +53,7 @@ fn width(fill_up: FillUp) -> usize
     }
 }
 
-/// Writes so many fields of the project at this place.
+/// Writes so many fields of the project at this place of the election.
 fn put_project(
     rows: &mut RowsWriter,
     width: usize,
@@ -70,7 +70,7 @@ fn put_project(
     let reason = count.project(place);
     let said = said_of(reason.ending);
     let fields = [
-        Field::number(place),
+        Field::number(count.place(place)),
         Field::Text(project.id()),
         Field::Text(project.name()),
         Field::amount(project.cost()),

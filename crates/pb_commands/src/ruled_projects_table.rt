@@ -33,10 +33,10 @@ pub(crate) fn put_ruled_projects(
     let other = Winners::of(alloc, election, others.as_slice())?;
     let projects = election.projects();
     for place in 0..projects.len() {
-        let project = &projects[place];
-        let place = place as u32;
+        let place = count.position(place as u32);
+        let project = &projects[place as usize];
         let fields = [
-            Field::number(place),
+            Field::number(count.place(place)),
             Field::Text(project.id()),
             Field::Text(project.name()),
             Field::amount(project.cost()),
@@ -50,7 +50,7 @@ pub(crate) fn put_ruled_projects(
 }
 
 /// The field of a flag: 1 or 0.
-fn flag(is_set: bool) -> Field<'static>
+pub(crate) fn flag(is_set: bool) -> Field<'static>
     ensures { result ≡ Number (if is_set then 1 else 0) }
 {
     Field::number(u32::from(is_set))

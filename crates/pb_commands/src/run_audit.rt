@@ -1,16 +1,18 @@
 //! The command `audit`: what a journal says of a file.
 
 ghost use Rattle.std.specs.Prelude.{◌≡◌, ◌≢◌, ◌++◌, ℕ, List, IfErr, IfOk, IfSome, OnOk, None, Some, false};
-ghost use Rattle.std.specs.Prelude.{true};
-ghost use Rattle.pb_desk.specs.Desk.{closed_election, standing_of};
-ghost use Rattle.pb_reasons.specs.CountedElection.{IsCountedElection};
+ghost use Rattle.std.specs.Prelude.{length, true};
+ghost use Rattle.pb_desk.specs.Desk.{DeskView, closed_election, standing_of};
+ghost use Rattle.pb_reasons.specs.CountedElection.{IsCountIn, IsCountedElection};
 ghost use Rattle.pb_rounds.specs.Counted.{IsCountOf};
 ghost use Rattle.pb_rounds.specs.declared.count_fault.CountFault.TheVariants as count;
+ghost use Rattle.pb_rounds.specs.TieOrder.{by_file};
 ghost use Rattle.pb_rounds.specs.declared.rule.FillUp.TheVariants.{Nothing};
-ghost use Rattle.pb_commands.specs.Audited.{AuditWrites, IsTextOf};
+ghost use Rattle.pb_script.specs.EntryCounts.{counts_of};
+ghost use Rattle.pb_commands.specs.Audited.{AuditWrites, IsDeskOf, IsTextOf};
 ghost use Rattle.pb_commands.specs.Closed.{CountRefuses};
 ghost use Rattle.pb_commands.specs.declared.demand.Demand.TheVariants.{Any, Shut};
-ghost use Rattle.pb_commands.specs.Ends.{Runs};
+ghost use Rattle.pb_commands.specs.Ends.{IfBothKnown, Runs};
 ghost use Rattle.pb_commands.specs.Inner.Audited.{IsRefusedDesk};
 
 use crate::counting::Counting;
@@ -28,8 +30,9 @@ use pb_reasons::CountedElection;
 use pb_rounds::count_fault::CountFault;
 use pb_rounds::options::CountOptions;
 use pb_rounds::rule::{FillUp, Rule};
+use pb_rounds::tie_rule::TieRule;
 use pb_rows::RowsWriter;
-use pb_script::{NoNotice, Notice};
+use pb_script::EntryCounts;
 use std::alloc::Global;
 use std::io::{Read, Write};
 use std::thread::Threads;
@@ -59,8 +62,8 @@ pub fn run_audit<T: Threads + Sync, P: Read + Drop, J: Read + Drop, W: Write>(
     writer: &mut W,
     options: &CountOptions,
 ) -> Result<(), AppFault>
-    ensures runs { Runs (AuditWrites Any (record { options = options.now; fill_up = Nothing }))
-        (λ bytes rows. CountRefuses options.now bytes (Some rows)) (P.remaining file) (J.remaining journal)
+    ensures runs { Runs (AuditWrites Any (record { options = options.now; fill_up = Nothing; ties = by_file }))
+        (λ bytes rows. CountRefuses (record { options = options.now; fill_up = Nothing; ties = by_file }) bytes (Some rows)) (P.remaining file) (J.remaining journal)
         None W.contents writer.old writer.new result }
 
     // An open desk is not refused.
@@ -69,6 +72,7 @@ pub fn run_audit<T: Threads + Sync, P: Read + Drop, J: Read + Drop, W: Write>(
     let rule = Rule {
         options: *options,
         fill_up: FillUp::Nothing,
+        ties: TieRule::file(),
     };
     let counting = Counting {
         rt,
@@ -81,32 +85,35 @@ pub fn run_audit<T: Threads + Sync, P: Read + Drop, J: Read + Drop, W: Write>(
         journal,
         demand: Demand::Any,
     };
-    run_audit_watched(&counting, inputs, &NoNotice, &mut NoWatch, writer)
+    let mut counts = EntryCounts::new();
+    run_audit_watched(&counting, inputs, &mut counts, &mut NoWatch, writer)
 }
 
-/// Audits as `run_audit` does, by this rule, and tells the gate of raises before they are tried. The notice
-/// hears of the answer of each entry, in their order, once the journal is accepted and before the ballots are
-/// counted. Where a shut desk is demanded an open one is refused, before the options. Who looks on while the
-/// file is read may refuse it for a warning, before the journal is judged.
+/// Audits as `run_audit` does, by this rule, and tells the gate of raises before they are tried. `counts` gets
+/// the entries of the journal, once it is accepted. Where a shut desk is demanded an open one is refused, before
+/// the options. Who looks on while the file is read may refuse it for a warning, before the journal is judged.
 pub fn run_audit_watched<
     T: Threads + Sync,
     P: Read + Drop,
     J: Read + Drop,
     G: Gate,
-    N: Notice,
     H: Heed,
     W: Write,
 >(
     counting: &Counting<T, G>,
     inputs: AuditInputs<P, J>,
-    notice: &N,
+    counts: &mut EntryCounts,
     watch: &mut H,
     writer: &mut W,
 ) -> Result<(), AppFault>
     ensures runs { Runs (AuditWrites inputs.demand counting.now.rule.now)
-        (λ bytes rows. CountRefuses counting.now.rule.now.options bytes (Some rows))
+        (λ bytes rows. CountRefuses counting.now.rule.now bytes (Some rows))
         (P.remaining inputs.file) (J.remaining inputs.journal) (H.refused_for watch.new)
         W.contents writer.old writer.new result }
+
+    // The counts are those of the desk that was audited.
+    ensures counts { OnOk result (IfBothKnown (P.remaining inputs.file) (J.remaining inputs.journal)
+        (λ bytes journal. (d : DeskView) × IsDeskOf bytes journal d × (counts.new.counts ≡ counts_of d.journal))) }
 
     // An open desk is refused only where a shut one is demanded.
     ensures demanded { IfErr result (λ fault. fault ≡ AppFault.OpenDesk → inputs.demand ≡ Shut) }
@@ -120,22 +127,13 @@ pub fn run_audit_watched<
         Ok(desk) => desk,
         Err(fault) => return Err(fault),
     };
-    tell_answers(notice, &desk);
+    *counts = EntryCounts::of(&desk, 0);
     if is_refused(&desk, demand) {
         drop(desk);
         return Err(AppFault::OpenDesk);
     }
     let text = desk_text(counting, desk)?;
     write_out(writer, text.as_slice(), AppFault::Write)
-}
-
-/// Tells the answers of a desk's entries, in their order.
-fn tell_answers<N: Notice>(notice: &N, desk: &Desk) {
-    for index in 0..desk.entries() {
-        if let Some(entry) = desk.entry(index + 1) {
-            notice.answered(entry.answer);
-        }
-    }
 }
 
 /// Whether a desk is open, and a shut one is demanded.
@@ -155,7 +153,7 @@ fn desk_text<T: Threads + Sync, G: Gate>(
     desk: Desk,
 ) -> Result<Vec<u8>, CountFault>
     ensures ok { IfOk result (λ text. IsTextOf counting.now.rule.now desk text.items) }
-    ensures fault { IfErr result (IsRefusedDesk desk counting.now.rule.now.options) }
+    ensures fault { IfErr result (IsRefusedDesk desk counting.now.rule.now) }
 {
     let mut rows = RowsWriter::start(counting.alloc);
     match put_desk(counting, &mut rows, desk) {
@@ -175,7 +173,7 @@ fn put_desk<T: Threads + Sync, G: Gate>(
 ) -> Result<(), CountFault>
     ensures ok { OnOk result ((text : List ℕ)
         × IsTextOf counting.now.rule.now desk text × (rows.new.text ≡ rows.old.text ++ text)) }
-    ensures fault { IfErr result (IsRefusedDesk desk counting.now.rule.now.options) }
+    ensures fault { IfErr result (IsRefusedDesk desk counting.now.rule.now) }
 {
     match put_entries(rows, &desk) {
         Ok(()) => {}
@@ -204,11 +202,11 @@ fn desk_count<T: Threads + Sync, G: Gate>(
 ) -> Result<Option<CountedElection>, CountFault>
     ensures open { IfOk result (λ count. count ≡ None → (standing_of desk).is_shut ≡ false) }
     ensures shut { IfOk result (λ count. IfSome count (λ x. ((standing_of desk).is_shut ≡ true)
-        × (x.election ≡ closed_election desk) × IsCountedElection x × (x.rule ≡ counting.now.rule.now))) }
-    ensures fault { IfErr result (IsRefusedDesk desk counting.now.rule.now.options) }
+        × IsCountedElection x × IsCountIn counting.now.rule.now (closed_election desk) x)) }
+    ensures fault { IfErr result (IsRefusedDesk desk counting.now.rule.now) }
 {
     let (rt, alloc) = (counting.rt, counting.alloc);
-    match count_desk(rt, alloc, desk, &counting.rule.options, counting.gate) {
+    match count_desk(rt, alloc, desk, counting.rule, counting.gate) {
         Ok(Closing::Open(desk)) => {
             drop(desk);
             Ok(None)
@@ -217,9 +215,14 @@ fn desk_count<T: Threads + Sync, G: Gate>(
             Ok(count) => Ok(Some(count)),
             Err(_) => Err(CountFault::NoMemory),
         },
-        Err(CloseFault::NotCounted(fault, election)) => {
+        Err(CloseFault::NotCounted(fault, order, election)) => {
+            drop(order);
             drop(election);
             Err(fault)
+        }
+        Err(CloseFault::NotSorted(election)) => {
+            drop(election);
+            Err(CountFault::NoMemory)
         }
         Err(CloseFault::NoMemory(desk)) => {
             drop(desk);
@@ -232,16 +235,18 @@ fn desk_count<T: Threads + Sync, G: Gate>(
 
 /// The count of a desk, with what is told of it.
 fn told_of<T, G>(counting: &Counting<T, G>, count: DeskCount) -> Result<CountedElection, NoMemory>
-    requires { IsCountOf count.election counting.now.rule.now.options count.outcome }
-    ensures { IfOk result (λ x. IsCountedElection x × (x.election ≡ count.election)
+    requires outcome { IsCountOf count.election counting.now.rule.now.options count.outcome }
+    requires one_each { length count.order ≡ length count.election.projects }
+    ensures { IfOk result (λ x. IsCountedElection x × (x.election ≡ count.election) × (x.order ≡ count.order)
         × (x.rule ≡ counting.now.rule.now)) }
 {
     let DeskCount {
         election,
+        order,
         outcome,
         ..
     } = count;
-    let count = CountedElection::of(counting.alloc, election, *counting.rule, outcome)?;
+    let count = CountedElection::of(counting.alloc, election, order, *counting.rule, outcome)?;
     // What is true of every count is so of this one.
     let _election = count.election();
     Ok(count)

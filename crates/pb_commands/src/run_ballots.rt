@@ -2,8 +2,9 @@
 
 ghost use Rattle.std.specs.Prelude.{◌≡◌, ◌≢◌, IfErr, None, Some};
 ghost use Rattle.std.specs.Option.{option_copied};
+ghost use Rattle.pb_desk.specs.Desk.{DeskView};
 ghost use Rattle.pb_commands.specs.Ballots.{ballots_table};
-ghost use Rattle.pb_commands.specs.Audited.{OfDesk};
+ghost use Rattle.pb_commands.specs.Audited.{IsDeskOf};
 ghost use Rattle.pb_commands.specs.Closed.{LeavesNone};
 ghost use Rattle.pb_commands.specs.Ends.{Runs};
 
@@ -27,7 +28,8 @@ pub fn run_ballots<P: Read + Drop, J: Read + Drop, W: Write>(
     voter: Option<&str>,
     writer: &mut W,
 ) -> Result<(), AppFault>
-    ensures runs { Runs (OfDesk (λ d text. text ≡ ballots_table (option_copied voter.entry) d))
+    ensures runs { Runs (λ bytes rows text. (d : DeskView) × IsDeskOf bytes rows d
+        × (text ≡ ballots_table (option_copied voter.entry) d))
         (λ bytes rows. LeavesNone bytes (Some rows)) (P.remaining file) (J.remaining journal) None
         W.contents writer.old writer.new result }
 

@@ -1,10 +1,11 @@
 //! The command `check`: all that is wrong with a file, and what is probably not meant.
 
 ghost use Rattle.std.specs.Prelude.{◌≡◌, ◌≢◌, ◌⊎◌, ◌++◌, ℕ, List, [], None, Some, IfErr, IfOk, IfSome, OnOk, map};
+ghost use Rattle.std.specs.Prelude.{slice_index};
 ghost use Rattle.std.specs.Io.KnownBytes.{Appends};
 ghost use Rattle.pb_core.specs.Election.{ElectionView};
-ghost use Rattle.pb_reasons.specs.Counted.{CountedView, IsCountBy, winners_of};
-ghost use Rattle.pb_rounds.specs.Counted.{IsCountFault};
+ghost use Rattle.pb_reasons.specs.Counted.{winners_of};
+ghost use Rattle.pb_reasons.specs.CountedElection.{CountedElectionView, IsCountIn, IsFaultIn};
 ghost use Rattle.pb_rows.specs.Reading.{records_of};
 ghost use Rattle.pb_rows.specs.Writing.{text_of_row, text_of_rows};
 ghost use Rattle.pb_read.specs.Listed.{AreListed};
@@ -84,15 +85,15 @@ pub fn run_check_against<T: Threads + Sync, R: Read + Drop, G: Gate, W: Write, N
     // Where there is no fault, what the file claims was compared with the winners of its count by the rule.
     ensures compared { IfSome (R.remaining reader) (λ bytes. IfOk result (λ faults. faults.items ≡ [] →
         (e : ElectionView) × StandsFor (records_of bytes) e
-        × (c : CountedView) × IsCountBy counting.now.rule.now e c × N.has_compared notes.new
-        (winners_of c))) }
+        × (x : CountedElectionView) × IsCountIn counting.now.rule.now e x × N.has_compared notes.new
+        (map (slice_index x.order) (winners_of x.counted)))) }
 
     // A fault of the run is the writer's, or says that memory was refused, or is that of the count of the
     // file's election. It writes nothing, unless it is the writer's.
     ensures fault { IfErr result (λ fault. IfSome (R.remaining reader) (λ bytes.
         (fault ≡ AppFault.Write) ⊎ (fault ≡ AppFault.Memory)
         ⊎ ((why : CountFault) × (fault ≡ AppFault.Count why) × (why ≢ CountFault.NoMemory)
-        × Gives (λ e. IsCountFault e counting.now.rule.now.options) bytes None why))) }
+        × Gives (IsFaultIn counting.now.rule.now) bytes None why))) }
     ensures unchanged { IfErr result (λ fault. fault ≢ AppFault.Write → writer.new ≡ writer.old) }
 {
     let checked = check_pb(counting.alloc, reader, notes)?;
@@ -117,8 +118,9 @@ fn put_checked<T: Threads + Sync, G: Gate, W: Write, N: Compare>(
     ensures written { OnOk result
         (HasWritten (IsTextOfCheck faults.now (N.warns notes.new)) (W.contents writer.old) (W.contents writer.new)) }
     ensures compared { OnOk result (IfSome election (λ e.
-        (c : CountedView) × IsCountBy counting.now.rule.now e c × N.has_compared notes.new (winners_of c))) }
-    ensures fault { IfErr result (CheckFails (λ e. election ≡ Some e) counting.now.rule.now.options) }
+        (x : CountedElectionView) × IsCountIn counting.now.rule.now e x
+        × N.has_compared notes.new (map (slice_index x.order) (winners_of x.counted)))) }
+    ensures fault { IfErr result (CheckFails (λ e. election ≡ Some e) counting.now.rule.now) }
     ensures unchanged { IfErr result (λ fault. fault ≢ AppFault.Write → writer.new ≡ writer.old) }
 {
     let warnings = warnings_against(counting, election, notes)?;
@@ -134,16 +136,19 @@ fn warnings_against<T: Threads + Sync, G: Gate, N: Compare>(
     notes: &mut N,
 ) -> Result<Vec<WarningRow>, AppFault>
     ensures compared { OnOk result (IfSome election (λ e.
-        (c : CountedView) × IsCountBy counting.now.rule.now e c × N.has_compared notes.new (winners_of c))) }
+        (x : CountedElectionView) × IsCountIn counting.now.rule.now e x
+        × N.has_compared notes.new (map (slice_index x.order) (winners_of x.counted)))) }
     ensures rows { IfOk result (λ rows. N.warns notes.new rows.items) }
-    ensures fault { IfErr result (CheckFails (λ e. election ≡ Some e) counting.now.rule.now.options) }
+    ensures fault { IfErr result (CheckFails (λ e. election ≡ Some e) counting.now.rule.now) }
 {
     let Some(election) = election else {
         return Ok(notes.warnings()?);
     };
     let count = counted(counting, election)?;
-    let warnings = notes.warnings_beside(count.winners());
+    let winners = count.winners_in_file(counting.alloc)?;
     drop(count);
+    let warnings = notes.warnings_beside(winners.as_slice());
+    drop(winners);
     Ok(warnings?)
 }
 

@@ -1,6 +1,7 @@
 //! The command `count`: a file's report.
 
 ghost use Rattle.std.specs.Prelude.{None, Some};
+ghost use Rattle.pb_rounds.specs.TieOrder.{by_file};
 ghost use Rattle.pb_rounds.specs.declared.rule.FillUp.TheVariants.{Nothing};
 ghost use Rattle.pb_commands.specs.Closed.{CountRefuses, Gives};
 ghost use Rattle.pb_commands.specs.Ends.{Runs};
@@ -16,6 +17,7 @@ use pb_faults::AppFault;
 use pb_read::NoWatch;
 use pb_rounds::options::CountOptions;
 use pb_rounds::rule::{FillUp, Rule};
+use pb_rounds::tie_rule::TieRule;
 use std::alloc::Global;
 use std::io::{Read, Write};
 use std::thread::Threads;
@@ -32,13 +34,14 @@ pub fn run_count<T: Threads + Sync, R: Read + Drop, W: Write>(
     writer: &mut W,
     options: &CountOptions,
 ) -> Result<(), AppFault>
-    ensures { Runs (Gives (IsTableOf Report (record { options = options.now; fill_up = Nothing })))
-        (CountRefuses options.now)
+    ensures { Runs (Gives (IsTableOf Report (record { options = options.now; fill_up = Nothing; ties = by_file })))
+        (CountRefuses (record { options = options.now; fill_up = Nothing; ties = by_file }))
         (R.remaining reader) (Some None) None W.contents writer.old writer.new result }
 {
     let rule = Rule {
         options: *options,
         fill_up: FillUp::Nothing,
+        ties: TieRule::file(),
     };
     let counting = Counting {
         rt,

@@ -1,8 +1,13 @@
 //! The command `desk`: a script's requests, served by the clerks of one desk.
 
-ghost use Rattle.std.specs.Prelude.{◌≡◌, false, IfOk, None, Some};
+ghost use Rattle.std.specs.Prelude.{◌≡◌, false, IfOk, List, None, OnOk, Some};
+ghost use Rattle.std.specs.Io.KnownBytes.{Appends};
 ghost use Rattle.pb_core.specs.Election.{project_ids};
+ghost use Rattle.pb_core.specs.Request.{EntryView};
+ghost use Rattle.pb_desk.specs.Rows.{journal_text};
+ghost use Rattle.pb_desk.specs.declared.version.Version.TheVariants.{Two};
 ghost use Rattle.pb_script.specs.Admission.{open_to_all};
+ghost use Rattle.pb_script.specs.EntryCounts.{counts_of};
 ghost use Rattle.pb_commands.specs.DeskRun.{DeskRefuses, DeskWrites, admission_on};
 ghost use Rattle.pb_commands.specs.Inner.DeskRun.{unserved};
 ghost use Rattle.pb_commands.specs.Ends.{Runs};
@@ -14,7 +19,9 @@ use pb_core::no_memory::NoMemory;
 use pb_faults::{AppFault, write_out};
 use pb_read::{NoWatch, ProjectIds};
 use pb_script::serve_script::serve_admitted;
-use pb_script::{Admission, NoNotice, Notice, ScriptRun, ServeFault, voters_of};
+use pb_script::{
+    Admission, EntryCounts, NoNotice, Notice, ScriptRun, ServeFault, ServedScript, voters_of,
+};
 use std::alloc::Global;
 use std::io::{Read, Write};
 use std::thread::Threads;
@@ -62,13 +69,24 @@ pub fn run_desk<T: Threads + Sync, P: Read + Drop, S: Read + Drop, G: Gate, W: W
         keeps_file: false,
         admission: Admission::open(),
     };
+    let mut counts = EntryCounts::new();
     run_admitted_desk(
-        rt, alloc, file, script, clerks, shuts, gate, open, &NoNotice, writer,
+        rt,
+        alloc,
+        file,
+        script,
+        clerks,
+        shuts,
+        gate,
+        open,
+        &NoNotice,
+        &mut counts,
+        writer,
     )
 }
 
 /// Serves as `run_desk` does, the requests that these rules admit. A row that they refuse refuses the script,
-/// and is told to `notice`.
+/// and is told to `notice`. `counts` gets the entries of the journal that is written.
 pub fn run_admitted_desk<
     T: Threads + Sync,
     P: Read + Drop,
@@ -86,11 +104,14 @@ pub fn run_admitted_desk<
     gate: &G,
     rules: Rules,
     notice: &N,
+    counts: &mut EntryCounts,
     writer: &mut W,
 ) -> Result<(), AppFault>
-    ensures { Runs (λ bytes rows. DeskWrites rules bytes rows clerks shuts)
+    ensures runs { Runs (λ bytes rows. DeskWrites rules bytes rows clerks shuts)
         (λ _ rows. DeskRefuses rules rows clerks)
         (P.remaining file) (S.remaining script) None W.contents writer.old writer.new result }
+    ensures counts { OnOk result ((journal : List EntryView) × (counts.new.counts ≡ counts_of journal)
+        × Appends (W.contents writer.old) (W.contents writer.new) (journal_text Two journal)) }
 {
     let election = match own_election(alloc, file, &mut NoWatch) {
         Ok(election) => election,
@@ -116,7 +137,15 @@ pub fn run_admitted_desk<
     let served = serve_admitted(rt, alloc, election, script, &run);
     drop(admission);
     let text = match served {
-        Ok(text) => text,
+        Ok(
+            ServedScript {
+                text,
+                counts: served,
+            },
+        ) => {
+            *counts = served;
+            text
+        }
         Err(fault) => return Err(unserved(fault)),
     };
     write_out(writer, text.as_slice(), AppFault::Write)

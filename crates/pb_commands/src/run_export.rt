@@ -39,7 +39,7 @@ pub fn run_export<
     writer: &mut W,
 ) -> Result<(), AppFault>
     ensures runs { Runs (Gives (IsExportOf counting.now.rule.now (H.keeps watch.new)))
-        (ExportRefuses counting.now.rule.now.options) (P.remaining inputs.file)
+        (ExportRefuses counting.now.rule.now) (P.remaining inputs.file)
         (known J.remaining inputs.journal)
         (H.refused_for watch.new) W.contents writer.old writer.new result }
 
@@ -55,9 +55,7 @@ pub fn run_export<
         Ok(count) => count,
         Err(fault) => return Err(fault),
     };
-    let made = export_text(counting.alloc, &count, watch.carried());
-    drop(count);
-    match made {
+    match export_text(counting.alloc, count, watch.carried()) {
         Ok(text) => write_out(writer, text.as_slice(), AppFault::Write),
         Err(fault) => Err(fault),
     }

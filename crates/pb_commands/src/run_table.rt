@@ -39,7 +39,7 @@ pub fn run_table<T: Threads + Sync, P: Read + Drop, J: Read + Drop, G: Gate, H: 
     table: Table,
 ) -> Result<(), AppFault>
     ensures { Runs (Gives (IsTableOf table counting.now.rule.now))
-        (CountRefuses counting.now.rule.now.options) (P.remaining inputs.file)
+        (CountRefuses counting.now.rule.now) (P.remaining inputs.file)
         (known J.remaining inputs.journal)
         (H.refused_for watch.new) W.contents writer.old writer.new result }
 {

@@ -1,10 +1,11 @@
 //! The table of voters: who paid.
 
-ghost use Rattle.std.specs.Prelude.{◌≡◌, ◌++◌, ◌∷◌, [], OnOk, decimal, string_bytes};
+ghost use Rattle.std.specs.Prelude.{◌≡◌, ◌<◌, ◌++◌, ◌∷◌, [], All, OnOk, decimal, length};
+ghost use Rattle.std.specs.Prelude.{string_bytes};
 ghost use Rattle.pb_core.specs.MoneyText.{money_text};
 ghost use Rattle.pb_rows.specs.Writing.{text_of_row};
 ghost use Rattle.pb_commands.specs.Tables.{table_of};
-ghost use Rattle.pb_commands.specs.Inner.Tables.{payments_text};
+ghost use Rattle.pb_commands.specs.Inner.Tables.{payments_in_file, payments_text};
 ghost use Rattle.pb_commands.specs.declared.table.Table.TheVariants.{Voters};
 
 use itoa::Buffer;
@@ -30,9 +31,25 @@ pub(crate) fn put_voters(
     for position in 0..voters.len() {
         let reason = teller.tell(position as u32, &mut payments)?;
         let voter = &voters[position];
+        put_in_file_order(count, &mut payments)?;
         write_payments(&mut text, payments.as_slice())?;
         put_voter(rows, voter.id.text(), &reason, text.as_str())?;
     }
+    Ok(())
+}
+
+/// Lets payments name the places of the file, and puts them in their order.
+fn put_in_file_order(count: &CountedElection, payments: &mut Vec<Payment>) -> Result<(), NoMemory>
+    requires { All (λ p. p.place < length count.now.election.projects) payments.old.items }
+    ensures { OnOk result (payments.new.items ≡ payments_in_file count.now.order payments.old.items) }
+{
+    // What is true of every count is so of this one.
+    let _election = count.election();
+    for i in 0..payments.len() {
+        let payment = payments[i];
+        payments[i].place = count.place(payment.place);
+    }
+    payments.sort_by_key(|payment| payment.place)?;
     Ok(())
 }
 

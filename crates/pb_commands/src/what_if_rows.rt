@@ -3,8 +3,6 @@
 ghost use Rattle.std.specs.Prelude.{◌≡◌, ◌≢◌, ◌↔◌, ◌<◌, ◌≤◌, ◌++◌, ◌∷◌, [], ℕ, Contains, IfErr, IfOk, IfSome};
 ghost use Rattle.std.specs.Prelude.{IsTrue, List, None, OnOk, Some, length, map, slice_get};
 ghost use Rattle.pb_core.specs.Election.{most_voters, project_ids};
-ghost use Rattle.pb_rounds.specs.Counted.{IsCountFault};
-ghost use Rattle.pb_rounds.specs.CountFault.{refusal_of};
 ghost use Rattle.pb_rounds.specs.declared.count_fault.CountFault.TheVariants.{NoMemory};
 ghost use Rattle.pb_rows.specs.Tables.{table_text};
 ghost use Rattle.pb_rows.specs.Writing.{text_of_row, text_of_rows};
@@ -65,7 +63,7 @@ pub fn what_if_text<T: Threads + Sync, G: Gate>(
     ensures ok { IfOk result (λ text. (place : ℕ)
         × (slice_get (project_ids election) place ≡ Some project.now)
         × IsWhatIfText election (record { rule = counting.now.rule.now; place = place }) changes text.items) }
-    ensures fault { IfErr result (WhatIfRefuses election counting.now.rule.now.options project.now changes) }
+    ensures fault { IfErr result (WhatIfRefuses election counting.now.rule.now project.now changes) }
 {
     let Some(place) = place_of(&election, project) else {
         drop(election);
@@ -95,7 +93,7 @@ fn searched_text<T: Threads + Sync, G: Gate>(
     requires known { recount.now.question.place < length election.projects }
     ensures ok { IfOk result (λ text. IsWhatIfText election recount.now.question Searched text.items) }
     ensures fault { (id : List ℕ)
-        → IfErr result (WhatIfRefuses election recount.now.question.rule.options id Searched) }
+        → IfErr result (WhatIfRefuses election recount.now.question.rule id Searched) }
 {
     let alloc = recount.alloc;
     let found = match what_if(recount, election) {
@@ -119,7 +117,7 @@ fn one_text<T: Threads + Sync, G: Gate>(
     ensures ok { IfOk result (λ text. IsWhatIfText election recount.now.question
         (One change value) text.items) }
     ensures fault { (id : List ℕ)
-        → IfErr result (WhatIfRefuses election recount.now.question.rule.options id (One change value)) }
+        → IfErr result (WhatIfRefuses election recount.now.question.rule id (One change value)) }
 {
     let alloc = recount.alloc;
     if !can_be(&election, change, value) {

@@ -3,3 +3,4 @@
 pub mod Ids
 pub mod Terms
 pub mod Approved
+pub mod Order

@@ -4,5 +4,6 @@ pub mod Election
 pub mod Money
 pub mod MoneyText
 pub mod Numbered
+pub mod Order
 pub mod Request
 pub mod Inner

@@ -1,11 +1,14 @@
 //! The places of the projects that a voter approves.
 
-ghost use Rattle.std.specs.Prelude.{◌≡◌, ◌↔◌, ◌==◌, ℕ, List, IsTrue, IfOk, MatchOption};
+ghost use Rattle.std.specs.Prelude.{◌≡◌, ◌↔◌, ◌==◌, ◌<◌, ℕ, All, List, IsTrue, IfOk, MatchOption, length, map};
+ghost use Rattle.std.specs.Prelude.{slice_index};
 ghost use Rattle.std.specs.List.{list_any};
 ghost use Rattle.std.specs.List.Sorted.{IsStrictlyIncreasing};
 ghost use Rattle.pb_core.specs.Ballot.{HasSameMembers};
+ghost use Rattle.pb_core.specs.Order.{ballot_in};
 
 use crate::no_memory::NoMemory;
+use crate::order::ProjectOrder;
 use std::alloc::{Allocator, Global};
 use std::marker::Model;
 
@@ -71,6 +74,15 @@ impl<A: Allocator> Ballot<A> {
     {
         self.places.contains(&place)
     }
+
+    /// Approves the same projects by their positions in this order.
+    pub(crate) fn put_in_order<B: Allocator>(&mut self, order: &ProjectOrder<B>)
+        requires { All (λ place. place < length order.now) self.old }
+        ensures { self.new ≡ ballot_in order.now self.old }
+    {
+        exchange(&mut self.places, order.positions());
+        make_rising(&mut self.places);
+    }
 }
 
 /// Whether each place is above the one before it.
@@ -83,6 +95,17 @@ fn is_rising(places: &[u32]) -> bool
         }
     }
     true
+}
+
+/// Puts for each place what stands there in a list.
+fn exchange<A: Allocator>(places: &mut Vec<u32, A>, list: &[u32])
+    requires { All (λ place. place < length list.now) places.old.items }
+    ensures { places.new.items ≡ map (slice_index list.now) places.old.items }
+{
+    for i in 0..places.len() {
+        let place = places[i];
+        places[i] = list[place as usize];
+    }
 }
 
 /// Puts the places in rising order, each once.

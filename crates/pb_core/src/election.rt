@@ -2,12 +2,14 @@
 
 ghost use Rattle.std.specs.Prelude.{◌≡◌, ◌≢◌, ◌<◌, ◌≤◌, ◌↔◌, ◌++◌, ◌∷◌, [], length, map, All, IsTrue};
 ghost use Rattle.std.specs.Prelude.{Contains};
-ghost use Rattle.std.specs.Prelude.{OnOk, OnErr, None};
+ghost use Rattle.std.specs.Prelude.{IfOk, OnOk, OnErr, None, filter_map, slice_get};
 ghost use Rattle.pb_core.specs.Money.{largest_money};
+ghost use Rattle.pb_core.specs.Inner.Order.{voter_in};
 
 use crate::ballot::Ballot;
 use crate::money::Money;
 use crate::no_memory::NoMemory;
+use crate::order::ProjectOrder;
 use crate::project::Project;
 use crate::terms::Terms;
 use crate::voter::Voter;
@@ -56,6 +58,7 @@ impl<A: Allocator> Election<A> {
     ghost use Rattle.std.specs.List.{AllPairs};
     ghost use Rattle.pb_core.specs.Election.{IsElection, IsVoter, project_ids, voter_ids};
     ghost use Rattle.pb_core.specs.Election.{most_projects, most_voters};
+    ghost use Rattle.pb_core.specs.Order.{in_order};
 
     /// An election with this budget, without a limit, and with neither projects nor voters yet.
     pub fn start(alloc: A, budget: Money) -> Election<A>
@@ -190,5 +193,50 @@ impl<A: Allocator> Election<A> {
         ensures replaced { self.new ≡ record self.old { voters = voters.items } }
     {
         mem::replace(&mut self.voters, voters)
+    }
+
+    /// Puts its projects in this order; each ballot approves the same projects. Where memory is refused all
+    /// stays as it is.
+    pub fn put_in_order(&mut self, alloc: A, order: &ProjectOrder<A>) -> Result<(), NoMemory>
+    where
+        A: Copy,
+        requires { length order.now ≡ length self.old.projects }
+        ensures ok { OnOk result (self.new ≡ in_order order.now self.old) }
+        ensures err { OnErr result (self.new ≡ self.old) }
+    {
+        let projects = copied(alloc, self.projects.as_slice(), order.places())?;
+        put_ballots_in_order(&mut self.voters, order);
+        drop(mem::replace(&mut self.projects, projects));
+        Ok(())
+    }
+}
+
+/// The projects at these places, in memory of their own.
+fn copied<A: Allocator>(
+    alloc: A,
+    projects: &[Project<A>],
+    places: &[u32],
+) -> Result<Vec<Project<A>, A>, NoMemory>
+where
+    A: Copy,
+    requires { All (λ place. place < length projects.now) places.now }
+    ensures { IfOk result (λ copies. copies.items ≡ filter_map (slice_get projects.now) places.now) }
+{
+    let mut copies = Vec::with_capacity(alloc, places.len())?;
+    for place in places {
+        let project = projects[*place as usize].copy(alloc)?;
+        copies.push(project)?;
+    }
+    Ok(copies)
+}
+
+/// Lets each ballot approve the same projects by their positions in this order.
+fn put_ballots_in_order<A: Allocator>(voters: &mut Vec<Voter<A>, A>, order: &ProjectOrder<A>)
+    requires { All (λ v. All (λ place. place < length order.now) v.ballot) voters.old.items }
+    ensures { voters.new.items ≡ map (voter_in order.now) voters.old.items }
+{
+    for i in 0..voters.len() {
+        let voter = &mut voters[i];
+        voter.put_in_order(order);
     }
 }

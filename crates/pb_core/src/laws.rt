@@ -1,7 +1,10 @@
 //! Laws over the definitions alone. The functions do nothing; their contracts are the laws.
 
-ghost use Rattle.std.specs.Prelude.{◌≡◌, ◌↔◌, ◌<◌, ◌≤◌, ◌^◌, ◌++◌, ℕ, List, [], length, codes, Ok, Err};
+ghost use Rattle.std.specs.Prelude.{◌≡◌, ◌↔◌, ◌<◌, ◌≤◌, ◌^◌, ◌++◌, ℕ, List, [], length, map, codes, Ok, Err};
+ghost use Rattle.std.specs.List.{range_with_len};
+ghost use Rattle.pb_core.specs.Election.{ElectionView, IsElection};
 ghost use Rattle.pb_core.specs.Money.{money_of, largest_money};
+ghost use Rattle.pb_core.specs.Order.{IsOrder, in_order, position_in};
 ghost use Rattle.pb_core.specs.MoneyText.{IsMoneyText, IsWorth, money_text};
 
 use crate::money_fault::MoneyFault;
@@ -35,4 +38,11 @@ pub fn money_is_what_its_text_names()
     ensures too_large { (text : List ℕ) → money_of text ≡ Err MoneyFault.MoneyTooLarge
         ↔ ((whole : List ℕ) × (decimals : List ℕ) × (h : ℕ)
         × IsMoneyText text whole decimals × IsWorth whole decimals h × (largest_money < h)) }
+{}
+
+/// An election whose projects are put in an order, and then back, is as it was: nothing of it is lost.
+pub fn orders_lead_back()
+    ensures { (e : ElectionView) (order : List ℕ) → IsElection e → IsOrder order
+        → length order ≡ length e.projects
+        → in_order (map (position_in order) (range_with_len 0 (length order))) (in_order order e) ≡ e }
 {}

@@ -1,9 +1,10 @@
 //! A project that may be funded.
 
-ghost use Rattle.std.specs.Prelude.{◌≡◌, ◌≢◌, ◌<◌, ◌≤◌, [], string_bytes};
+ghost use Rattle.std.specs.Prelude.{◌≡◌, ◌≢◌, ◌<◌, ◌≤◌, [], IfOk, string_bytes};
 ghost use Rattle.pb_core.specs.Money.{largest_money};
 
 use crate::money::Money;
+use crate::no_memory::NoMemory;
 use std::alloc::{Allocator, Global};
 use std::marker::Model;
 
@@ -43,6 +44,17 @@ impl<A: Allocator> Project<A> {
         ensures cost { result.cost ≡ cost }
     {
         Project { id, name, cost }
+    }
+
+    /// The same project, in memory of its own.
+    pub fn copy<B: Allocator>(&self, alloc: B) -> Result<Project<B>, NoMemory>
+    where
+        B: Copy,
+        ensures { IfOk result (λ project. project ≡ self.now) }
+    {
+        let id = String::from_str(alloc, self.id())?;
+        let name = String::from_str(alloc, self.name())?;
+        Ok(Project::new(id, name, self.cost()))
     }
 
     /// The id, by which votes name the project.

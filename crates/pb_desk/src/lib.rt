@@ -44,7 +44,7 @@ pub use audit_watch::{AuditWatch, NoAuditWatch};
 pub use desk::{Desk, MOST_CLERKS};
 pub use desk_fault::DeskFault;
 pub use into_fault::IntoFault;
-pub use journal_audit::{audit, audit_or_hand_back};
+pub use journal_audit::{audit, audit_or_hand_back, audit_records};
 pub use request_fields::{RequestFields, Strictness, read_request};
 pub use standing_ballots::StandingBallots;
 pub use start_fault::StartFault;

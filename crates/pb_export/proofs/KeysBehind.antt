@@ -3,7 +3,7 @@ use Rattle.std.proofs.Common.{◌≡◌, ◌≤◌, ◌<◌, ◌+◌, ◌++◌, 
 use Rattle.std.specs.Prelude.{is_some}
 use Rattle.std.specs.List.{AllByRecursion}
 use Rattle.std.specs.Str.{trim}
-use Rattle.std.proofs.lemmas.Bool.{and_parts, false≢true, or_parts}
+use Rattle.std.proofs.lemmas.Bool.{false≢true, or_parts}
 use Rattle.std.proofs.lemmas.List.{length-map, map-append}
 use Rattle.std.proofs.lemmas.List.Elements.{filter_more}
 use Rattle.pb_rows.specs.Reading.{Fields}
@@ -40,10 +40,10 @@ aside : (k : KeyView) → follows k ≡ true → IsAside (trimmed (key_fields k)
 unfolding head_of
 aside k is =
     let name = trim k.0 in
-    let parts = and_parts (not (is_own_key name)) (not (is_some (head_of (name ∷ [])))) is in
-    let own = or_parts (is_some (key_of name)) _ (no_true _ parts.0) in
+    let parts = or_parts (is_own_key name) (is_some (head_of (name ∷ []))) (no_true _ is) in
+    let own = or_parts (is_some (key_of name)) _ parts.0 in
     record {
-      head = none_found (head_of (trimmed (key_fields k))) (no_true _ parts.1);
+      head = none_found (head_of (trimmed (key_fields k))) parts.1;
       key = none_found (key_of name) own.0;
     }
 

@@ -1,5 +1,5 @@
 -- META, read back.
-use Rattle.std.proofs.Common.{◌≡◌, ◌==◌, ◌<◌, ◌≤◌, ◌^◌, ◌*◌, ◌/◌, ◌%◌, ◌++◌, ℕ, Bool, true, false, cond, drop, List, [], ◌∷◌, append-nil, length, decimal, nat_le, Option, Some, None, Ok, refl, ap, sym, ◌∙◌, inl, arith, rules}
+use Rattle.std.proofs.Common.{◌≡◌, ◌==◌, ◌<◌, ◌≤◌, ◌^◌, ◌*◌, ◌/◌, ◌%◌, ◌++◌, ℕ, Bool, true, false, cond, drop, List, [], ◌∷◌, append-nil, length, decimal, nat_le, Option, Some, None, Ok, refl, ap, sym, ◌∙◌, inl, arith, rules, subst}
 use Rattle.std.specs.List.{AllByRecursion}
 use Rattle.std.proofs.lemmas.Bool.{eqb-true}
 use Rattle.std.specs.Str.{trim, trim_start, trim_end, chars}
@@ -17,7 +17,7 @@ use Rattle.pb_read.specs.StandsFor.{IsMeta, meta_for}
 use Rattle.pb_rows.specs.Reading.{Fields}
 use Rattle.pb_read.specs.MetaRows.{meta_of}
 use Rattle.pb_export.specs.FileRows.{amount_text, meta_rows}
-use Rattle.pb_export.specs.Inner.Parts.{KeyView, key_rows}
+use Rattle.pb_export.specs.Inner.Parts.{KeyView, key_rows, meta_parts}
 use Rattle.pb_export.proofs.KeysBehind.{asides, heads_of, meta_behind}
 use Rattle.pb_export.proofs.Tidy.{decimal_plain, money_plain, plain_tidy}
 
@@ -62,10 +62,10 @@ limit_back most small =
     ap max_length_of (plain_tidy (decimal most) (decimal_plain most fits))
     ∙ rw (is_some_text (decimal most) (decimal_nonempty most fits)) (rw parts.form (rw parts.decimals_is (rw parts.whole_is (rw numeral.1 (rw (small_enough most small) refl)))))
 
-pub gives_terms : ((h : ℕ) → h ≤ largest_money → money_of (money_text h) ≡ Ok h) → (e : ElectionView) (rule comment : List ℕ) (keys : List KeyView) → e.budget ≤ largest_money → ((most : ℕ) → e.max_length ≡ Some most → most ≤ most_projects)
-    → IsMeta (meta_for e) (rows_of (meta_rows e rule comment keys))
+gives_parts : ((h : ℕ) → h ≤ largest_money → money_of (money_text h) ≡ Ok h) → (e : ElectionView) (rule comment : List ℕ) (keys : List KeyView) → e.budget ≤ largest_money → ((most : ℕ) → e.max_length ≡ Some most → most ≤ most_projects)
+    → IsMeta (meta_for e) (rows_of (meta_parts e rule comment keys))
 unfolding head_of trim_start trim_end chars encode
-gives_terms reads_back e rule comment keys small limited = go e.max_length limited
+gives_parts reads_back e rule comment keys small limited = go e.max_length limited
   where
     budget : Ok e.budget ≡ money_of (trim (amount_text e.budget))
     budget = sym (amount_back reads_back e.budget small)
@@ -73,13 +73,26 @@ gives_terms reads_back e rule comment keys small limited = go e.max_length limit
     heads : AllByRecursion (λ row. head_of row ≡ None) (rows_of (key_rows keys))
     heads = heads_of (rows_of (key_rows keys)) (asides keys)
 
-    go : (limit : Option ℕ) → ((most : ℕ) → limit ≡ Some most → most ≤ most_projects) → IsMeta (meta_for (record e { max_length = limit })) (rows_of (meta_rows (record e { max_length = limit }) rule comment keys))
+    go : (limit : Option ℕ) → ((most : ℕ) → limit ≡ Some most → most ≤ most_projects) → IsMeta (meta_for (record e { max_length = limit })) (rows_of (meta_parts (record e { max_length = limit }) rule comment keys))
     go None limited =
-        let own : List Fields = drop 2 (rows_of (meta_rows (record e { max_length = None }) rule comment [])) in
+        let own : List Fields = drop 2 (rows_of (meta_parts (record e { max_length = None }) rule comment [])) in
         let is : meta_for (record e { max_length = None }) ≡ meta_of own = λ i. record { budget = Some (budget i); approval = Some true; max_length = Ok None } in
         (_, own ++ rows_of (key_rows keys), ([], _, refl, refl, refl, (refl, (refl, (refl, (refl, (refl, (refl, (refl, heads)))))))), is ∙ sym (meta_behind own (rows_of (key_rows keys)) (asides keys)))
     go (Some most) limited =
         let back = sym (limit_back most (limited most refl)) in
-        let own : List Fields = drop 2 (rows_of (meta_rows (record e { max_length = Some most }) rule comment [])) in
+        let own : List Fields = drop 2 (rows_of (meta_parts (record e { max_length = Some most }) rule comment [])) in
         let is : meta_for (record e { max_length = Some most }) ≡ meta_of own = λ i. record { budget = Some (budget i); approval = Some true; max_length = back i } in
         (_, own ++ rows_of (key_rows keys), ([], _, refl, refl, refl, (refl, (refl, (refl, (refl, (refl, (refl, (refl, (refl, heads))))))))), is ∙ sym (meta_behind own (rows_of (key_rows keys)) (asides keys)))
+
+-- META is its keys and values, row by row
+pub meta_is : (e : ElectionView) (rule comment : List ℕ) (keys : List KeyView) → meta_rows e rule comment keys ≡ meta_parts e rule comment keys
+meta_is e rule comment keys = go e.max_length
+  where
+    go : (limit : Option ℕ) → meta_rows (record e { max_length = limit }) rule comment keys ≡ meta_parts (record e { max_length = limit }) rule comment keys
+    go None = refl
+    go (Some most) = refl
+
+pub gives_terms : ((h : ℕ) → h ≤ largest_money → money_of (money_text h) ≡ Ok h) → (e : ElectionView) (rule comment : List ℕ) (keys : List KeyView) → e.budget ≤ largest_money → ((most : ℕ) → e.max_length ≡ Some most → most ≤ most_projects)
+    → IsMeta (meta_for e) (rows_of (meta_rows e rule comment keys))
+gives_terms reads_back e rule comment keys small limited =
+    subst (λ (rows : List Fields). IsMeta (meta_for e) (rows_of rows)) (sym (meta_is e rule comment keys)) (gives_parts reads_back e rule comment keys small limited)

@@ -20,13 +20,13 @@ use Rattle.pb_read.specs.Inner.Fields.{trimmed}
 use Rattle.pb_read.specs.Rows.{is_blank, rows_of}
 use Rattle.pb_read.specs.StandsFor.{GivesAll, StandsFor}
 use Rattle.pb_export.specs.Inner.Parts.{has_comma_in_vote, has_section_word}
-use Rattle.pb_export.specs.Inner.Parts.{KeyView, has_comma, is_section_word, key_rows, projects_from, vote_row}
+use Rattle.pb_export.specs.Inner.Parts.{KeyView, has_comma, is_section_word, key_rows, meta_parts, projects_from, vote_row}
 use Rattle.pb_export.specs.FileRows.{file_rows, meta_rows, projects_rows, votes_rows}
 use Rattle.pb_export.specs.declared.further.Further.{Further}
 use Rattle.pb_export.specs.Inner.Behind.{of_project, of_voter}
 use Rattle.pb_export.proofs.OfFile.{IsOfFile}
 use Rattle.pb_export.proofs.KeysBehind.{few_keys, key_rows_fields}
-use Rattle.pb_export.proofs.Metas.{gives_terms}
+use Rattle.pb_export.proofs.Metas.{gives_terms, meta_is}
 use Rattle.pb_export.proofs.Pieces.{IsPiece}
 use Rattle.pb_export.proofs.Words.{section_words}
 use Rattle.pb_export.proofs.Projects as projects
@@ -35,8 +35,8 @@ use Rattle.pb_export.proofs.Votes as votes
 abbrev HasField : Fields → Type 0
 HasField fields = 0 < length fields
 
-meta_fields : (e : ElectionView) (rule comment : List ℕ) (keys : List KeyView) → length keys ≤ 900000 → AllByRecursion HasField (meta_rows e rule comment keys) × (length (meta_rows e rule comment keys) ≤ 900009)
-meta_fields e rule comment keys small = go e.max_length
+parts_fields : (e : ElectionView) (rule comment : List ℕ) (keys : List KeyView) → length keys ≤ 900000 → AllByRecursion HasField (meta_parts e rule comment keys) × (length (meta_parts e rule comment keys) ≤ 900009)
+parts_fields e rule comment keys small = go e.max_length
   where
     few : length (key_rows keys) ≤ 900000
     few = few_keys keys small
@@ -44,9 +44,13 @@ meta_fields e rule comment keys small = go e.max_length
     behind : AllByRecursion HasField (key_rows keys)
     behind = key_rows_fields keys
 
-    go : (limit : Option ℕ) → AllByRecursion HasField (meta_rows (record e { max_length = limit }) rule comment keys) × (length (meta_rows (record e { max_length = limit }) rule comment keys) ≤ 900009)
+    go : (limit : Option ℕ) → AllByRecursion HasField (meta_parts (record e { max_length = limit }) rule comment keys) × (length (meta_parts (record e { max_length = limit }) rule comment keys) ≤ 900009)
     go None = ((omega arith, (omega arith, (omega arith, (omega arith, (omega arith, (omega arith, (omega arith, (omega arith, behind)))))))), omega (arith, few))
     go (Some most) = ((omega arith, (omega arith, (omega arith, (omega arith, (omega arith, (omega arith, (omega arith, (omega arith, (omega arith, behind))))))))), omega (arith, few))
+
+meta_fields : (e : ElectionView) (rule comment : List ℕ) (keys : List KeyView) → length keys ≤ 900000 → AllByRecursion HasField (meta_rows e rule comment keys) × (length (meta_rows e rule comment keys) ≤ 900009)
+meta_fields e rule comment keys small =
+    subst (λ (rows : List Fields). AllByRecursion HasField rows × (length rows ≤ 900009)) (sym (meta_is e rule comment keys)) (parts_fields e rule comment keys small)
 
 project_fields : (counts : List ℕ) (selected : List Bool) (more_of : ℕ → Fields) (place : ℕ) (ps : List ProjectView) → AllByRecursion HasField (projects_from counts selected more_of place ps) × (length (projects_from counts selected more_of place ps) ≡ length ps)
 project_fields counts selected more_of place [] = (tt, refl)

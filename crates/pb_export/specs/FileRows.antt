@@ -1,5 +1,5 @@
 -- The rows of an exported file.
-use Rattle.std.specs.Prelude.{ℕ, ◌/◌, ◌%◌, ◌==◌, ◌&&◌, ◌||◌, Bool, false, not, if◌then◌else◌, List, [], ◌∷◌}
+use Rattle.std.specs.Prelude.{ℕ, ◌/◌, ◌%◌, ◌==◌, ◌||◌, Bool, false, not, if◌then◌else◌, List, [], ◌∷◌}
 use Rattle.std.specs.Prelude.{◌++◌, Option, codes, decimal, filter, is_some, length, map, slice_get, slice_index}
 use Rattle.std.specs.Prelude.{slice_index_or}
 use Rattle.std.specs.FinMap as finite
@@ -21,22 +21,17 @@ amount_text h = if h % 100 == 0 then decimal (h / 100) else money_text h
 -- a further key with this name may follow in META: it is none that readers take, none of these, which the file
 -- has of its own, and no section's head
 abbrev pub may_follow : List ℕ → Bool
-may_follow name =
-    not (is_some (key_of name) || list_any (λ word. is_word word name)
-    (codes "num_projects" ∷ codes "num_votes" ∷ codes "rule" ∷ codes "comment" ∷ []))
-    && not (is_some (head_of (name ∷ [])))
+may_follow name = not (is_some (key_of name) || list_any (λ word. is_word word name)
+    (codes "num_projects" ∷ codes "num_votes" ∷ codes "rule" ∷ codes "comment" ∷ []) || is_some (head_of (name ∷ [])))
 
 -- META: the keys that readers take, one of them where there is a limit on a ballot's length; the rule by its
 -- word, and in words as a comment; and the further keys that may follow, each a name and a value
 abbrev pub meta_rows : ElectionView → (rule comment : List ℕ) → (keys : List (List ℕ × List ℕ)) → List Fields
-meta_rows e rule comment keys =
-    ((codes "META" ∷ []) ∷ (codes "key" ∷ codes "value" ∷ []) ∷ (key_text Budget ∷ amount_text e.budget ∷ [])
-    ∷ (key_text VoteType ∷ codes "approval" ∷ [])
-    ∷ map (λ most. key_text MaxLength ∷ decimal most ∷ []) (option_to_list e.max_length))
-    ++ (codes "num_projects" ∷ decimal (length e.projects) ∷ [])
-    ∷ (codes "num_votes" ∷ decimal (length e.voters) ∷ []) ∷ (codes "rule" ∷ rule ∷ [])
-    ∷ (codes "comment" ∷ comment ∷ [])
-    ∷ map (λ key. key.0 ∷ key.1 ∷ []) (filter (λ key. may_follow (trim key.0)) keys)
+meta_rows e rule comment keys = (codes "META" ∷ []) ∷ map (λ (key : List ℕ × List ℕ). key.0 ∷ key.1 ∷ []) ((codes "key", codes "value")
+    ∷ (key_text Budget, amount_text e.budget) ∷ (key_text VoteType, codes "approval")
+    ∷ (map (λ most. (key_text MaxLength, decimal most)) (option_to_list e.max_length)
+    ++ (codes "num_projects", decimal (length e.projects)) ∷ (codes "num_votes", decimal (length e.voters))
+    ∷ (codes "rule", rule) ∷ (codes "comment", comment) ∷ filter (λ key. may_follow (trim key.0)) keys))
 
 -- the fields of a row, if there is one, below further columns of these names; one that it lacks is empty
 abbrev pub below : Fields → Option Fields → Fields

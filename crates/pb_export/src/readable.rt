@@ -28,7 +28,7 @@ fn is_section_word(id: &str) -> bool
 pub(crate) fn may_follow(name: &str) -> bool
     ensures { result ≡ may_follow name.now }
 {
-    !is_own_key(name) && !is_section_word(name)
+    !(is_own_key(name) || is_section_word(name))
 }
 
 /// Whether an exported file has a key with this name of its own.

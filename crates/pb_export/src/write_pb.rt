@@ -10,8 +10,8 @@ ghost use Rattle.pb_rows.specs.Writing.{text_of_row, text_of_rows};
 ghost use Rattle.pb_export.specs.Export.{export_refusal};
 ghost use Rattle.pb_export.specs.Inner.Behind.{behind};
 ghost use Rattle.pb_export.specs.Inner.Growing.{Grows};
-ghost use Rattle.pb_export.specs.Inner.Parts.{key_row, key_rows, limit_rows, project_row, terms_rows, vote_text};
-ghost use Rattle.pb_export.specs.FileRows.{file_rows, meta_rows, projects_rows};
+ghost use Rattle.pb_export.specs.Inner.Parts.{key_row, key_rows, limit_rows, meta_parts, project_row, terms_rows, vote_text};
+ghost use Rattle.pb_export.specs.FileRows.{file_rows, projects_rows};
 ghost use Rattle.pb_export.specs.FileRows.{votes_rows};
 
 use crate::amount::amount_text;
@@ -105,7 +105,7 @@ fn put_meta(
     rule: &str,
     comment: &str,
 ) -> Result<(), NoMemory>
-    ensures { OnOk result (Grows (meta_rows election.now rule.now comment.now []) rows.old.text
+    ensures { OnOk result (Grows (meta_parts election.now rule.now comment.now []) rows.old.text
         rows.new.text) }
 {
     let mut project_digits = Buffer::new();

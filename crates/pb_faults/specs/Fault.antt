@@ -26,7 +26,7 @@ use Rattle.pb_script.specs.declared.script_fault.TheConstants as of_script
 use Rattle.pb_script.specs.declared.script_fault.ScriptFault.TheVariants as script
 use Rattle.pb_faults.specs.declared.fault.AppFault.{AppFault}
 use Rattle.pb_faults.specs.declared.fault.AppFault.TheVariants.{Read, Script, ClerkCount, Audit, OtherFile}
-use Rattle.pb_faults.specs.declared.fault.AppFault.TheVariants.{OpenDesk, Count, Export, Open, Write, Memory}
+use Rattle.pb_faults.specs.declared.fault.AppFault.TheVariants.{OpenDesk, Count, TooManyRuns, Export, Open, Write, Memory}
 use Rattle.pb_faults.specs.declared.fault.AppFault.TheVariants.{Warned, Roll, Serving}
 use Rattle.pb_faults.specs.declared.run_text.RunText.{RunText}
 use Rattle.pb_faults.specs.contracts.run_text.RunText.{the_type as run_texts}
@@ -68,6 +68,7 @@ told OtherFile = (1, codes "other-file" ∷ [])
 told OpenDesk = (1, codes "open-desk" ∷ [])
 told (Count fault) = let n = numbered count_faults of_count.NAMES fault in
     (if n.0 == 4 then 1 else 2, codes "count" ∷ decimal n.0 ∷ n.1 ∷ [])
+told TooManyRuns = (1, codes "ties" ∷ codes "1" ∷ codes "TooManyRuns" ∷ [])
 told (Export fault) = let n = numbered export_faults of_export.NAMES fault in
     (1, codes "export" ∷ decimal n.0 ∷ n.1 ∷ [])
 told (Open text) = (3, codes "open" ∷ decimal (number_of text) ∷ [])

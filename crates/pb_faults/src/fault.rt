@@ -3,8 +3,8 @@
 use crate::run_text::RunText;
 use crate::serving_fault::ServingFault;
 use pb_core::no_memory::NoMemory;
-use pb_desk::{AuditFault, DeskFault};
-use pb_durable::{DeviceFault, DurableFault, OpenFault};
+use pb_desk::AuditFault;
+use pb_durable::{DeviceFault, OpenFault};
 use pb_export::ExportFault;
 use pb_read::{ReadFault, ReadKind, Warning};
 use pb_rounds::count_fault::CountFault;
@@ -36,6 +36,9 @@ pub enum AppFault {
     /// An option of the count is out of its range, or its raises are spent.
     #[error("count: {0}")]
     Count(CountFault),
+    /// The count rests on more runs than those whose ties are told.
+    #[error("ties: the count rests on too many runs")]
+    TooManyRuns,
     /// No file would be read back as the election.
     #[error("export: {0}")]
     Export(ExportFault),
@@ -176,36 +179,23 @@ impl From<OpenFault> for AppFault {
         match fault {
             OpenFault::Audit(fault) => AppFault::from(fault),
             OpenFault::Spelling => AppFault::Serving(ServingFault::Spelling),
-            OpenFault::Device(why) | OpenFault::Beside(why) => AppFault::from(why),
+            OpenFault::Device(DeviceFault::NoMemory) | OpenFault::Beside(DeviceFault::NoMemory) => {
+                AppFault::Memory
+            }
+            OpenFault::Device(DeviceFault::Failed | DeviceFault::Full)
+            | OpenFault::Beside(DeviceFault::Failed | DeviceFault::Full) => AppFault::Write,
         }
     }
 }
 
 impl From<DeviceFault> for AppFault {
     ghost use Rattle.std.specs.Prelude.{◌≡◌};
-    ghost use Rattle.pb_faults.specs.Durable.{of_device};
+    ghost use Rattle.pb_durable.specs.declared.open_fault.OpenFault.TheVariants as opening;
+    ghost use Rattle.pb_faults.specs.Durable.{of_opening};
 
-    ghost from_gives = { λ fault app. app ≡ of_device fault };
+    ghost from_gives = { λ fault app. app ≡ of_opening (opening.Device fault) };
 
     fn from(why: DeviceFault) -> AppFault {
-        match why {
-            DeviceFault::NoMemory => AppFault::Memory,
-            DeviceFault::Failed | DeviceFault::Full => AppFault::Write,
-        }
-    }
-}
-
-impl From<DurableFault> for AppFault {
-    ghost use Rattle.std.specs.Prelude.{◌≡◌};
-    ghost use Rattle.pb_faults.specs.Durable.{of_durable};
-
-    ghost from_gives = { λ fault app. app ≡ of_durable fault };
-
-    fn from(fault: DurableFault) -> AppFault {
-        match fault {
-            DurableFault::Desk(DeskFault::NoMemory) => AppFault::Memory,
-            DurableFault::Desk(DeskFault::JournalFull) => AppFault::Write,
-            DurableFault::Device(why) => AppFault::from(why),
-        }
+        AppFault::from(OpenFault::Device(why))
     }
 }

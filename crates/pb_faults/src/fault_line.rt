@@ -47,6 +47,7 @@ impl AppFault {
             AppFault::Count(fault) => {
                 write_numbered(writer, "count", fault.number(), fault.name())
             }
+            AppFault::TooManyRuns => write_fields(writer, &["ties", "1", "TooManyRuns"]),
             AppFault::Export(fault) => {
                 write_numbered(writer, "export", fault.number(), fault.name())
             }
@@ -78,6 +79,7 @@ impl AppFault {
             AppFault::OtherFile
             | AppFault::OpenDesk
             | AppFault::Count(CountFault::RaisesSpent)
+            | AppFault::TooManyRuns
             | AppFault::Export(_)
             | AppFault::Warned(_)
             | AppFault::Serving(ServingFault::Spelling) => REFUSED,

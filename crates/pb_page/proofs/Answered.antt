@@ -1,13 +1,14 @@
 -- What the parts of a page are where the code has told its cases apart.
 use Rattle.std.proofs.Common.{◌≡◌, ◌∙◌, ℕ, List, [], ap, length, refl, sym}
-use Rattle.std.specs.Prelude.{◌∷◌, ◌++◌, Option, None, Some, codes, decimal, if◌then◌else◌}
+use Rattle.std.specs.Prelude.{◌∷◌, Option, None, Some, codes, decimal, if◌then◌else◌, map, slice_index}
 use Rattle.std.specs.Option.{option_map_or}
 use Rattle.pb_core.specs.Election.{ElectionView, ProjectView}
 use Rattle.pb_page.specs.Amount.{shown}
-use Rattle.pb_page.specs.Content.{Part, attribute, element, isolated, item, line, number, own, said, say, text}
+use Rattle.pb_page.specs.Content.{Part, fill, item, number, say, text}
 use Rattle.pb_page.specs.Inner.Filling.{cut}
 use Rattle.pb_page.specs.Inner.Counted.{options_put, options_said, share_said, works_said}
-use Rattle.pb_page.specs.Page.{blocks, by_raises, called, linked, project_at, tie, titled, width}
+use Rattle.pb_page.specs.Inner.Value.{called}
+use Rattle.pb_page.specs.Page.{blocks, by_raises, linked, project_at, tie, titled, width}
 use Rattle.pb_page.specs.declared.keys.TheConstants as key
 use Rattle.pb_page.specs.declared.language.Language.{Language}
 use Rattle.pb_page.specs.declared.templates.TheConstants.{BUDGET_PART}
@@ -15,7 +16,7 @@ use Rattle.pb_page.proofs.Grown.{before}
 use Rattle.pb_reasons.specs.CountedElection.{CountedElectionView}
 use Rattle.pb_reasons.specs.declared.tie.Tie.{Tie}
 use Rattle.pb_rounds.specs.Count.{no_shares, opening_share}
-use Rattle.pb_rounds.specs.RuleNames.{by_completion, by_measure, completion_name, measure_name}
+use Rattle.pb_rounds.specs.RuleNames.{by_completion, by_measure, by_ties, completion_name, measure_name}
 use Rattle.pb_rounds.specs.declared.rule.Rule.{Rule}
 
 pub share_is : (l : Language) (r q : Rule) (share raised t n : ℕ) → r ≡ q → share ≡ t → raised ≡ n
@@ -61,42 +62,44 @@ works_put l k budget voters opening e budget_is voters_is opening_is rest =
 
 -- a link to the row of a project, of this id and this name
 abbrev link_shown : (place : ℕ) → (id name : List ℕ) → List Part
-link_shown place id name = element (codes "a") (attribute (codes "href") (own (codes "#p-") ++ text (decimal place))) (titled (record {
-  id = id;
-  name = name;
-  cost = 0;
-}))
+link_shown place id name =
+    fill (codes "<a href='#p-~'>~</a>") (text (decimal place) ∷ titled (record { id = id; name = name; cost = 0 }) ∷ [])
 
-pub link_is : (e : ElectionView) (place : ℕ) (id name : List ℕ) → id ≡ (project_at e place).id → name ≡ (project_at e place).name
-    → link_shown place id name ≡ linked e place
-link_is e place id name id_is name_is =
-    ap (λ (t : List ℕ). link_shown place t name) id_is ∙ ap (λ (t : List ℕ). link_shown place (project_at e place).id t) name_is
+pub link_is : (x : CountedElectionView) (place at : ℕ) (id name : List ℕ) → at ≡ slice_index x.order place
+    → id ≡ (project_at x.election place).id → name ≡ (project_at x.election place).name → link_shown at id name ≡ linked x place
+link_is x place at id name at_is id_is name_is =
+    let there = slice_index x.order place in let p = project_at x.election place in
+    ap (λ (n : ℕ). link_shown n id name) at_is ∙ ap (λ (t : List ℕ). link_shown there t name) id_is
+    ∙ ap (λ (t : List ℕ). link_shown there p.id t) name_is
 
--- what is said of a tie
+-- what is said of a tie: its keys, and the rest
+abbrev round_key : Rule → ℕ
+round_key r = by_measure r.options.measure (by_ties r.ties key.TIE_BY_VOTES key.TIE_BY_VOTES_TIED) (by_ties r.ties key.TIE_BY_COST key.TIE_BY_COST_TIED)
+
+abbrev added_key : Rule → ℕ
+added_key r = if no_shares r.options.completion then by_ties r.ties key.TIE_WON key.TIE_WON_TIED else by_ties r.ties key.TIE_ADDED key.TIE_ADDED_TIED
+
 abbrev tie_in : Language → CountedElectionView → (winner other : List Part) → Option ℕ → List Part
-tie_in l x winner other at = item (option_map_or (λ round. say l (by_measure x.rule.options.measure key.TIE_BY_VOTES key.TIE_BY_COST)
-    (number l (codes "round") round ∷ winner ∷ other ∷ [])) at
-    (say l (if no_shares x.rule.options.completion then key.TIE_WON else key.TIE_ADDED) (winner ∷ other ∷ [])))
+tie_in l x winner other at = item (option_map_or (λ round. say l (round_key x.rule) (number l (codes "round") round ∷ winner ∷ other ∷ [])) at
+    (say l (added_key x.rule) (winner ∷ other ∷ [])))
 
 tie_as : (l : Language) (x : CountedElectionView) (t : Tie) (at : Option ℕ) (winner other : List Part) → at ≡ t.round
-    → winner ≡ linked x.election t.winner → other ≡ linked x.election t.other → (rest : List ℕ)
+    → winner ≡ linked x t.winner → other ≡ linked x t.other → (rest : List ℕ)
     → before (tie_in l x winner other at) rest ≡ before (tie l x t) rest
 tie_as l x t at winner other at_is winner_is other_is rest =
     ap (λ (r : Option ℕ). before (tie_in l x winner other r) rest) at_is
     ∙ ap (λ (w : List Part). before (tie_in l x w other t.round) rest) winner_is
-    ∙ ap (λ (o : List Part). before (tie_in l x (linked x.election t.winner) o t.round) rest) other_is
+    ∙ ap (λ (o : List Part). before (tie_in l x (linked x t.winner) o t.round) rest) other_is
 
 pub tie_is : (l : Language) (x : CountedElectionView) (t : Tie) (k round : ℕ) (winner other : List Part)
-    → k ≡ by_measure x.rule.options.measure key.TIE_BY_VOTES key.TIE_BY_COST → t.round ≡ Some round
-    → winner ≡ linked x.election t.winner → other ≡ linked x.election t.other → (rest : List ℕ)
+    → k ≡ round_key x.rule → t.round ≡ Some round → winner ≡ linked x t.winner → other ≡ linked x t.other → (rest : List ℕ)
     → before (item (say l k (number l (codes "round") round ∷ winner ∷ other ∷ []))) rest ≡ before (tie l x t) rest
 tie_is l x t k round winner other k_is at_is winner_is other_is rest =
     ap (λ (n : ℕ). before (item (say l n (number l (codes "round") round ∷ winner ∷ other ∷ []))) rest) k_is
     ∙ tie_as l x t (Some round) winner other (sym at_is) winner_is other_is rest
 
 pub added_tie_is : (l : Language) (x : CountedElectionView) (t : Tie) (k : ℕ) (winner other : List Part)
-    → k ≡ (if no_shares x.rule.options.completion then key.TIE_WON else key.TIE_ADDED) → t.round ≡ None
-    → winner ≡ linked x.election t.winner → other ≡ linked x.election t.other → (rest : List ℕ)
+    → k ≡ added_key x.rule → t.round ≡ None → winner ≡ linked x t.winner → other ≡ linked x t.other → (rest : List ℕ)
     → before (item (say l k (winner ∷ other ∷ []))) rest ≡ before (tie l x t) rest
 added_tie_is l x t k winner other k_is at_is winner_is other_is rest =
     ap (λ (n : ℕ). before (item (say l n (winner ∷ other ∷ []))) rest) k_is
@@ -104,9 +107,9 @@ added_tie_is l x t k winner other k_is at_is winner_is other_is rest =
 
 -- a winner's part of the budget
 abbrev block_shown : Language → (from wide : ℕ) → (name id : List ℕ) → (cost : ℕ) → List Part
-block_shown l from wide name id cost = line (codes "span") (attribute (codes "style")
-    (own (codes "--from:") ++ (text (decimal from) ++ (own (codes ";--wide:") ++ text (decimal wide))))
-    ++ attribute (codes "title") (text name ++ (own (codes ": ") ++ text (shown l.costs cost)))) (isolated id)
+block_shown l from wide name id cost =
+    fill (codes "<span style='--from:~;--wide:~' title='~: ~'><bdi dir='auto'>~</bdi></span>\n")
+    (map text (decimal from ∷ decimal wide ∷ name ∷ shown l.costs cost ∷ id ∷ []))
 
 pub block_is : (l : Language) (e : ElectionView) (before_it place : ℕ) (p : ProjectView) (from wide : ℕ) (name id : List ℕ) (cost whole : ℕ)
     → from ≡ width before_it whole → wide ≡ width cost whole → whole ≡ e.budget → cost ≡ p.cost → name ≡ called p → id ≡ p.id → p ≡ project_at e place

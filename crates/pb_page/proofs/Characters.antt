@@ -1,10 +1,10 @@
 -- Characters as they stand in a page.
-use Rattle.std.proofs.Common.{◌≡◌, ℕ, ◌+◌, ◌*◌, ◌/◌, ◌%◌, ◌<◌, ◌≤◌, ◌^◌, Bool, false, List, [], ◌∷◌, ◌++◌, Some, None, append_assoc, decimal, refl, ◌∙◌, ap, inl, inr, arith}
-use Rattle.std.specs.Prelude.{◌||◌, ◌==◌, All}
-use Rattle.std.proofs.lemmas.Bool.{both_ways, cases_Bool, cases_lt, le-ltb, ne_eqb, or_parts}
+use Rattle.std.proofs.Common.{◌≡◌, ◌≢◌, ◌⊎◌, ℕ, ◌+◌, ◌%◌, ◌<◌, ◌≤◌, ◌^◌, Bool, false, [], ◌∷◌, ◌++◌, append-nil, decimal, refl, sym, ◌∙◌, inl, inr, arith}
+use Rattle.std.specs.Prelude.{◌||◌, ◌==◌, All, codes}
+use Rattle.std.proofs.lemmas.Bool.{both_ways, cases_Bool, cases_lt, eq-eqb, le-ltb, ne_eqb, or_parts, true≢false}
 use Rattle.std.proofs.lemmas.Fmt.{decimal_by_steps}
 use Rattle.std.proofs.lemmas.List.Elements.{All-append, All-cons, All-nil}
-use Rattle.pb_page.specs.Markup.{character, is_delimiter, read_from}
+use Rattle.pb_page.specs.Markup.{character, is_delimiter, written}
 use Rattle.pb_page.specs.Inner.Controls.{is_control}
 
 abbrev pub is_special : ℕ → Bool
@@ -66,25 +66,9 @@ character_plain c =
           (All-append P (decimal c) (59 ∷ []) (digits_plain c small) (All-cons P 59 [] refl (All-nil P)))))
     ]
 
--- reading a digit of a reference
-digit_read : (n d : ℕ) (rest : List ℕ) → d < 10 → read_from (Some n) ((48 + d) ∷ rest) ≡ read_from (Some (10 * n + d)) rest
-digit_read n d rest small =
-    let ends : 48 + d == 59 ≡ false = ne_eqb (48 + d) 59 (λ e. absurd (omega arith)) in
-    let sharp : 48 + d == 35 ≡ false = ne_eqb (48 + d) 35 (λ e. absurd (omega arith)) in
-    rw (ends, sharp) (ap (λ m. read_from (Some m) rest) (omega arith))
-
--- reading the digits of a reference
-digits_read : (n : ℕ) → n < 2 ^ 64 → (rest : List ℕ) → read_from (Some 0) (decimal n ++ rest) ≡ read_from (Some n) rest
-digits_read =
-    decimal_by_steps (λ n ds. (rest : List ℕ) → read_from (Some 0) (ds ++ rest) ≡ read_from (Some n) rest)
-    (λ n small rest. digit_read 0 n rest small ∙ ap (λ m. read_from (Some m) rest) (omega arith))
-    (λ n ds _ before rest. ap (read_from (Some 0)) (append_assoc ds ((48 + n % 10) ∷ []) rest) ∙ before ((48 + n % 10) ∷ rest)
-    ∙ digit_read (n / 10) (n % 10) rest (omega arith) ∙ ap (λ m. read_from (Some m) rest) (omega arith))
-
--- a character is read as it was
-pub character_read : (c : ℕ) (rest : List ℕ) → read_from None (character c ++ rest) ≡ c ∷ read_from None rest
-character_read c rest = elim (is_written c) [
-  | plain other is ↦ rw (is, (or_parts (c == 38) (is_mark c) other).0) refl
-  | numbered small is ↦
-      rw is (ap (read_from (Some 0)) (append_assoc (decimal c) (59 ∷ []) rest) ∙ digits_read c small (59 ∷ rest))
+-- each character stands as itself, or as its number
+pub each_stands : (c : ℕ) → ((c ≢ 38) × (written (c ∷ []) ≡ c ∷ [])) ⊎ (written (c ∷ []) ≡ codes "&#" ++ (decimal c ++ codes ";"))
+each_stands c = elim (is_written c) [
+  | plain other is ↦ inl (λ e. true≢false (sym (eq-eqb c 38 e) ∙ (or_parts (c == 38) (is_mark c) other).0), append-nil (character c) ∙ is)
+  | numbered small is ↦ inr (append-nil (character c) ∙ is)
 ]

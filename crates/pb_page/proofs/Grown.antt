@@ -4,11 +4,11 @@ use Rattle.std.specs.Prelude.{◌==◌, OnOk, Result, Ok, Err, flat_map, slice_i
 use Rattle.std.specs.List.{range_with_len}
 use Rattle.std.proofs.lemmas.Bool.{cases_Bool}
 use Rattle.std.proofs.lemmas.Grind.{flat_map-append}
-use Rattle.std.proofs.lemmas.List.{take_more}
+use Rattle.std.proofs.lemmas.List.{map-append, take_more}
 use Rattle.pb_price.proofs.BuiltLists.{range_with_len_more}
-use Rattle.pb_page.specs.Content.{Part, bytes, own}
-use Rattle.pb_page.specs.Inner.Filling.{cut, cut_at_places, filled}
-use Rattle.pb_page.specs.Inner.Grown.{Grows}
+use Rattle.pb_page.specs.Content.{Part}
+use Rattle.pb_page.specs.Inner.Filling.{cut, cut_at_places, filled, own}
+use Rattle.pb_page.specs.Inner.Grown.{Grows, bytes}
 use Rattle.pb_page.specs.Markup.{written}
 use Rattle.pb_page.specs.Words.{sentence}
 use Rattle.pb_page.specs.declared.language.Language.{Language}
@@ -93,4 +93,14 @@ pub place_more : (row : ℕ → List Part) (n : ℕ) (old middle new : List ℕ)
 place_more row n old middle new one two =
     let all : flat_map row (range_with_len 0 (n + 1)) ≡ flat_map row (range_with_len 0 n) ++ row n =
     ap (flat_map row) (range_with_len_more n) ∙ flat_map-append row (range_with_len 0 n) (n ∷ []) ∙ ap (λ (t : List Part). flat_map row (range_with_len 0 n) ++ t) (append-nil (row n)) in
+    rw all (then _ _ _ _ _ one two)
+
+-- the same, of the places that stand at these positions
+pub placed_more : (row : ℕ → List Part) (f : ℕ → ℕ) (n : ℕ) (old middle new : List ℕ)
+    → Grows old middle (flat_map row (map f (range_with_len 0 n))) → Grows middle new (row (f n)) → Grows old new (flat_map row (map f (range_with_len 0 (n + 1))))
+placed_more row f n old middle new one two =
+    let before_it = map f (range_with_len 0 n) in
+    let all : flat_map row (map f (range_with_len 0 (n + 1))) ≡ flat_map row before_it ++ row (f n) =
+    ap (λ (places : List ℕ). flat_map row (map f places)) (range_with_len_more n) ∙ ap (flat_map row) (map-append f (range_with_len 0 n) (n ∷ []))
+    ∙ flat_map-append row before_it (f n ∷ []) ∙ ap (λ (t : List Part). flat_map row before_it ++ t) (append-nil (row (f n))) in
     rw all (then _ _ _ _ _ one two)

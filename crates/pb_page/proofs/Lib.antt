@@ -12,3 +12,5 @@ mod Characters
 mod Texts
 mod Delimiters
 mod Ends
+mod Threes
+mod Shown

@@ -6,10 +6,10 @@ use Rattle.std.proofs.lemmas.Bool.{cases_Bool, eq-eqb, ne_eqb}
 use Rattle.std.proofs.lemmas.Grind.{flat_map-append}
 use Rattle.pb_core.specs.Election.{ElectionView}
 use Rattle.pb_core.specs.MoneyText.{money_text}
-use Rattle.pb_page.specs.Content.{Headed, Part, Section, amount, attribute, block, element, figure, item, line, listed, own, paragraph, said, say, section, section_link, text}
-use Rattle.pb_page.specs.Inner.Counted.{chosen, figures_of, files_said, filled_up, journal_source, link_said, made_by, name_said, options_told, picture_said, recount_said, result_said, rounds_said, rounds_told, share_said, spent_said, those_said, voted_said, works_said}
+use Rattle.pb_page.specs.Content.{Headed, Part, Section, amount, figure, fill, item, listed, paragraph, said, say, section, section_link, text}
+use Rattle.pb_page.specs.Inner.Counted.{chosen, equals, figures_of, files_said, filled_up, journal_source, link_said, made_by, name_said, options_told, picture_said, recount_said, result_said, rounds_said, rounds_told, share_said, spent_said, those_said, ties_listed, voted_said, works_said}
 use Rattle.pb_page.specs.Inner.Contents.{contents, has_added, link_to, links_to, sections}
-use Rattle.pb_page.specs.Inner.Filling.{cut}
+use Rattle.pb_page.specs.Inner.Filling.{cut, own}
 use Rattle.pb_page.specs.Page.{added_apart, beside, besides, blocks, budget, by_raises, categories, check, command, entry, others, parts, raises_ended, rule, short_key, source, summary, tie, ties, voters, winners, works}
 use Rattle.pb_page.specs.Words.{sentence}
 use Rattle.pb_page.specs.declared.categories.Categories.{Categories}
@@ -30,25 +30,26 @@ use Rattle.pb_reasons.specs.declared.raise_end.RaiseEnd.{RaiseEnd}
 use Rattle.pb_reasons.specs.declared.raise_end.RaiseEnd.TheVariants.{Over}
 use Rattle.pb_reasons.specs.declared.tie.Tie.{Tie}
 use Rattle.pb_rounds.specs.Count.{no_shares, opening_share}
-use Rattle.pb_rounds.specs.RuleNames.{by_completion, by_measure, profile_name}
+use Rattle.pb_rounds.specs.RuleNames.{by_completion, by_measure, by_ties, profile_name}
 use Rattle.pb_rounds.specs.declared.rule.Rule.{Rule}
 
 summary_as : (voted result : List Part) (rest : List ℕ)
     → before (own LEAD.now ++ (voted ++ (own LEAD_NEXT.now ++ (result ++ own LEAD_CLOSING.now)))) rest
-    ≡ before (line (codes "p") (own (codes " class='lead'")) voted ++ line (codes "p") (own (codes " class='lead'")) result) rest
-summary_as voted result rest = simp (append_assoc, before_more)
+    ≡ before (fill (codes "<p class='lead'>~</p>\n<p class='lead'>~</p>\n") (voted ∷ result ∷ [])) rest
+summary_as voted result rest = simp before_more
 
 budget_as : (l : Language) (says blocks spent : List Part) (rest : List ℕ)
     → before (heads l BUDGET_OPENING.now (key.BUDGET_HEADING ∷ []) ++ (says ++ (own BLOCKS_OPENING.now ++ (blocks
     ++ (own BLOCKS_CLOSING.now ++ (spent ++ own BUDGET_CLOSING.now)))))) rest
-    ≡ before (section l (Headed [] (codes "budget") key.BUDGET_HEADING (block (codes "figure") [] (block (codes "div")
-    (own (codes " class='budget' role='img'") ++ attribute (codes "aria-label") says) blocks ++ line (codes "figcaption") [] spent)))) rest
+    ≡ before (section l (Headed [] (codes "budget") key.BUDGET_HEADING
+    (fill (codes "<figure>\n<div class='budget' role='img' aria-label='~'>\n~</div>\n<figcaption>~</figcaption>\n</figure>\n")
+    (says ∷ blocks ∷ spent ∷ [])))) rest
 unfolding cut
 budget_as l says those spent rest = simp (append_assoc, before_more)
 
 -- a list in an item, where it has any items
 abbrev listed_all : Language → (k : ℕ) → (attributes items : List Part) → List Part
-listed_all l k attributes items = item (said l k ++ (own (codes "\n") ++ block (codes "ul") attributes items))
+listed_all l k attributes items = fill (codes "<li>~\n<ul~>\n~</ul>\n</li>\n") (said l k ∷ attributes ∷ items ∷ [])
 
 not_empty : {X : Type 0} (x : X) (xs : List X) → length (x ∷ xs) == 0 ≡ false
 not_empty {X} x xs = ne_eqb (length (x ∷ xs)) 0 (λ is. omega arith)
@@ -62,17 +63,17 @@ those_as : (l : Language) (k : ℕ) (items : List Part) (rest : List ℕ)
 unfolding cut
 those_as l k items rest = simp before_more
 
-ties_as : (l : Language) (items : List Part) (rest : List ℕ)
-    → before (heads l TIES_OPENING.now (key.TIES ∷ []) ++ (items ++ own LIST_CLOSING.now)) rest
-    ≡ before (listed_all l key.TIES (own (codes " class='ties'")) items) rest
+ties_as : (l : Language) (k : ℕ) (items : List Part) (rest : List ℕ)
+    → before (heads l TIES_OPENING.now (k ∷ []) ++ (items ++ own LIST_CLOSING.now)) rest
+    ≡ before (listed_all l k (own (codes " class='ties'")) items) rest
 unfolding cut
-ties_as l items rest = simp before_more
+ties_as l k items rest = simp before_more
 
 rule_as : (l : Language) (works rounds method filled ties : List Part) (rest : List ℕ)
     → before (heads l RULE_OPENING.now (key.RULE_HEADING ∷ []) ++ (works ++ (own LIST_OPENING.now ++ (rounds
     ++ (method ++ (filled ++ (ties ++ own RULE_CLOSING.now))))))) rest
-    ≡ before (section l (Headed [] (codes "rule") key.RULE_HEADING (works ++ block (codes "ol") [] (rounds
-    ++ ((method ++ filled) ++ ties))))) rest
+    ≡ before (section l (Headed [] (codes "rule") key.RULE_HEADING (fill (codes "~<ol>\n~~~</ol>\n")
+    (works ∷ rounds ∷ (method ++ filled) ∷ ties ∷ [])))) rest
 unfolding cut
 rule_as l works rounds method filled ties rest = simp (append_assoc, before_more)
 
@@ -83,24 +84,24 @@ rounds_as share one two three ends rest = simp (append_assoc, before_more)
 
 works_as : (l : Language) (says : List Part) (picture : List ℕ) (k : ℕ) (rest : List ℕ)
     → before (says ++ (own FIGURE_OPENING.now ++ (own picture ++ heads l FIGURE_CLOSING.now (k ∷ [])))) rest
-    ≡ before (says ++ block (codes "figure") [] (own picture ++ line (codes "figcaption") [] (said l k))) rest
+    ≡ before (says ++ fill (codes "<figure>\n~<figcaption>~</figcaption>\n</figure>\n") (own picture ∷ said l k ∷ [])) rest
 unfolding cut
-works_as l says picture k rest = simp (append_assoc, before_more)
+works_as l says picture k rest = simp before_more
 
 link_as : (l : Language) (says : List Part) (rest : List ℕ)
     → before (says ++ heads l PARAGRAPH.now (key.PROGRAM_TOO ∷ [])) rest ≡ before (says ++ paragraph (said l key.PROGRAM_TOO)) rest
 unfolding cut
-link_as l says rest = simp (append_assoc, before_more)
+link_as l says rest = simp before_more
 
 chosen_as : (measure completion step raises : List ℕ) (rest : List ℕ)
     → before (cut OPTIONS.now (measure ∷ completion ∷ step ∷ raises ∷ [])) rest
-    ≡ before (text measure ++ (text completion ++ (own (codes " --step ") ++ (text step ++ (own (codes " --raises ") ++ text raises))))) rest
+    ≡ before (fill (codes "~~ --step ~ --raises ~") (map text (measure ∷ completion ∷ step ∷ raises ∷ []))) rest
 unfolding cut
 chosen_as measure completion step raises rest = simp before_more
 
 abbrev ordered : (measure completion : List ℕ) → (step raises : ℕ) → List Part
-ordered measure completion step raises = text measure ++ (text completion ++ (own (codes " --step ") ++ (text (decimal step)
-    ++ (own (codes " --raises ") ++ text (decimal raises)))))
+ordered measure completion step raises =
+    fill (codes "~~ --step ~ --raises ~") (map text (measure ∷ completion ∷ decimal step ∷ decimal raises ∷ []))
 
 abbrev measure_said : Rule → List ℕ
 measure_said r = by_measure r.options.measure [] (codes " --measure cost")
@@ -111,16 +112,19 @@ completion_said r = by_completion r.options.completion r.fill_up (codes " --plai
 check_as : (l : Language) (file journal files link command options name made : List Part) (rest : List ℕ)
     → before (heads l CHECK_OPENING.now (key.CHECK_HEADING ∷ key.CHECK_BYTES ∷ []) ++ (file ++ (journal ++ (own SOURCES_CLOSING.now
     ++ (files ++ (link ++ (own COMMAND_OPENING.now ++ (command ++ (own COMMAND_CLOSING.now ++ (options ++ (name ++ (made ++ own CHECK_CLOSING.now)))))))))))) rest
-    ≡ before (section l (Headed [] (codes "check") key.CHECK_HEADING (paragraph (said l key.CHECK_BYTES) ++ (block (codes "dl") [] (file ++ journal)
-    ++ (files ++ (link ++ (line (codes "pre") [] (element (codes "code") [] command) ++ (options ++ (name ++ made))))))))) rest
+    ≡ before (section l (Headed [] (codes "check") key.CHECK_HEADING
+    (fill (codes "<p>~</p>\n<dl>\n~~</dl>\n~~<pre><code>~</code></pre>\n~~~")
+    (said l key.CHECK_BYTES ∷ file ∷ journal ∷ files ∷ link ∷ command ∷ options ∷ name ∷ made ∷ [])))) rest
 unfolding cut
 check_as l file journal files link order options name made rest = simp (append_assoc, before_more)
 
 -- the contents
+abbrev linked : Language → (links : List Part) → List Part
+linked l links = fill (codes "<nav aria-label='~'>\n<ul>\n~</ul>\n</nav>\n") (said l key.CONTENTS ∷ links ∷ [])
+
 contents_as : (l : Language) (a b c d e f g h i : List Part) (rest : List ℕ)
     → before (heads l CONTENTS_OPENING.now (key.CONTENTS ∷ []) ++ (a ++ (b ++ (c ++ (d ++ (e ++ (f ++ (g ++ (h ++ (i ++ own CONTENTS_CLOSING.now)))))))))) rest
-    ≡ before (block (codes "nav") (attribute (codes "aria-label") (said l key.CONTENTS)) (block (codes "ul") []
-    (a ++ (b ++ (c ++ (d ++ (e ++ (f ++ (g ++ (h ++ i)))))))))) rest
+    ≡ before (linked l (a ++ (b ++ (c ++ (d ++ (e ++ (f ++ (g ++ (h ++ i))))))))) rest
 unfolding cut
 contents_as l a b c d e f g h i rest = simp (append_assoc, before_more)
 
@@ -140,52 +144,19 @@ contents_are facts x with_added with_categories added_is categories_is rest = le
     (link_to l facts.compares (codes "compared") key.COMPARED_HEADING) (link_to l true (codes "rule") key.RULE_HEADING)
     (link_to l true (codes "check") key.CHECK_HEADING) rest)
 
--- the page, an element after the other
-line_before : (tag : List ℕ) (attributes inside : List Part) (rest : List ℕ) → before (line tag attributes inside) rest
-    ≡ (codes "<" ++ tag) ++ before attributes (codes ">" ++ before inside ((codes "</" ++ (tag ++ codes ">")) ++ (codes "\n" ++ rest)))
-line_before tag attributes inside rest =
-    let close = own (codes "</" ++ (tag ++ codes ">")) in
-    before_more (element tag attributes inside) (own (codes "\n")) rest ∙ ap (λ (t : List ℕ). (codes "<" ++ tag) ++ t)
-    (before_more attributes (own (codes ">") ++ (inside ++ close)) (codes "\n" ++ rest)
-    ∙ ap (λ (t : List ℕ). before attributes (codes ">" ++ t)) (before_more inside close (codes "\n" ++ rest)))
+-- the page, a piece after the other
+abbrev document : Language → (meta style title : List ℕ) → (lead links inside : List Part) → List Part
+document l meta style title lead links inside =
+    fill (codes "<!DOCTYPE html>\n<html lang='~' dir='~'>\n<head>\n~<title>~</title>\n<style>~</style>\n</head>\n<body>\n"
+    ++ codes "<header>\n<h1 dir='auto'>~</h1>\n~<nav aria-label='~'>\n<ul>\n~</ul>\n</nav>\n</header>\n<main>\n~</main>\n</body>\n</html>\n")
+    (said l key.LANG ∷ said l key.DIR ∷ own meta ∷ text title ∷ own style ∷ text title ∷ lead ∷ said l key.CONTENTS ∷ links ∷ inside ∷ [])
 
-nine : (a b c d e f g h i : List Part) (rest : List ℕ) → before (a ++ (b ++ (c ++ (d ++ (e ++ (f ++ (g ++ (h ++ i)))))))) rest
-    ≡ before a (before b (before c (before d (before e (before f (before g (before h (before i rest))))))))
-nine a b c d e f g h i rest = simp before_more
-
-abbrev document : Language → (meta style title : List ℕ) → (lead inside : List Part) → List Part
-document l meta style title lead inside = own (codes "<!DOCTYPE html>\n")
-    ++ block (codes "html") (attribute (codes "lang") (said l key.LANG) ++ attribute (codes "dir") (said l key.DIR))
-    (block (codes "head") [] (own meta ++ (line (codes "title") [] (text title) ++ line (codes "style") [] (own style)))
-    ++ block (codes "body") [] (block (codes "header") [] (line (codes "h1") (own (codes " dir='auto'")) (text title) ++ lead)
-    ++ block (codes "main") [] inside))
-
-page_as : (l : Language) (meta style title : List ℕ) (lead inside : List Part) (rest : List ℕ)
+page_as : (l : Language) (meta style title : List ℕ) (lead links inside : List Part) (rest : List ℕ)
     → before (heads l HEAD_OPENING.now (key.LANG ∷ key.DIR ∷ []) ++ (own meta ++ (cut TITLE.now (title ∷ []) ++ (own style
-    ++ (cut TOP.now (title ∷ []) ++ (lead ++ (own MAIN.now ++ (inside ++ own CLOSING.now)))))))) rest
-    ≡ before (document l meta style title lead inside) rest
+    ++ (cut TOP.now (title ∷ []) ++ (lead ++ (linked l links ++ (own MAIN.now ++ (inside ++ own CLOSING.now))))))))) rest
+    ≡ before (document l meta style title lead links inside) rest
 unfolding cut
-page_as l meta style title lead inside rest =
-    let attributes = attribute (codes "lang") (said l key.LANG) ++ attribute (codes "dir") (said l key.DIR) in
-    let head = block (codes "head") [] (own meta ++ (line (codes "title") [] (text title) ++ line (codes "style") [] (own style))) in
-    let first = line (codes "h1") (own (codes " dir='auto'")) (text title) in
-    let header = block (codes "header") [] (first ++ lead) in
-    let main = block (codes "main") [] inside in
-    let after = codes "</html>\n" ++ rest in
-    let within = codes "</body>\n" ++ after in
-    let pieces = nine (heads l HEAD_OPENING.now (key.LANG ∷ key.DIR ∷ [])) (own meta) (cut TITLE.now (title ∷ [])) (own style) (cut TOP.now (title ∷ []))
-    lead (own MAIN.now) inside (own CLOSING.now) rest in
-    let main_is = line_before (codes "main") [] (own (codes "\n") ++ inside) within in
-    let header_is = line_before (codes "header") [] (own (codes "\n") ++ (first ++ lead)) (before main within) in
-    let body_is = line_before (codes "body") [] (own (codes "\n") ++ (header ++ main)) after in
-    let html_is = line_before (codes "html") attributes (own (codes "\n") ++ (head ++ block (codes "body") [] (header ++ main))) rest in
-    let top_is = before_more first lead (codes "</header>\n" ++ before main within)
-    ∙ ap (λ (t : List ℕ). before first (before lead (codes "</header>\n" ++ t))) main_is in
-    let in_body = before_more header main within ∙ header_is ∙ ap (λ (t : List ℕ). codes "<header>\n" ++ t) top_is in
-    let in_html = before_more head (block (codes "body") [] (header ++ main)) after
-    ∙ ap (before head) (body_is ∙ ap (λ (t : List ℕ). codes "<body>\n" ++ t) in_body) in
-    pieces ∙ sym (ap (λ (t : List ℕ). codes "<!DOCTYPE html>\n" ++ t)
-    (html_is ∙ ap (λ (t : List ℕ). codes "<html" ++ before attributes (codes ">\n" ++ t)) in_html))
+page_as l meta style title lead links inside rest = simp before_more
 
 -- the same as what is counted
 pub summary_is : (l : Language) (x : CountedElectionView) (f : Figures) → f ≡ figures_of x → (rest : List ℕ)
@@ -220,63 +191,71 @@ budget_is l x f is rest =
     ≡ before (section l (budget l x)) rest in
     subst Same (sym is) (budget_as l (picture_said l (figures_of x)) (blocks l.costs x.election 0 (winners_of x.counted)) (spent_said l (figures_of x)) rest)
 
-some_entries : (l : Language) (e : ElectionView) (places : List ℕ) → length places == 0 ≡ false → length (flat_map (entry l e) places) == 0 ≡ false
-some_entries l e [] some = some
-some_entries l e (place ∷ places) some = ne_eqb (length (flat_map (entry l e) (place ∷ places))) 0 (λ is. omega arith)
+some_entries : (l : Language) (x : CountedElectionView) (places : List ℕ) → length places == 0 ≡ false → length (flat_map (entry l x) places) == 0 ≡ false
+some_entries l x [] some = some
+some_entries l x (place ∷ places) some = ne_eqb (length (flat_map (entry l x) (place ∷ places))) 0 (λ is. omega arith)
 
 some_ties : (l : Language) (x : CountedElectionView) (all : List Tie) → length all == 0 ≡ false → length (flat_map (tie l x) all) == 0 ≡ false
 some_ties l x [] some = some
 some_ties l x (t ∷ all) some = ne_eqb (length (flat_map (tie l x) (t ∷ all))) 0 (λ is. omega arith)
 
-pub those_are : (l : Language) (e : ElectionView) (k : ℕ) (places : List ℕ) → length places == 0 ≡ false → (rest : List ℕ)
-    → before (heads l THOSE_OPENING.now (k ∷ []) ++ (flat_map (entry l e) places ++ own LIST_CLOSING.now)) rest
-    ≡ before (those_said l e k places) rest
-those_are l e k places some rest =
-    let items = flat_map (entry l e) places in
-    those_as l k items rest ∙ ap (λ (b : Bool). before (if b then [] else listed_all l k [] items) rest) (sym (some_entries l e places some))
+pub those_are : (l : Language) (x : CountedElectionView) (k : ℕ) (places : List ℕ) → length places == 0 ≡ false → (rest : List ℕ)
+    → before (heads l THOSE_OPENING.now (k ∷ []) ++ (flat_map (entry l x) places ++ own LIST_CLOSING.now)) rest
+    ≡ before (those_said l x k places) rest
+those_are l x k places some rest =
+    let items = flat_map (entry l x) places in
+    those_as l k items rest ∙ ap (λ (b : Bool). before (if b then [] else listed_all l k [] items) rest) (sym (some_entries l x places some))
 
-pub none_of_those : (l : Language) (e : ElectionView) (k : ℕ) (places : List ℕ) → length places == 0 ≡ true → [] ≡ those_said l e k places
-none_of_those l e k places none = sym (ap (listed l k []) (no_items (entry l e) places none))
+pub none_of_those : (l : Language) (x : CountedElectionView) (k : ℕ) (places : List ℕ) → length places == 0 ≡ true → [] ≡ those_said l x k places
+none_of_those l x k places none = sym (ap (listed l k []) (no_items (entry l x) places none))
 
-abbrev over_said : Language → NextRaise → ElectionView → (new gone : List ℕ) → List Part
-over_said l next e new gone = item (say l key.OVER (amount l.amounts (codes "next_share") next.share ∷ amount l.costs (codes "next_cost") next.cost ∷ []))
-    ++ (those_said l e key.ONLY_THEN new ++ those_said l e key.NO_MORE gone)
+abbrev over_said : Language → NextRaise → CountedElectionView → (new gone : List ℕ) → List Part
+over_said l next x new gone = item (say l key.OVER (amount l.amounts (codes "next_share") next.share ∷ amount l.costs (codes "next_cost") next.cost ∷ []))
+    ++ (those_said l x key.ONLY_THEN new ++ those_said l x key.NO_MORE gone)
 
-pub over_is : (l : Language) (x : CountedElectionView) (next : NextRaise) (e : ElectionView) (winners places gone : List ℕ) → e ≡ x.election
+pub over_is : (l : Language) (x : CountedElectionView) (next : NextRaise) (winners places gone : List ℕ)
     → winners ≡ winners_of x.counted → places ≡ next.only_then.items → gone ≡ next.no_more.items → (rest : List ℕ)
     → before (item (say l key.OVER (amount l.amounts (codes "next_share") next.share ∷ amount l.costs (codes "next_cost") next.cost ∷ []))
-    ++ (those_said l e key.ONLY_THEN (beside winners places) ++ those_said l e key.NO_MORE gone)) rest
+    ++ (those_said l x key.ONLY_THEN (beside winners places) ++ those_said l x key.NO_MORE gone)) rest
     ≡ before (raises_ended l x (Over next)) rest
-over_is l x next e winners places gone e_is winners_is places_is gone_is rest =
+over_is l x next winners places gone winners_is places_is gone_is rest =
     let new = beside (winners_of x.counted) next.only_then.items in
-    ap (λ (w : List ℕ). before (over_said l next e (beside w places) gone) rest) winners_is
-    ∙ ap (λ (p : List ℕ). before (over_said l next e (beside (winners_of x.counted) p) gone) rest) places_is
-    ∙ ap (λ (g : List ℕ). before (over_said l next e new g) rest) gone_is
-    ∙ ap (λ (f : ElectionView). before (over_said l next f new next.no_more.items) rest) e_is
+    ap (λ (w : List ℕ). before (over_said l next x (beside w places) gone) rest) winners_is
+    ∙ ap (λ (p : List ℕ). before (over_said l next x (beside (winners_of x.counted) p) gone) rest) places_is
+    ∙ ap (λ (g : List ℕ). before (over_said l next x new g) rest) gone_is
 
-pub ties_are : (l : Language) (x : CountedElectionView) (all : List Tie) → all ≡ ties_of x.rule.options.measure x.election x.counted
-    → length all == 0 ≡ false → (rest : List ℕ)
-    → before (heads l TIES_OPENING.now (key.TIES ∷ []) ++ (flat_map (tie l x) all ++ own LIST_CLOSING.now)) rest ≡ before (ties l x) rest
-unfolding ties
-ties_are l x all is some rest = rw (sym is, some_ties l x all some) (ties_as l (flat_map (tie l x) all) rest)
+pub ties_are : (l : Language) (x : CountedElectionView) (k : ℕ) (all : List Tie) → k ≡ by_ties x.rule.ties key.TIES key.TIES_TIED
+    → all ≡ ties_of x.rule.options.measure x.election x.counted → length all == 0 ≡ false → (rest : List ℕ)
+    → before (heads l TIES_OPENING.now (k ∷ []) ++ (flat_map (tie l x) all ++ own LIST_CLOSING.now)) rest ≡ before (ties_listed l x) rest
+ties_are l x k all k_is is some rest =
+    rw (k_is, sym is, some_ties l x all some) (ties_as l (by_ties x.rule.ties key.TIES key.TIES_TIED) (flat_map (tie l x) all) rest)
 
 pub no_ties : (l : Language) (x : CountedElectionView) (all : List Tie) → all ≡ ties_of x.rule.options.measure x.election x.counted
-    → length all == 0 ≡ true → [] ≡ ties l x
-unfolding ties
+    → length all == 0 ≡ true → [] ≡ ties_listed l x
 no_ties l x all is none = rw (sym is, no_items (tie l x) all none) refl
+
+-- the rule for ties, and then the ties
+pub told_ties_are : (l : Language) (x : CountedElectionView) (r : Rule) → r ≡ x.rule → (rest : List ℕ)
+    → before (equals l r ++ ties_listed l x) rest ≡ before (ties l x) rest
+unfolding ties
+told_ties_are l x r is rest = ap (λ (q : Rule). before (equals l q ++ ties_listed l x) rest) is
+
+abbrev order_said : Rule → ℕ
+order_said r = by_measure r.options.measure (by_ties r.ties key.BY_VOTES key.BY_VOTES_TIED) (by_ties r.ties key.BY_COST key.BY_COST_TIED)
+
+abbrev raises_said : Rule → (raised : ℕ) → ℕ
+raises_said r raised = let raises = if raised == 0 then key.UNRAISED else key.RAISED in
+    by_completion r.options.completion r.fill_up key.PLAIN raises (by_ties r.ties key.FILLED_UP key.FILLED_UP_TIED) raises
 
 pub rounds_are : (l : Language) (x : CountedElectionView) (end : RaiseEnd) (share one two : List Part)
     → share ≡ share_said l (by_raises x.rule key.SHARE_UNRAISED key.SHARE) x.rule.options.step x.counted.outcome.share x.counted.outcome.raised
-    → one ≡ item (said l (by_measure x.rule.options.measure key.BY_VOTES key.BY_COST))
-    → two ≡ item (said l (by_completion x.rule.options.completion x.rule.fill_up key.PLAIN (if x.counted.outcome.raised == 0 then key.UNRAISED else key.RAISED)
-    key.FILLED_UP (if x.counted.outcome.raised == 0 then key.UNRAISED else key.RAISED))) → (rest : List ℕ)
+    → one ≡ item (said l (order_said x.rule)) → two ≡ item (said l (raises_said x.rule x.counted.outcome.raised)) → (rest : List ℕ)
     → before (share ++ (item (said l key.SUPPORTERS) ++ (one ++ (two ++ raises_ended l x end)))) rest ≡ before (rounds_said l x end) rest
 rounds_are l x end share one two share_is one_is two_is rest =
     rw (share_is, one_is, two_is) (rounds_as
     (share_said l (by_raises x.rule key.SHARE_UNRAISED key.SHARE) x.rule.options.step x.counted.outcome.share x.counted.outcome.raised)
-    (item (said l key.SUPPORTERS)) (item (said l (by_measure x.rule.options.measure key.BY_VOTES key.BY_COST)))
-    (item (said l (by_completion x.rule.options.completion x.rule.fill_up key.PLAIN (if x.counted.outcome.raised == 0 then key.UNRAISED else key.RAISED)
-    key.FILLED_UP (if x.counted.outcome.raised == 0 then key.UNRAISED else key.RAISED)))) (raises_ended l x end) rest)
+    (item (said l key.SUPPORTERS)) (item (said l (order_said x.rule)))
+    (item (said l (raises_said x.rule x.counted.outcome.raised))) (raises_ended l x end) rest)
 
 pub rounds_of_none : (l : Language) (x : CountedElectionView) (end : RaiseEnd) (n : ℕ) → n ≡ length x.election.voters → n == 0 ≡ true
     → [] ≡ rounds_told l x end
@@ -308,16 +287,18 @@ rule_is l x end method filled method_is filled_is shared rest =
 
 votes_rule_as : (l : Language) (item ties : List Part) (rest : List ℕ)
     → before (heads l RULE_OPENING.now (key.RULE_HEADING ∷ []) ++ (own LIST_OPENING.now ++ (item ++ (ties ++ own RULE_CLOSING.now)))) rest
-    ≡ before (section l (Headed [] (codes "rule") key.RULE_HEADING (block (codes "ol") [] (item ++ ties)))) rest
+    ≡ before (section l (Headed [] (codes "rule") key.RULE_HEADING (fill (codes "<ol>\n~~</ol>\n") (item ∷ ties ∷ [])))) rest
 unfolding cut
 votes_rule_as l item ties rest = simp (append_assoc, before_more)
 
-pub votes_rule_is : (l : Language) (x : CountedElectionView) (end : RaiseEnd) → no_shares x.rule.options.completion ≡ true → (rest : List ℕ)
-    → before (heads l RULE_OPENING.now (key.RULE_HEADING ∷ []) ++ (own LIST_OPENING.now ++ (item (said l key.MOST_VOTES_FIRST)
+pub votes_rule_is : (l : Language) (x : CountedElectionView) (end : RaiseEnd) (k : ℕ) → no_shares x.rule.options.completion ≡ true
+    → k ≡ by_ties x.rule.ties key.MOST_VOTES_FIRST key.MOST_VOTES_TIED → (rest : List ℕ)
+    → before (heads l RULE_OPENING.now (key.RULE_HEADING ∷ []) ++ (own LIST_OPENING.now ++ (item (said l k)
     ++ (ties l x ++ own RULE_CLOSING.now)))) rest
     ≡ before (section l (rule l x end)) rest
 unfolding rule
-votes_rule_is l x end alone rest = rw alone (votes_rule_as l (item (said l key.MOST_VOTES_FIRST)) (ties l x) rest)
+votes_rule_is l x end k alone k_is rest =
+    rw (k_is, alone) (votes_rule_as l (item (said l (by_ties x.rule.ties key.MOST_VOTES_FIRST key.MOST_VOTES_TIED))) (ties l x) rest)
 
 abbrev works_laid : Language → ElectionView → (k : ℕ) → (picture : List ℕ) → (caption : ℕ) → List Part
 works_laid l e k picture caption = works_said l k e.budget (length e.voters) (opening_share e) ++ (own FIGURE_OPENING.now ++ (own picture
@@ -344,7 +325,7 @@ works_is l x r e k caption picture r_is e_is some k_is picture_is caption_is res
     ∙ ap (λ (f : ElectionView). before (works_laid l f told drawn below) rest) e_is
     ∙ (works_as l (works_said l told x.election.budget (length x.election.voters) (opening_share x.election)) drawn below rest
     ∙ ap (λ (b : Bool). before (if b then [] else works_said l told x.election.budget (length x.election.voters) (opening_share x.election)
-    ++ block (codes "figure") [] (own drawn ++ line (codes "figcaption") [] (said l below))) rest) (sym some))
+    ++ fill (codes "<figure>\n~<figcaption>~</figcaption>\n</figure>\n") (own drawn ∷ said l below ∷ [])) rest) (sym some))
 
 pub link_is : (l : Language) (address : List ℕ) (rest : List ℕ)
     → before (recount_said l address ++ heads l PARAGRAPH.now (key.PROGRAM_TOO ∷ [])) rest ≡ before (recount_said l address ++ paragraph (said l key.PROGRAM_TOO)) rest
@@ -477,11 +458,7 @@ pub page_is : (facts : Facts) (x : CountedElectionView) (end : RaiseEnd) (lang d
 unfolding parts contents
 page_is facts x end lang dir lang_is dir_is rest =
     let l = facts.language in let title = facts.title.now in
-    let Put : List Part → List ℕ = λ lead. before (heads l HEAD_OPENING.now (key.LANG ∷ key.DIR ∷ []) ++ (own META.now ++ (cut TITLE.now (title ∷ [])
-    ++ (own STYLE.now ++ (cut TOP.now (title ∷ []) ++ lead))))) rest in
-    let Page : (links all : List Part) → List ℕ = λ links all. before (document l META.now STYLE.now title (summary l x
-    ++ block (codes "nav") (attribute (codes "aria-label") (said l key.CONTENTS)) (block (codes "ul") [] links)) all) rest in
-    rw (lang_is, dir_is) (ap Put (sym (append_assoc (summary l x) (contents facts x) (own MAIN.now ++ (sections facts x end ++ own CLOSING.now))))
-    ∙ page_as l META.now STYLE.now title (summary l x ++ contents facts x) (sections facts x end) rest
+    let Page : (links all : List Part) → List ℕ = λ links all. before (document l META.now STYLE.now title (summary l x) links all) rest in
+    rw (lang_is, dir_is) (page_as l META.now STYLE.now title (summary l x) (links_to facts x) (sections facts x end) rest
     ∙ ap (λ (links : List Part). Page links (sections facts x end)) (sym (linked_are facts x end))
     ∙ ap (Page (flat_map (section_link l) (all_sections facts x end))) (sym (sections_are facts x end)))

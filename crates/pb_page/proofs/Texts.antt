@@ -1,19 +1,15 @@
 -- Texts as they stand in a page.
-use Rattle.std.proofs.Common.{◌≡◌, ℕ, false, List, [], ◌∷◌, refl, ◌∙◌, ap}
-use Rattle.std.specs.Prelude.{All, None, filter}
+use Rattle.std.proofs.Common.{◌≡◌, ℕ, false, List, [], ◌∷◌, refl}
+use Rattle.std.specs.Prelude.{All, filter}
 use Rattle.std.proofs.lemmas.Bool.{or_parts}
 use Rattle.std.proofs.lemmas.List.Elements.{All-append, All-head, All-nil, All-tail}
-use Rattle.pb_page.specs.Markup.{is_delimiter, read_from, written}
+use Rattle.pb_page.specs.Markup.{is_delimiter, written}
 use Rattle.pb_page.specs.Inner.Controls.{is_control}
-use Rattle.pb_page.proofs.Characters.{character_plain, character_read, is_mark}
+use Rattle.pb_page.proofs.Characters.{character_plain, is_mark}
 
 pub texts_plain : (text : List ℕ) → All (λ c. is_mark c ≡ false) (written text)
 texts_plain [] = All-nil (λ c. is_mark c ≡ false)
 texts_plain (c ∷ cs) = All-append (λ x. is_mark x ≡ false) _ (written cs) (character_plain c) (texts_plain cs)
-
-pub texts_back : (text : List ℕ) → read_from None (written text) ≡ text
-texts_back [] = refl
-texts_back (c ∷ cs) = character_read c (written cs) ∙ ap (λ (t : List ℕ). c ∷ t) (texts_back cs)
 
 no_delimiter : (xs : List ℕ) → All (λ c. is_mark c ≡ false) xs → filter is_delimiter xs ≡ []
 no_delimiter [] plain = refl

@@ -1,6 +1,7 @@
--- What a page is made of: elements of markup, with texts in them.
+-- What a page is made of: markup, with texts at its places.
 use Rattle.std.specs.Prelude.{ℕ, ◌+◌, ◌==◌, List, [], ◌∷◌, ◌++◌, codes, decimal, flat_map, if◌then◌else◌, length, nat_lt}
 use Rattle.std.specs.Prelude.{slice_index_or}
+use Rattle.std.specs.List.{after_first, before_first}
 use Rattle.pb_core.specs.MoneyText.{money_text}
 use Rattle.pb_page.specs.Amount.{grouped, shown}
 use Rattle.pb_page.specs.Markup.{written}
@@ -8,71 +9,40 @@ use Rattle.pb_page.specs.Words.{form_of, sentence}
 use Rattle.pb_page.specs.declared.language.Language.{Language}
 use Rattle.pb_page.specs.declared.markup.form.Form.{Form}
 
--- a part of a page: markup of the program's own, or a text
-pub data Part : Type 0 where
-  Own : (markup : List ℕ) → Part
-  Text : (text : List ℕ) → Part
-
--- its bytes
-abbrev pub bytes : Part → List ℕ
-bytes (Own markup) = markup
-bytes (Text text) = written text
-
-abbrev pub own : (markup : List ℕ) → List Part
-own markup = Own markup ∷ []
+-- a part of a page, by its bytes: markup of the program's own, or a text
+abbrev pub Part : Type 0
+Part = List ℕ
 
 abbrev pub text : List ℕ → List Part
-text t = Text t ∷ []
+text t = written t ∷ []
 
--- an attribute; an element with this in it; the same on a line; and on lines of its own
-abbrev pub attribute : (name : List ℕ) → (value : List Part) → List Part
-attribute name value = own (codes " " ++ (name ++ codes "='")) ++ (value ++ own (codes "'"))
+-- markup with these at its places, each `~` in order
+abbrev pub fill : (markup : List ℕ) → (places : List (List Part)) → List Part
+fill markup [] = markup ∷ []
+fill markup (place ∷ places) = let is_place = λ (c : ℕ). c == 126 in
+    before_first is_place markup ∷ (place ++ fill (after_first is_place markup) places)
 
-abbrev pub element : (tag : List ℕ) → (attributes inside : List Part) → List Part
-element tag attributes inside = own (codes "<" ++ tag) ++ (attributes ++ (own (codes ">") ++ (inside
-    ++ own (codes "</" ++ (tag ++ codes ">")))))
-
-abbrev pub line : (tag : List ℕ) → (attributes inside : List Part) → List Part
-line tag attributes inside = element tag attributes inside ++ own (codes "\n")
-
-abbrev pub block : (tag : List ℕ) → (attributes inside : List Part) → List Part
-block tag attributes inside = line tag attributes (own (codes "\n") ++ inside)
-
--- a text with a direction of its own; a figure: its value for programs and what shows it; one with a name; an amount
-abbrev pub isolated : List ℕ → List Part
-isolated t = element (codes "bdi") (own (codes " dir='auto'")) (text t)
-
-abbrev pub nameless : (value : List ℕ) → (shows : List Part) → List Part
-nameless value shows = element (codes "data") (attribute (codes "value") (text value)) shows
-
+-- a figure: its value for programs and what shows it; and an amount
 abbrev pub figure : (name value : List ℕ) → (shows : List Part) → List Part
-figure name value shows =
-    element (codes "data") (attribute (codes "class") (text name) ++ attribute (codes "value") (text value)) shows
+figure name value shows = fill (codes "<data class='~' value='~'>~</data>") (text name ∷ text value ∷ shows ∷ [])
 
 abbrev pub amount : Form → (name : List ℕ) → ℕ → List Part
 amount form name h = figure name (money_text h) (text (shown form h))
 
--- a row; the cell at its head; a bar of this width, of 10000; and any other cell
-abbrev pub row : (attributes cells : List Part) → List Part
-row attributes cells = line (codes "tr") (own (codes " role='row'") ++ attributes) cells
-
-abbrev pub head : List Part → List Part
-head shows = element (codes "th") (own (codes " role='rowheader' scope='row'")) shows
+-- a row by what stands at its head; and a bar of this width, of 10000
+abbrev pub row : (head cells : List Part) → List Part
+row head cells = fill (codes "<tr role='row'><th role='rowheader' scope='row'>~</th>~</tr>\n") (head ∷ cells ∷ [])
 
 abbrev pub bar : ℕ → List Part
-bar n = element (codes "svg")
-    (own (codes " class='bar' viewBox='0 0 10000 1' preserveAspectRatio='none' aria-hidden='true'"))
-    (own (codes "<rect width='") ++ (text (decimal n) ++ own (codes "' height='1'/>")))
-
-abbrev pub cell : (attributes shows : List Part) → List Part
-cell attributes shows = element (codes "td") (own (codes " role='cell'") ++ attributes) shows
+bar n = fill (codes "<svg class='bar' viewBox='0 0 10000 1' preserveAspectRatio='none' aria-hidden='true'><rect width='~' height='1'/></svg>")
+    (text (decimal n) ∷ [])
 
 -- a paragraph; and an item of a list
 abbrev pub paragraph : List Part → List Part
-paragraph inside = line (codes "p") [] inside
+paragraph inside = fill (codes "<p>~</p>\n") (inside ∷ [])
 
 abbrev pub item : List Part → List Part
-item inside = line (codes "li") [] inside
+item inside = fill (codes "<li>~</li>\n") (inside ∷ [])
 
 -- a section of a page: its class, its name, its heading, and what is in it
 pub data Section : Type 0 where
@@ -101,30 +71,27 @@ module _ (l : Language) where
 
   -- a cell under the column of this key; and the head of a column
   abbrev pub under : ℕ → List Part → List Part
-  under k shows = cell (own (codes " class='n'") ++ attribute (codes "data-label") (said k)) shows
+  under k shows = fill (codes "<td role='cell' class='n' data-label='~'>~</td>") (said k ∷ shows ∷ [])
 
   abbrev pub column : (class : List ℕ) → ℕ → List Part
-  column class k = element (codes "th") (own (codes " role='columnheader' scope='col'" ++ class)) (said k)
+  column class k = fill (codes "<th role='columnheader' scope='col'~>~</th>") ((class ∷ []) ∷ said k ∷ [])
 
   -- a table: its caption, the heads of its columns, which are one that the bars stand under, those before it, the
   -- numbers and these more, and its rows
   abbrev pub table : (class : List ℕ) → (caption name : ℕ) → (before numbers : List ℕ) → (more rows : List Part) → List Part
-  table class caption name before numbers more rows = block (codes "table") (own (class ++ codes " role='table'"))
-      (line (codes "caption") (own (codes " role='caption'")) (said caption)
-      ++ (line (codes "thead") (own (codes " role='rowgroup'")) (element (codes "tr") (own (codes " role='row'"))
-      ((flat_map (column (codes " class='n round'")) before ++ (column [] name ++ flat_map (column (codes " class='n'")) numbers)) ++ more))
-      ++ block (codes "tbody") (own (codes " role='rowgroup'")) rows))
+  table class caption name before numbers more rows = fill (codes "<table~ role='table'>\n<caption role='caption'>~</caption>\n"
+      ++ codes "<thead role='rowgroup'><tr role='row'>~~~~</tr></thead>\n<tbody role='rowgroup'>\n~</tbody>\n</table>\n")
+      ((class ∷ []) ∷ said caption ∷ flat_map (column (codes " class='n round'")) before ∷ column [] name
+      ∷ flat_map (column (codes " class='n'")) numbers ∷ more ∷ rows ∷ [])
 
   -- a section as it stands in the page, and a link to it
   abbrev pub section : Section → List Part
-  section (Headed class name heading inside) = block (codes "section") (own class ++ attribute (codes "aria-labelledby") (own name))
-      (line (codes "h2") (attribute (codes "id") (own name)) (said heading) ++ inside)
+  section (Headed class name heading inside) = fill (codes "<section~ aria-labelledby='~'>\n<h2 id='~'>~</h2>\n~</section>\n")
+      ((class ∷ []) ∷ (name ∷ []) ∷ (name ∷ []) ∷ said heading ∷ inside ∷ [])
 
   abbrev pub section_link : Section → List Part
-  section_link (Headed class name heading inside) = item (element (codes "a")
-      (attribute (codes "href") (own (codes "#") ++ text name)) (said heading))
+  section_link (Headed class name heading inside) = fill (codes "<li><a href='#~'>~</a></li>\n") (text name ∷ said heading ∷ [])
 
   -- an item of a list with a list in it, where that has any items
   abbrev pub listed : ℕ → (attributes items : List Part) → List Part
-  listed k attributes items = if length items == 0 then []
-      else item (said k ++ (own (codes "\n") ++ block (codes "ul") attributes items))
+  listed k attributes items = if length items == 0 then [] else fill (codes "<li>~\n<ul~>\n~</ul>\n</li>\n") (said k ∷ attributes ∷ items ∷ [])

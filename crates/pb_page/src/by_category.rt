@@ -1,7 +1,6 @@
 //! The money by category.
 
-ghost use Rattle.std.specs.Prelude.{◌≡◌, ◌<◌, ◌^◌, ◌==◌, All, IfOk, OnOk, Some, flat_map, if◌then◌else◌};
-ghost use Rattle.std.specs.Prelude.{length, map, sum_by};
+ghost use Rattle.std.specs.Prelude.{◌≡◌, ◌<◌, ◌^◌, ◌==◌, IfOk, OnOk, Some, flat_map, if◌then◌else◌, length, map};
 ghost use Rattle.std.specs.List.{range_with_len};
 ghost use Rattle.pb_page.specs.Content.{section};
 ghost use Rattle.pb_page.specs.Inner.Grown.{Grows};
@@ -9,7 +8,7 @@ ghost use Rattle.pb_page.specs.Inner.Counted.{in_category};
 ghost use Rattle.pb_page.specs.Page.{categories, category_name, category_row};
 ghost use Rattle.pb_page.specs.Words.{sentence};
 ghost use Rattle.pb_page.specs.declared.keys.TheConstants as key;
-ghost use Rattle.pb_price.specs.Supporters.{cost_at, support_of};
+ghost use Rattle.pb_reasons.specs.Counted.{winners_of};
 
 use crate::categories::Categories;
 use crate::facts::Facts;
@@ -20,7 +19,6 @@ use crate::language::Language;
 use crate::markup::Value;
 use crate::put::{put, put_own};
 use crate::templates::{CATEGORIES_OPENING, CATEGORY, TABLE_CLOSING};
-use pb_core::election::Election;
 use pb_core::money::Money;
 use pb_core::no_memory::NoMemory;
 use pb_reasons::CountedElection;
@@ -62,27 +60,23 @@ fn put_table(
         Value::Said(keys::CATEGORY_COST),
     ];
     put(page, language, CATEGORIES_OPENING, &heads)?;
-    put_rows(page, language, count.election(), all, count.winners())?;
+    put_rows(page, language, count, all)?;
     put_own(page, TABLE_CLOSING)
 }
 
-/// A row for each category, where these are the winners.
+/// A row for each category.
 fn put_rows<'a>(
     page: &mut Vec<u8>,
     language: &Language<'a>,
-    election: &Election,
+    count: &CountedElection,
     categories: &Categories<'a>,
-    winners: &[u32],
 ) -> Result<(), NoMemory>
-    requires known { All (λ place. place < length election.now.projects) winners.now }
-    requires few { length winners.now < 2 ^ 64 }
-    requires fits { sum_by (cost_at (support_of election.now)) winners.now < 2 ^ 64 }
     ensures { OnOk result (Grows page.old.items page.new.items
-        (flat_map (category_row language.now election.now winners.now categories.now)
+        (flat_map (category_row language.now count.now categories.now)
         (range_with_len 0 (length categories.now.names.now)))) }
 {
-    let sums = add_up(*page.allocator(), election, categories, winners)?;
-    let budget = election.budget();
+    let budget = count.election().budget();
+    let sums = add_up(*page.allocator(), count, categories, count.winners())?;
     for number in 0..sums.len() {
         let sum = sums[number];
         let cells = [
@@ -113,21 +107,20 @@ fn name_of<'a>(language: &Language<'a>, categories: &Categories<'a>, number: usi
     }
 }
 
-/// What each category has of the winners at these places.
+/// What each category has of the winners, which are at these places.
 fn add_up(
     alloc: Global,
-    election: &Election,
+    count: &CountedElection,
     categories: &Categories,
     winners: &[u32],
 ) -> Result<Vec<InCategory>, NoMemory>
-    requires known { All (λ place. place < length election.now.projects) winners.now }
+    requires winners { winners.now ≡ winners_of count.now.counted }
     requires few { length winners.now < 2 ^ 64 }
-    requires fits { sum_by (cost_at (support_of election.now)) winners.now < 2 ^ 64 }
     ensures { IfOk result (λ sums. sums.items ≡
-        map (in_category election.now categories.now winners.now)
+        map (in_category count.now categories.now winners.now)
         (range_with_len 0 (length categories.now.names.now))) }
 {
-    let projects = election.projects();
+    let projects = count.election().projects();
     let nothing = InCategory {
         winners: 0,
         cost: Money(0),
@@ -136,7 +129,7 @@ fn add_up(
     for place in winners {
         let project = &projects[*place as usize];
         let cost = project.cost();
-        let number = categories.of(*place);
+        let number = categories.of(count.place(*place));
         if number < sums.len() {
             let sum = sums[number];
             sums[number] = sum.with(cost);

@@ -1,13 +1,13 @@
 //! How to check a result.
 
-ghost use Rattle.std.specs.Prelude.{◌≡◌, [], OnOk, codes};
-ghost use Rattle.pb_page.specs.Content.{section};
-ghost use Rattle.pb_page.specs.Inner.Counted.{begun, chosen, options_given, options_told};
+ghost use Rattle.std.specs.Prelude.{◌≡◌, ◌∷◌, [], OnOk, codes};
+ghost use Rattle.pb_page.specs.Content.{fill, section, text};
+ghost use Rattle.pb_page.specs.Inner.Counted.{begun, chosen, method_given, options_given, options_told, ties_option};
 ghost use Rattle.pb_page.specs.Inner.Counted.{files_said, journal_source, link_said, made_by, name_said, options_said};
 ghost use Rattle.pb_page.specs.Inner.Grown.{Grows};
 ghost use Rattle.pb_page.specs.Page.{by_raises, check, command, source};
 ghost use Rattle.pb_page.specs.declared.keys.TheConstants as key;
-ghost use Rattle.pb_rounds.specs.RuleNames.{by_completion, by_measure, profile_name};
+ghost use Rattle.pb_rounds.specs.RuleNames.{by_completion, by_measure, profile_name, ties_name};
 
 use crate::facts::{Facts, ReadText};
 use crate::keys;
@@ -19,13 +19,14 @@ use crate::rule::has_no_shares;
 use crate::sentences::say_paragraph;
 use crate::templates::{
     AUDIT, BY_VOTES, CHECK_CLOSING, CHECK_FILE, CHECK_JOURNAL, CHECK_OPENING, COMMAND_CLOSING,
-    COMMAND_OPENING, COUNT, OPTIONS, PARAGRAPH, SOURCES_CLOSING,
+    COMMAND_OPENING, COUNT, OPTIONS, PARAGRAPH, SOURCES_CLOSING, TIES_OPTION,
 };
 use pb_core::no_memory::NoMemory;
 use pb_rounds::measure::Measure;
 use pb_rounds::options::Completion;
 use pb_rounds::rule::{FillUp, Rule};
 use pb_rounds::rule_names::{completion_name, measure_name};
+use pb_rounds::tie_rule::TieRule;
 
 /// What was counted, where a page recounts it, the command that does, with its options, and the program.
 pub(crate) fn put_check(page: &mut Vec<u8>, facts: &Facts, rule: &Rule) -> Result<(), NoMemory>
@@ -118,10 +119,47 @@ fn put_command(page: &mut Vec<u8>, facts: &Facts, rule: &Rule) -> Result<(), NoM
 fn put_options(page: &mut Vec<u8>, language: &Language, rule: &Rule) -> Result<(), NoMemory>
     ensures { OnOk result (Grows page.old.items page.new.items (options_given rule.now)) }
 {
+    put_method(page, language, rule)?;
+    put_ties_option(page, language, rule)
+}
+
+/// Its options, but for ties.
+fn put_method(page: &mut Vec<u8>, language: &Language, rule: &Rule) -> Result<(), NoMemory>
+    ensures { OnOk result (Grows page.old.items page.new.items (method_given rule.now)) }
+{
     if has_no_shares(rule) {
         return put_own(page, BY_VOTES);
     }
     put_chosen(page, language, rule)
+}
+
+/// The option for ties, where one is needed.
+#[tactic(auto, using(crate::proofs::Grown::none))]
+fn put_ties_option(page: &mut Vec<u8>, language: &Language, rule: &Rule) -> Result<(), NoMemory>
+    ensures { OnOk result (Grows page.old.items page.new.items (ties_option rule.now)) }
+{
+    if rule.ties.is_file() {
+        return Ok(());
+    }
+    name_ties(page, language, &rule.ties)
+}
+
+/// The option for a rule for ties.
+fn name_ties(page: &mut Vec<u8>, language: &Language, ties: &TieRule) -> Result<(), NoMemory>
+    ensures { OnOk result (Grows page.old.items page.new.items
+        (fill (codes " --ties ~") (text (ties_name ties.now) ∷ []))) }
+{
+    let name = ties.text(*page.allocator())?;
+    let put = put_ties_named(page, language, name.as_str());
+    drop(name);
+    put
+}
+
+/// The same, where it has this name.
+fn put_ties_named(page: &mut Vec<u8>, language: &Language, ties: &str) -> Result<(), NoMemory>
+    ensures { OnOk result (Grows page.old.items page.new.items (fill (codes " --ties ~") (text ties.now ∷ []))) }
+{
+    put(page, language, TIES_OPTION, &[Value::Text(ties)])
 }
 
 /// Its options where voters have shares.

@@ -77,19 +77,20 @@ fn put_others(
     requires { other.now ≡ elected_by_votes count.now.election }
     ensures { OnOk result (Grows page.old.items page.new.items (both_only language.now count.now)) }
 {
-    let election = count.election();
+    // What is true of every count is true of its winners.
+    let _election = count.election();
     let by_shares = OnlyBy {
         said: keys::ONLY_BY_SHARES,
         winners: count.winners(),
         other,
     };
-    put_only(page, language, election, by_shares)?;
+    put_only(page, language, count, by_shares)?;
     let by_votes = OnlyBy {
         said: keys::ONLY_BY_VOTES,
         winners: other,
         other: count.winners(),
     };
-    put_only(page, language, election, by_votes)
+    put_only(page, language, count, by_votes)
 }
 
 /// The row of a rule.

@@ -8,9 +8,8 @@ use crate::language::Language;
 use crate::markup::Value;
 use crate::put::{put, put_own};
 use crate::templates::{ENTRY, LINKS_CLOSING, LINKS_OPENING};
-use pb_core::election::Election;
 use pb_core::no_memory::NoMemory;
-use pb_reasons::Winners;
+use pb_reasons::{CountedElection, Winners};
 use std::alloc::Global;
 
 /// What is told of a rule beside another: by places, whom each elects.
@@ -26,18 +25,18 @@ pub(crate) struct OnlyBy<'a> {
 pub(crate) fn put_only(
     page: &mut Vec<u8>,
     language: &Language,
-    election: &Election,
+    count: &CountedElection,
     rule: OnlyBy<'_>,
 ) -> Result<(), NoMemory>
-    requires { All (λ place. place < length election.now.projects) rule.winners.now }
-    ensures { OnOk result (Grows page.old.items page.new.items (links language.now election.now
+    requires { All (λ place. place < length count.now.election.projects) rule.winners.now }
+    ensures { OnOk result (Grows page.old.items page.new.items (links language.now count.now
         rule.entry.said (beside rule.entry.other.now rule.entry.winners.now))) }
 {
-    let other = Winners::of(*page.allocator(), election, rule.other)?;
+    let other = Winners::of(*page.allocator(), count.election(), rule.other)?;
     let places = beside(*page.allocator(), &other, rule.winners);
     drop(other);
     let places = places?;
-    let put = put_links(page, language, election, rule.said, places.as_slice());
+    let put = put_links(page, language, count, rule.said, places.as_slice());
     drop(places);
     put
 }
@@ -61,18 +60,18 @@ pub(crate) fn beside(alloc: Global, winners: &Winners, places: &[u32]) -> Result
 fn put_links(
     page: &mut Vec<u8>,
     language: &Language,
-    election: &Election,
+    count: &CountedElection,
     said: u16,
     places: &[u32],
 ) -> Result<(), NoMemory>
-    requires { All (λ place. place < length election.now.projects) places.now }
-    ensures { OnOk result (Grows page.old.items page.new.items (links language.now election.now said places.now)) }
+    requires { All (λ place. place < length count.now.election.projects) places.now }
+    ensures { OnOk result (Grows page.old.items page.new.items (links language.now count.now said places.now)) }
 {
     if places.is_empty() {
         return Ok(());
     }
     put(page, language, LINKS_OPENING, &[Value::Said(said)])?;
-    put_entries(page, language, election, places)?;
+    put_entries(page, language, count, places)?;
     put_own(page, LINKS_CLOSING)
 }
 
@@ -80,19 +79,19 @@ fn put_links(
 pub(crate) fn put_entries<'a>(
     page: &mut Vec<u8>,
     language: &Language<'a>,
-    election: &'a Election,
+    count: &'a CountedElection,
     places: &[u32],
 ) -> Result<(), NoMemory>
-    requires { All (λ place. place < length election.now.projects) places.now }
+    requires { All (λ place. place < length count.now.election.projects) places.now }
     ensures { OnOk result (Grows page.old.items page.new.items
-        (flat_map (entry language.now election.now) places.now)) }
+        (flat_map (entry language.now count.now) places.now)) }
 {
-    let projects = election.projects();
+    let projects = count.election().projects();
     for place in places {
         let project = &projects[*place as usize];
         let cost = project.cost();
         let values = [
-            Value::Small(*place),
+            Value::Small(count.place(*place)),
             Value::Text(project.id()),
             Value::Text(project.name()),
             Value::Amount(cost),

@@ -1,7 +1,8 @@
 //! How numbers and names stand in a page.
 
 ghost use Rattle.std.specs.Prelude.{◌≡◌};
-ghost use Rattle.pb_page.specs.Page.{called, width};
+ghost use Rattle.pb_page.specs.Inner.Value.{called};
+ghost use Rattle.pb_page.specs.Page.{width};
 
 use pb_core::money::Money;
 use pb_core::project::Project;

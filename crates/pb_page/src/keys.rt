@@ -237,3 +237,29 @@ pub(crate) const PASSED_OVER: u16 = 127;
 pub(crate) const MOST_VOTES_FIRST: u16 = 128;
 
 pub(crate) const TIE_WON: u16 = 129;
+
+// Sentences where another rule than the file decides ties.
+
+pub(crate) const BY_VOTES_TIED: u16 = 130;
+
+pub(crate) const BY_COST_TIED: u16 = 131;
+
+pub(crate) const FILLED_UP_TIED: u16 = 132;
+
+pub(crate) const MOST_VOTES_TIED: u16 = 133;
+
+pub(crate) const BY_MOST_VOTES_TIED: u16 = 134;
+
+pub(crate) const ADDED_CAPTION_TIED: u16 = 135;
+
+pub(crate) const TIES_TIED: u16 = 136;
+
+pub(crate) const TIE_BY_VOTES_TIED: u16 = 137;
+
+pub(crate) const TIE_BY_COST_TIED: u16 = 138;
+
+pub(crate) const TIE_ADDED_TIED: u16 = 139;
+
+pub(crate) const TIE_WON_TIED: u16 = 140;
+
+pub(crate) const EQUALS: u16 = 141;

@@ -1,8 +1,8 @@
 //! The row of a project, by how it ended.
 
-ghost use Rattle.std.specs.Prelude.{◌≡◌, ◌<◌, [], OnOk, codes, length};
+ghost use Rattle.std.specs.Prelude.{◌≡◌, ◌<◌, [], ◌∷◌, OnOk, codes, length};
 ghost use Rattle.std.specs.Option.{option_map_or};
-ghost use Rattle.pb_page.specs.Content.{attribute, cell, isolated, said};
+ghost use Rattle.pb_page.specs.Content.{fill, said, text};
 ghost use Rattle.pb_page.specs.Inner.Counted.{lacking, project_of, went_as};
 ghost use Rattle.pb_page.specs.Inner.Grown.{Grows};
 ghost use Rattle.pb_page.specs.Page.{category_name, category_of, cells, ended_row, row_at};
@@ -22,7 +22,6 @@ use crate::templates::{
     ROW_OPENING, WINNER,
 };
 use crate::went::{paid_of, put_went};
-use pb_core::election::Election;
 use pb_core::money::Money;
 use pb_core::no_memory::NoMemory;
 use pb_reasons::{Added, CountedElection, Ending, Lost, MoneyPaid, MoneyTeller, Won};
@@ -37,8 +36,8 @@ pub struct ProjectRow<'a> {
     pub votes: u32,
     /// The budget of the election.
     pub budget: Money,
-    /// The election itself.
-    pub election: &'a Election,
+    /// The count itself.
+    pub count: &'a CountedElection,
     /// The key of what stands above what projects were short; none where nobody has a share, or nobody voted.
     pub short: Option<u16>,
 }
@@ -66,13 +65,13 @@ pub(crate) fn put_row(
         cost: project.cost(),
         votes: reason.votes,
         budget: election.budget(),
-        election,
+        count,
         short: short_key(count),
     };
-    let names = [Value::Small(place), Value::Text(row.id)];
+    let names = [Value::Small(count.place(place)), Value::Text(row.id)];
     put(page, &facts.language, ROW_OPENING, &names)?;
     put_ended(page, &facts.language, &row, &reason.ending, &paid)?;
-    put_category(page, facts, place)?;
+    put_category(page, facts, count.place(place))?;
     put_own(page, ROW_CLOSING)
 }
 
@@ -85,7 +84,7 @@ fn put_ended<'a>(
     paid: &Option<MoneyPaid>,
 ) -> Result<(), NoMemory>
     ensures { OnOk result (Grows page.old.items page.new.items (ended_row language.now row.now.short row.now.budget
-        (project_of row.now) row.now.votes (went_as language.now row.now.election.now paid.now) ending.now)) }
+        (project_of row.now) row.now.votes (went_as language.now row.now.count.now paid.now) ending.now)) }
 {
     match ending {
         Ending::Won(won) => put_elected(page, language, row, won),
@@ -165,7 +164,7 @@ fn put_lost<'a>(
     paid: &Option<MoneyPaid>,
 ) -> Result<(), NoMemory>
     ensures { OnOk result (Grows page.old.items page.new.items (ended_row language.now row.now.short row.now.budget
-        (project_of row.now) row.now.votes (went_as language.now row.now.election.now paid.now) (Ending.Lost lost.now))) }
+        (project_of row.now) row.now.votes (went_as language.now row.now.count.now paid.now) (Ending.Lost lost.now))) }
 {
     match row.short {
         Some(short) => {
@@ -175,7 +174,7 @@ fn put_lost<'a>(
                 Value::Number(bar(lost.left, row.cost)),
             ];
             put(page, language, OTHER_OPENING, &head)?;
-            put_went(page, language, row.election, paid, lost.left)?;
+            put_went(page, language, row.count, paid, lost.left)?;
             put_lacking(page, language, row, short, lost)
         }
         None => put_passed_over(page, language, row),
@@ -238,8 +237,8 @@ fn put_passed_over<'a>(
 #[tactic(auto, using(crate::proofs::Grown::none))]
 fn put_category(page: &mut Vec<u8>, facts: &Facts, place: u32) -> Result<(), NoMemory>
     ensures { OnOk result (Grows page.old.items page.new.items (option_map_or (λ g.
-        cell (attribute (codes "data-label") (said facts.now.language key.CATEGORY))
-        (isolated (category_name g (category_of g place)))) facts.now.categories [])) }
+        fill (codes "<td role='cell' data-label='~'><bdi dir='auto'>~</bdi></td>")
+        (said facts.now.language key.CATEGORY ∷ text (category_name g (category_of g place)) ∷ [])) facts.now.categories [])) }
 {
     match &facts.categories {
         Some(categories) => {

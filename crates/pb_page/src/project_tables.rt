@@ -1,13 +1,13 @@
 //! The tables of projects: the elected, the added, and the others.
 
 ghost use Rattle.std.specs.Prelude.{◌≡◌, ◌<◌, [], All, OnOk, codes, false, flat_map, if◌then◌else◌, length, true};
-ghost use Rattle.std.specs.List.{range_with_len};
 ghost use Rattle.std.specs.Option.{option_map_or};
 ghost use Rattle.pb_page.specs.Content.{column, section};
 ghost use Rattle.pb_page.specs.Inner.Counted.{lost_row, others_opening};
 ghost use Rattle.pb_page.specs.Inner.Grown.{Grows};
 ghost use Rattle.pb_page.specs.Page.{added_apart, others, row_at, winners};
 ghost use Rattle.pb_page.specs.declared.keys.TheConstants as key;
+ghost use Rattle.pb_reasons.specs.CountedElection.{in_file};
 ghost use Rattle.pb_rounds.specs.Count.{no_shares};
 ghost use Rattle.pb_rounds.specs.RuleNames.{fills_up};
 
@@ -17,7 +17,7 @@ use crate::language::Language;
 use crate::markup::Value;
 use crate::project_row::put_row;
 use crate::put::{put, put_own};
-use crate::rule::{has_no_shares, short_key};
+use crate::rule::{by_ties, has_no_shares, short_key};
 use crate::templates::{
     ADDED_OPENING, HEAD_CATEGORY, HEAD_CLOSING, NONE_LOST, NONE_WON, OTHERS_OPENING,
     PASSED_OVER_OPENING, TABLE_CLOSING, WINNERS_OPENING, WON_BY_VOTES_OPENING,
@@ -66,9 +66,10 @@ fn put_won_by_votes(
     }
     // What is true of every count is true of the places of the added.
     let _election = count.election();
+    let caption = by_ties(&count.rule(), keys::BY_MOST_VOTES, keys::BY_MOST_VOTES_TIED);
     let heads = [
         Value::Said(keys::WINNERS_HEADING),
-        Value::Said(keys::BY_MOST_VOTES),
+        Value::Said(caption),
         Value::Said(keys::NUMBER),
         Value::Said(keys::PROJECT),
         Value::Said(keys::COST),
@@ -174,9 +175,10 @@ pub(crate) fn put_added(
     }
     // What is true of every count is true of the places of the added.
     let _election = count.election();
+    let caption = by_ties(&count.rule(), keys::ADDED_CAPTION, keys::ADDED_CAPTION_TIED);
     let heads = [
         Value::Said(keys::ADDED_HEADING),
-        Value::Said(keys::ADDED_CAPTION),
+        Value::Said(caption),
         Value::Said(keys::NUMBER),
         Value::Said(keys::PROJECT),
         Value::Said(keys::COST),
@@ -278,13 +280,12 @@ fn put_lost_rows(
 ) -> Result<(), NoMemory>
     requires { money.now ≡ count.now }
     ensures { OnOk result (Grows page.old.items page.new.items
-        (flat_map (lost_row facts.now count.now)
-        (range_with_len 0 (length count.now.election.projects)))) }
+        (flat_map (lost_row facts.now count.now) (in_file count.now))) }
 {
     let election = count.election();
     let projects = election.projects();
     for place in 0..projects.len() {
-        put_row_of_lost(page, facts, count, money, place as u32)?;
+        put_row_of_lost(page, facts, count, money, count.position(place as u32))?;
     }
     Ok(())
 }

@@ -1,8 +1,7 @@
 //! A page that grows by pieces of markup.
 
 ghost use Rattle.std.specs.Prelude.{OnOk, map};
-ghost use Rattle.pb_page.specs.Content.{own};
-ghost use Rattle.pb_page.specs.Inner.Filling.{cut};
+ghost use Rattle.pb_page.specs.Inner.Filling.{cut, own};
 ghost use Rattle.pb_page.specs.Inner.Grown.{Grows};
 ghost use Rattle.pb_page.specs.Inner.Value.{text_of};
 

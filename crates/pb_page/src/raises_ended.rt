@@ -5,6 +5,7 @@ ghost use Rattle.pb_page.specs.Inner.Counted.{KnowsPlaces, those_said};
 ghost use Rattle.pb_page.specs.Inner.Grown.{Grows};
 ghost use Rattle.pb_page.specs.Page.{beside, raises_ended};
 ghost use Rattle.pb_page.specs.declared.keys.TheConstants as key;
+ghost use Rattle.pb_reasons.specs.Counted.{winners_of};
 
 use crate::elected_only::{beside, put_entries};
 use crate::keys;
@@ -15,7 +16,6 @@ use crate::put::{put, put_own};
 use crate::rule::put_item;
 use crate::sentences::say_item;
 use crate::templates::{LIST_CLOSING, THOSE_OPENING};
-use pb_core::election::Election;
 use pb_core::no_memory::NoMemory;
 use pb_reasons::{CountedElection, NextRaise, RaiseEnd, Winners};
 
@@ -55,30 +55,29 @@ fn put_over(
         Place::Amount("next_cost", next.cost, language.costs),
     ];
     say_item(page, language, keys::OVER, &places)?;
-    let election = count.election();
     let only_then = next.only_then.as_slice();
-    put_then(page, language, election, count.winners(), only_then)?;
+    put_then(page, language, count, only_then)?;
     let no_more = next.no_more.as_slice();
-    put_those(page, language, election, keys::NO_MORE, no_more)
+    put_those(page, language, count, keys::NO_MORE, no_more)
 }
 
 /// The list of those of these places that are none of the winners.
 fn put_then(
     page: &mut Vec<u8>,
     language: &Language,
-    election: &Election,
-    winners: &[u32],
+    count: &CountedElection,
     places: &[u32],
 ) -> Result<(), NoMemory>
-    requires { All (λ place. place < length election.now.projects) places.now }
+    requires { All (λ place. place < length count.now.election.projects) places.now }
     ensures { OnOk result (Grows page.old.items page.new.items
-        (those_said language.now election.now key.ONLY_THEN (beside winners.now places.now))) }
+        (those_said language.now count.now key.ONLY_THEN
+        (beside (winners_of count.now.counted) places.now))) }
 {
-    let winners = Winners::of(*page.allocator(), election, winners)?;
+    let winners = Winners::of(*page.allocator(), count.election(), count.winners())?;
     let new = beside(*page.allocator(), &winners, places);
     drop(winners);
     let new = new?;
-    let put = put_those(page, language, election, keys::ONLY_THEN, new.as_slice());
+    let put = put_those(page, language, count, keys::ONLY_THEN, new.as_slice());
     drop(new);
     put
 }
@@ -88,18 +87,18 @@ fn put_then(
 fn put_those(
     page: &mut Vec<u8>,
     language: &Language,
-    election: &Election,
+    count: &CountedElection,
     said: u16,
     places: &[u32],
 ) -> Result<(), NoMemory>
-    requires { All (λ place. place < length election.now.projects) places.now }
+    requires { All (λ place. place < length count.now.election.projects) places.now }
     ensures { OnOk result (Grows page.old.items page.new.items
-        (those_said language.now election.now said places.now)) }
+        (those_said language.now count.now said places.now)) }
 {
     if places.is_empty() {
         return Ok(());
     }
     put(page, language, THOSE_OPENING, &[Value::Said(said)])?;
-    put_entries(page, language, election, places)?;
+    put_entries(page, language, count, places)?;
     put_own(page, LIST_CLOSING)
 }

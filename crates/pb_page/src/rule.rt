@@ -8,7 +8,7 @@ ghost use Rattle.pb_page.specs.Page.{by_raises, rule, short_key};
 ghost use Rattle.pb_page.specs.declared.keys.TheConstants as key;
 ghost use Rattle.pb_reasons.specs.declared.raise_end.RaiseEnd.{RaiseEnd};
 ghost use Rattle.pb_rounds.specs.Count.{no_shares};
-ghost use Rattle.pb_rounds.specs.RuleNames.{by_completion, by_measure};
+ghost use Rattle.pb_rounds.specs.RuleNames.{by_completion, by_measure, by_ties};
 
 use crate::keys;
 use crate::language::Language;
@@ -57,7 +57,9 @@ fn put_by_votes(
     let heading = [Value::Said(keys::RULE_HEADING)];
     put(page, language, RULE_OPENING, &heading)?;
     put_own(page, LIST_OPENING)?;
-    put_item(page, language, keys::MOST_VOTES_FIRST)?;
+    let rule = count.rule();
+    let said = by_ties(&rule, keys::MOST_VOTES_FIRST, keys::MOST_VOTES_TIED);
+    put_item(page, language, said)?;
     put_ties(page, language, count)?;
     put_own(page, RULE_CLOSING)
 }
@@ -118,12 +120,11 @@ fn put_rounds(
         (rounds_said language.now count.now end.now)) }
 {
     let rule = count.rule();
-    let options = rule.options;
     let share = share_of(count.outcome());
     let raised = raised_by(count.outcome());
     put_share(page, language, &rule, share, raised)?;
     put_item(page, language, keys::SUPPORTERS)?;
-    put_item(page, language, order_key(options.measure))?;
+    put_item(page, language, order_key(&rule))?;
     put_item(page, language, raises_key(&rule, raised))?;
     put_end(page, language, count, end)
 }
@@ -193,24 +194,34 @@ pub(crate) fn put_item(page: &mut Vec<u8>, language: &Language, key: u16) -> Res
 }
 
 /// The key of the sentence on which project is elected first.
-fn order_key(measure: Measure) -> u16
-    ensures { result ≡ by_measure measure key.BY_VOTES key.BY_COST }
+fn order_key(rule: &Rule) -> u16
+    ensures { result ≡ by_measure rule.now.options.measure (by_ties rule.now.ties key.BY_VOTES key.BY_VOTES_TIED)
+        (by_ties rule.now.ties key.BY_COST key.BY_COST_TIED) }
 {
-    match measure {
-        Measure::Votes => keys::BY_VOTES,
-        Measure::Cost => keys::BY_COST,
+    match rule.options.measure {
+        Measure::Votes => by_ties(rule, keys::BY_VOTES, keys::BY_VOTES_TIED),
+        Measure::Cost => by_ties(rule, keys::BY_COST, keys::BY_COST_TIED),
     }
+}
+
+/// The first of two keys where the file alone decides ties, else the second.
+pub(crate) fn by_ties(rule: &Rule, by_file: u16, other: u16) -> u16
+    ensures { result ≡ by_ties rule.now.ties by_file other }
+{
+    if rule.ties.is_file() { by_file } else { other }
 }
 
 /// The key of the sentence on the raises, or on what is done where there are none.
 fn raises_key(rule: &Rule, raised: u32) -> u16
     ensures { result ≡ by_completion rule.now.options.completion rule.now.fill_up key.PLAIN
-        (if raised == 0 then key.UNRAISED else key.RAISED) key.FILLED_UP
+        (if raised == 0 then key.UNRAISED else key.RAISED) (by_ties rule.now.ties key.FILLED_UP key.FILLED_UP_TIED)
         (if raised == 0 then key.UNRAISED else key.RAISED) }
 {
     match (rule.options.completion, rule.fill_up) {
         (Completion::Plain | Completion::NoShares, FillUp::Nothing) => keys::PLAIN,
-        (Completion::Plain | Completion::NoShares, FillUp::MostVotes) => keys::FILLED_UP,
+        (Completion::Plain | Completion::NoShares, FillUp::MostVotes) => {
+            by_ties(rule, keys::FILLED_UP, keys::FILLED_UP_TIED)
+        }
         (Completion::Add1, FillUp::Nothing | FillUp::MostVotes) => {
             if raised == 0 {
                 keys::UNRAISED
@@ -261,7 +272,10 @@ fn put_filled_up(page: &mut Vec<u8>, language: &Language, rule: &Rule) -> Result
     ensures { OnOk result (Grows page.old.items page.new.items (filled_up language.now rule.now)) }
 {
     match (rule.options.completion, rule.fill_up) {
-        (Completion::Add1, FillUp::MostVotes) => put_item(page, language, keys::FILLED_UP),
+        (Completion::Add1, FillUp::MostVotes) => {
+            let said = by_ties(rule, keys::FILLED_UP, keys::FILLED_UP_TIED);
+            put_item(page, language, said)
+        }
         _ => Ok(()),
     }
 }

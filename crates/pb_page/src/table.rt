@@ -18,10 +18,19 @@ macro_rules! plain {
     };
 }
 
+/// A sentence with these places of numbers, and no nouns.
+macro_rules! placed {
+    ($key:literal, $numbers:expr, $english:literal) => {
+        SentenceEntry { key: $key, numbers: $numbers, nouns: &[], english: $english }
+    };
+}
+
 /// How many sentences there are.
 pub fn entries() -> usize {
     let early = first().len().saturating_add(middle().len());
-    early.saturating_add(later().len())
+    early
+        .saturating_add(later().len())
+        .saturating_add(tied().len())
 }
 
 /// The sentence at this index.
@@ -44,6 +53,14 @@ fn middle_at(index: usize) -> Option<SentenceEntry> {
 fn later_at(index: usize) -> Option<SentenceEntry> {
     match later().get(index) {
         Some(entry) => Some(*entry),
+        None => tied_at(index.saturating_sub(later().len())),
+    }
+}
+
+/// The sentence at this index of those of other rules for ties.
+fn tied_at(index: usize) -> Option<SentenceEntry> {
+    match tied().get(index) {
+        Some(entry) => Some(*entry),
         None => None,
     }
 }
@@ -60,7 +77,7 @@ pub(crate) fn entry_of(key: &str) -> Option<(usize, SentenceEntry)> {
     None
 }
 
-// The sentences are in three lists, each with a function of its own, since a proof writes out all texts of a
+// The sentences are in four lists, each with a function of its own, since a proof writes out all texts of a
 // constant.
 
 fn first() -> &'static [SentenceEntry] {
@@ -73,6 +90,10 @@ fn middle() -> &'static [SentenceEntry] {
 
 fn later() -> &'static [SentenceEntry] {
     LATER
+}
+
+fn tied() -> &'static [SentenceEntry] {
+    TIED
 }
 
 /// The first sentences, in the order of their keys' numbers.
@@ -93,18 +114,16 @@ const FIRST: &[SentenceEntry] = &[
         english: "{won} {winners} won, for {spent} in all; {left} of the budget is left.",
     },
     plain!("budget.heading", "Where the budget goes"),
-    SentenceEntry {
-        key: "budget.picture",
-        numbers: &["budget", "spent", "left"],
-        nouns: &[],
-        english: "Of {budget}, {spent} is spent and {left} is left.",
-    },
-    SentenceEntry {
-        key: "budget.caption",
-        numbers: &["spent", "left", "surplus"],
-        nouns: &[],
-        english: "Each block is a winning project, as wide as its cost, in the order of the tables below. Spent: {spent}. Left: {left}. Paid beyond the costs, by rounding prices up: {surplus}.",
-    },
+    placed!(
+        "budget.picture",
+        &["budget", "spent", "left"],
+        "Of {budget}, {spent} is spent and {left} is left."
+    ),
+    placed!(
+        "budget.caption",
+        &["spent", "left", "surplus"],
+        "Each block is a winning project, as wide as its cost, in the order of the tables below. Spent: {spent}. Left: {left}. Paid beyond the costs, by rounding prices up: {surplus}."
+    ),
     plain!("winners.heading", "The winners"),
     plain!(
         "winners.caption",
@@ -135,12 +154,7 @@ const FIRST: &[SentenceEntry] = &[
     plain!("others.none", "There are none."),
     plain!("column.left", "Its supporters still have"),
     plain!("column.missing", "Missing"),
-    SentenceEntry {
-        key: "others.short",
-        numbers: &["missing"],
-        nouns: &[],
-        english: "{missing} short",
-    },
+    placed!("others.short", &["missing"], "{missing} short"),
     plain!("voters.heading", "What the voters got"),
     SentenceEntry {
         key: "voters.got",
@@ -154,18 +168,8 @@ const FIRST: &[SentenceEntry] = &[
     ),
     plain!("column.chosen", "Winners chosen"),
     plain!("column.voters", "Voters"),
-    SentenceEntry {
-        key: "voters.exactly",
-        numbers: &["number"],
-        nouns: &[],
-        english: "{number}",
-    },
-    SentenceEntry {
-        key: "voters.or_more",
-        numbers: &["number"],
-        nouns: &[],
-        english: "{number} or more",
-    },
+    placed!("voters.exactly", &["number"], "{number}"),
+    placed!("voters.or_more", &["number"], "{number} or more"),
 ];
 
 /// The sentences behind them, on how it was counted and how to check it.
@@ -193,12 +197,11 @@ const MIDDLE: &[SentenceEntry] = &[
         "rule.plain",
         "What these rounds left of the budget is not spent."
     ),
-    SentenceEntry {
-        key: "rule.share_unraised",
-        numbers: &["share"],
-        nouns: &[],
-        english: "Each voter got the same share, {share}: an equal part of the budget.",
-    },
+    placed!(
+        "rule.share_unraised",
+        &["share"],
+        "Each voter got the same share, {share}: an equal part of the budget."
+    ),
     plain!(
         "rule.raised",
         "To spend more of the budget, all rounds were held anew with higher and higher shares."
@@ -225,12 +228,11 @@ const MIDDLE: &[SentenceEntry] = &[
         "check.bytes",
         "Exactly these bytes were counted. The same bytes give the same winners by the same rule, whoever counts them."
     ),
-    SentenceEntry {
-        key: "check.recount",
-        numbers: &["link"],
-        nouns: &[],
-        english: "To recount them in a browser, open {link}.",
-    },
+    placed!(
+        "check.recount",
+        &["link"],
+        "To recount them in a browser, open {link}."
+    ),
     plain!("check.link", "the page that counts"),
     plain!(
         "check.program_too",
@@ -261,12 +263,11 @@ const LATER: &[SentenceEntry] = &[
         "compared.more",
         "Voters with more winners than by the other rule"
     ),
-    SentenceEntry {
-        key: "amount",
-        numbers: &["amount", "currency"],
-        nouns: &[],
-        english: "{amount}\u{a0}{currency}",
-    },
+    placed!(
+        "amount",
+        &["amount", "currency"],
+        "{amount}\u{a0}{currency}"
+    ),
     plain!("people.one", "person"),
     plain!("people.few", "people"),
     plain!("people.many", "people"),
@@ -288,52 +289,46 @@ const LATER: &[SentenceEntry] = &[
     plain!("times.one", "raise"),
     plain!("times.few", "raises"),
     plain!("times.many", "raises"),
-    SentenceEntry {
-        key: "lead.none",
-        numbers: &["left"],
-        nouns: &[],
-        english: "No project won. Nothing is spent: {left} is left.",
-    },
+    placed!(
+        "lead.none",
+        &["left"],
+        "No project won. Nothing is spent: {left} is left."
+    ),
     plain!("budget.none", "The bar is empty, because no project won."),
-    SentenceEntry {
-        key: "check.options",
-        numbers: &["by", "measure", "then", "completion", "step", "limit"],
-        nouns: &[],
-        english: "Options of this count: measure {measure} ({by}), completion {completion} ({then}), step {step} (--step takes hundredths), limit of raises {limit}.",
-    },
-    SentenceEntry {
-        key: "check.made_by",
-        numbers: &["program"],
-        nouns: &[],
-        english: "This page was made by {program}.",
-    },
+    placed!(
+        "check.options",
+        &["by", "measure", "then", "completion", "step", "limit"],
+        "Options of this count: measure {measure} ({by}), completion {completion} ({then}), step {step} (--step takes hundredths), limit of raises {limit}."
+    ),
+    placed!(
+        "check.made_by",
+        &["program"],
+        "This page was made by {program}."
+    ),
     plain!(
         "rule.exhausted",
         "The shares were not raised further, because no other project that somebody chose fits into what is left of the budget."
     ),
-    SentenceEntry {
-        key: "rule.over",
-        numbers: &["share", "cost"],
-        nouns: &[],
-        english: "The shares were not raised further, because at the next share, {share}, the rounds would elect projects that cost {cost} together: more than the budget.",
-    },
+    placed!(
+        "rule.over",
+        &["share", "cost"],
+        "The shares were not raised further, because at the next share, {share}, the rounds would elect projects that cost {cost} together: more than the budget."
+    ),
     plain!(
         "rule.only_then",
         "The rounds would elect these projects only with that raise:"
     ),
     plain!("rule.ties", "Ties that the order of the file decided:"),
-    SentenceEntry {
-        key: "rule.tie_by_votes",
-        numbers: &["round", "winner", "other"],
-        nouns: &[],
-        english: "Round {round}: {winner} was elected. {other} had the same price, but comes later in the file, and was not elected in a later round.",
-    },
-    SentenceEntry {
-        key: "rule.tie_by_cost",
-        numbers: &["round", "winner", "other"],
-        nouns: &[],
-        english: "Round {round}: {winner} was elected. {other} had the same price in proportion to its cost, but comes later in the file, and was not elected in a later round.",
-    },
+    placed!(
+        "rule.tie_by_votes",
+        &["round", "winner", "other"],
+        "Round {round}: {winner} was elected. {other} had the same price, but comes later in the file, and was not elected in a later round."
+    ),
+    placed!(
+        "rule.tie_by_cost",
+        &["round", "winner", "other"],
+        "Round {round}: {winner} was elected. {other} had the same price in proportion to its cost, but comes later in the file, and was not elected in a later round."
+    ),
     plain!("categories.heading", "The money by category"),
     plain!(
         "categories.caption",
@@ -344,12 +339,11 @@ const LATER: &[SentenceEntry] = &[
     plain!("column.category_won", "Winners"),
     plain!("column.category_cost", "Cost of the winners"),
     plain!("column.left_short", "Left short when raising ended"),
-    SentenceEntry {
-        key: "check.options_unraised",
-        numbers: &["by", "measure", "then", "completion"],
-        nouns: &[],
-        english: "Options of this count: measure {measure} ({by}), completion {completion} ({then}).",
-    },
+    placed!(
+        "check.options_unraised",
+        &["by", "measure", "then", "completion"],
+        "Options of this count: measure {measure} ({by}), completion {completion} ({then})."
+    ),
     plain!("measure.votes", "the lowest price per supporter first"),
     plain!(
         "measure.cost",
@@ -362,18 +356,16 @@ const LATER: &[SentenceEntry] = &[
         "completion.add1u",
         "shares are raised, and what is then left is spent by votes"
     ),
-    SentenceEntry {
-        key: "works.raised",
-        numbers: &["budget", "voters", "share"],
-        nouns: &[],
-        english: "At first the budget of {budget} is divided by the number of voters, {voters}: each has a share of {share}, which pays only for projects on their own ballot. If the shares then pay for no other project although some of the budget is left, all shares are raised by the same step and all rounds are held again from the start. Shares are for counting only: together they may come to more than the budget in the end, but what the winners cost together never does.",
-    },
-    SentenceEntry {
-        key: "works.unraised",
-        numbers: &["budget", "voters", "share"],
-        nouns: &[],
-        english: "The budget of {budget} is divided by the number of voters, {voters}: each has a share of {share}, which pays only for projects on their own ballot. Those who chose a project pay for it together. So what the shares pay for never costs more than the budget.",
-    },
+    placed!(
+        "works.raised",
+        &["budget", "voters", "share"],
+        "At first the budget of {budget} is divided by the number of voters, {voters}: each has a share of {share}, which pays only for projects on their own ballot. If the shares then pay for no other project although some of the budget is left, all shares are raised by the same step and all rounds are held again from the start. Shares are for counting only: together they may come to more than the budget in the end, but what the winners cost together never does."
+    ),
+    placed!(
+        "works.unraised",
+        &["budget", "voters", "share"],
+        "The budget of {budget} is divided by the number of voters, {voters}: each has a share of {share}, which pays only for projects on their own ballot. Those who chose a project pay for it together. So what the shares pay for never costs more than the budget."
+    ),
     plain!(
         "works.picture",
         "A sketch with four voters, not to scale. Above: the budget in equal shares. In the middle: shares that were raised. Below: what the winners cost. The line shows where the budget ends."
@@ -391,56 +383,41 @@ const LATER: &[SentenceEntry] = &[
         "compared.only_by_votes",
         "These projects win by most votes, but not by this count:"
     ),
-    SentenceEntry {
-        key: "check.rule",
-        numbers: &["rule"],
-        nouns: &[],
-        english: "The name of this rule is {rule}.",
-    },
+    placed!("check.rule", &["rule"], "The name of this rule is {rule}."),
     plain!("contents", "On this page"),
-    SentenceEntry {
-        key: "check.files",
-        numbers: &["link"],
-        nouns: &[],
-        english: "The file with new voter ids, the report and the tables are {link}. Check them with your own copy of recount.html.",
-    },
+    placed!(
+        "check.files",
+        &["link"],
+        "The file with new voter ids, the report and the tables are {link}. Check them with your own copy of recount.html."
+    ),
     plain!("check.files_link", "published here"),
     plain!("others.went", "Where its supporters' money went"),
-    SentenceEntry {
-        key: "others.paid",
-        numbers: &["amount", "project"],
-        nouns: &[],
-        english: "{amount} for {project}",
-    },
-    SentenceEntry {
-        key: "others.paid_more",
-        numbers: &["amount"],
-        nouns: &[],
-        english: "{amount} for other projects",
-    },
+    placed!(
+        "others.paid",
+        &["amount", "project"],
+        "{amount} for {project}"
+    ),
+    placed!(
+        "others.paid_more",
+        &["amount"],
+        "{amount} for other projects"
+    ),
     plain!("others.paid_nothing", "They paid for no project."),
-    SentenceEntry {
-        key: "others.kept",
-        numbers: &["amount"],
-        nouns: &[],
-        english: "{amount} left",
-    },
+    placed!("others.kept", &["amount"], "{amount} left"),
     plain!(
         "rule.no_more",
         "The rounds elect these projects now, but would not with that raise:"
     ),
-    SentenceEntry {
-        key: "rule.tie_added",
-        numbers: &["winner", "other"],
-        nouns: &[],
-        english: "{winner} was added by votes. {other} had as many votes and the same cost, but comes later in the file, and did not win.",
-    },
-    SentenceEntry {
-        key: "budget.by_votes",
-        numbers: &["spent", "left"],
-        nouns: &[],
-        english: "Each block is a winning project, as wide as its cost, in the order of the table below. Spent: {spent}. Left: {left}.",
-    },
+    placed!(
+        "rule.tie_added",
+        &["winner", "other"],
+        "{winner} was added by votes. {other} had as many votes and the same cost, but comes later in the file, and did not win."
+    ),
+    placed!(
+        "budget.by_votes",
+        &["spent", "left"],
+        "Each block is a winning project, as wide as its cost, in the order of the table below. Spent: {spent}. Left: {left}."
+    ),
     plain!(
         "winners.by_votes",
         "In the order of their votes: of equal votes the cheaper project, of equal costs the first in the file. The bar is the project's part of the budget."
@@ -453,10 +430,63 @@ const LATER: &[SentenceEntry] = &[
         "rule.most_votes",
         "The budget was spent by votes: as long as it paid for a project that anyone voted for, the one with the most votes won, of equal votes the cheaper, of equal costs the first in the file. Nobody had a share of the budget."
     ),
-    SentenceEntry {
-        key: "rule.tie_won",
-        numbers: &["winner", "other"],
-        nouns: &[],
-        english: "{winner} won. {other} had as many votes and the same cost, but comes later in the file, and did not win.",
-    },
+    placed!(
+        "rule.tie_won",
+        &["winner", "other"],
+        "{winner} won. {other} had as many votes and the same cost, but comes later in the file, and did not win."
+    ),
+];
+
+/// Those of other rules for ties than the order of the file.
+const TIED: &[SentenceEntry] = &[
+    plain!(
+        "rule.by_votes_tied",
+        "In each round the project with the lowest price per supporter was elected, among equals the first by the rule for ties, and its supporters paid for it; the rounds ended when no other project could be paid."
+    ),
+    plain!(
+        "rule.by_cost_tied",
+        "In each round the project whose price per supporter was the smallest part of its cost was elected, among equals the first by the rule for ties, and its supporters paid for it; the rounds ended when no other project could be paid."
+    ),
+    plain!(
+        "rule.filled_up_tied",
+        "Of the projects that anyone voted for and that what is left of the budget still pays for, the one with the most votes is added, of equal votes the cheaper, of equal costs the first by the rule for ties, and so on."
+    ),
+    plain!(
+        "rule.most_votes_tied",
+        "The budget was spent by votes: as long as it paid for a project that anyone voted for, the one with the most votes won, of equal votes the cheaper, of equal costs the first by the rule for ties. Nobody had a share of the budget."
+    ),
+    plain!(
+        "winners.by_votes_tied",
+        "In the order of their votes: of equal votes the cheaper project, of equal costs the first by the rule for ties. The bar is the project's part of the budget."
+    ),
+    plain!(
+        "added.caption_tied",
+        "What was left of the budget went to the project with the most votes that it still paid for, again and again: of equal votes to the cheaper project, of equal costs to the first by the rule for ties. Nobody's share pays for these projects. The bar is the project's part of the budget."
+    ),
+    plain!("rule.ties_tied", "Ties that this rule decided:"),
+    placed!(
+        "rule.tie_by_votes_tied",
+        &["round", "winner", "other"],
+        "Round {round}: {winner} was elected. {other} had the same price, but comes later by the rule for ties, and was not elected in a later round."
+    ),
+    placed!(
+        "rule.tie_by_cost_tied",
+        &["round", "winner", "other"],
+        "Round {round}: {winner} was elected. {other} had the same price in proportion to its cost, but comes later by the rule for ties, and was not elected in a later round."
+    ),
+    placed!(
+        "rule.tie_added_tied",
+        &["winner", "other"],
+        "{winner} was added by votes. {other} had as many votes and the same cost, but comes later by the rule for ties, and did not win."
+    ),
+    placed!(
+        "rule.tie_won_tied",
+        &["winner", "other"],
+        "{winner} won. {other} had as many votes and the same cost, but comes later by the rule for ties, and did not win."
+    ),
+    placed!(
+        "rule.equals",
+        &["ties"],
+        "Where projects were equal, the rule for ties decided: {ties}. In such a rule, votes means that the project with more votes comes first, cost that the cheaper one does, and lot that their order was drawn from the text behind it. What is still equal comes in the order of the file."
+    ),
 ];

@@ -371,6 +371,9 @@ pub(crate) const OPTIONS: &str = "~~ --step ~ --raises ~";
 /// The option of most votes first, which has no others.
 pub(crate) const BY_VOTES: &str = " --rule most-votes";
 
+/// The option for ties.
+pub(crate) const TIES_OPTION: &str = " --ties ~";
+
 /// The end of how to check a result.
 pub(crate) const CHECK_CLOSING: &str = "</section>
 ";

@@ -13,11 +13,10 @@ use crate::put::{put, put_own};
 use crate::rule::put_item;
 use crate::sentences::say_item;
 use crate::templates::{WENT_CLOSING, WENT_OPENING};
-use crate::ties::{id_at, name_at};
-use pb_core::election::Election;
+use crate::ties::project_place;
 use pb_core::money::Money;
 use pb_core::no_memory::NoMemory;
-use pb_reasons::{Ending, MoneyPaid, MoneyTeller, Payment, ProjectReason};
+use pb_reasons::{CountedElection, Ending, MoneyPaid, MoneyTeller, Payment, ProjectReason};
 use std::alloc::Global;
 
 /// So many supporters a project needs, so that what they paid tells no one's ballot.
@@ -47,15 +46,15 @@ pub(crate) fn paid_of(
 pub(crate) fn put_went<'a>(
     page: &mut Vec<u8>,
     language: &Language<'a>,
-    election: &'a Election,
+    count: &'a CountedElection,
     paid: &Option<MoneyPaid>,
     left: Money,
 ) -> Result<(), NoMemory>
     ensures { OnOk result (Grows page.old.items page.new.items
-        (went_as language.now election.now paid.now left)) }
+        (went_as language.now count.now paid.now left)) }
 {
     match paid {
-        Some(paid) => put_money(page, language, election, paid, left),
+        Some(paid) => put_money(page, language, count, paid, left),
         None => Ok(()),
     }
 }
@@ -64,17 +63,17 @@ pub(crate) fn put_went<'a>(
 fn put_money<'a>(
     page: &mut Vec<u8>,
     language: &Language<'a>,
-    election: &'a Election,
+    count: &'a CountedElection,
     paid: &MoneyPaid,
     left: Money,
 ) -> Result<(), NoMemory>
     ensures { OnOk result (Grows page.old.items page.new.items
-        (money_told language.now election.now left paid.now)) }
+        (money_told language.now count.now left paid.now)) }
 {
     let most = paid.most.as_slice();
     let kept = Place::Amount("kept", left, language.amounts);
     put(page, language, WENT_OPENING, &[Value::Said(keys::WENT)])?;
-    put_payments(page, language, election, most)?;
+    put_payments(page, language, count, most)?;
     put_more(page, language, paid.others)?;
     put_nothing(page, language, most.is_empty())?;
     say_item(page, language, keys::KEPT, &[kept])?;
@@ -85,14 +84,14 @@ fn put_money<'a>(
 fn put_payments<'a>(
     page: &mut Vec<u8>,
     language: &Language<'a>,
-    election: &'a Election,
+    count: &'a CountedElection,
     payments: &[Payment],
 ) -> Result<(), NoMemory>
     ensures { OnOk result (Grows page.old.items page.new.items
-        (flat_map (payment_told language.now election.now) payments.now)) }
+        (flat_map (payment_told language.now count.now) payments.now)) }
 {
     for payment in payments {
-        put_payment(page, language, election, payment)?;
+        put_payment(page, language, count, payment)?;
     }
     Ok(())
 }
@@ -101,16 +100,16 @@ fn put_payments<'a>(
 fn put_payment<'a>(
     page: &mut Vec<u8>,
     language: &Language<'a>,
-    election: &'a Election,
+    count: &'a CountedElection,
     payment: &Payment,
 ) -> Result<(), NoMemory>
     ensures { OnOk result (Grows page.old.items page.new.items
-        (payment_told language.now election.now payment.now)) }
+        (payment_told language.now count.now payment.now)) }
 {
     let place = payment.place;
     let places = [
         Place::Amount("paid_for", payment.amount, language.amounts),
-        Place::Project(place, id_at(election, place), name_at(election, place)),
+        project_place(count, place),
     ];
     say_item(page, language, keys::PAID, &places)
 }

@@ -1,11 +1,11 @@
 //! The check of a whole file: it goes on after a faulty row.
 
 ghost use Rattle.std.specs.Prelude.{◌≡◌, ◌≢◌, ◌≤◌, ◌<◌, ◌+◌, [], true, List, Option, None, Some, length};
-ghost use Rattle.std.specs.Prelude.{IfErr, IfOk, IfSome, MatchOption, OnOk};
+ghost use Rattle.std.specs.Prelude.{All, IfErr, IfOk, IfSome, MatchOption, OnOk};
 ghost use Rattle.pb_rows.specs.Reading.{Fields, records_of};
 ghost use Rattle.pb_rows.specs.Inner.Reading.{HasReadAtMost};
-ghost use Rattle.pb_read.specs.Inner.Checking.{Blames, GoesOn, IsGoing, IsRefusal, Judges, JudgesEnd, JudgesRow};
-ghost use Rattle.pb_read.specs.Inner.Checking.{IsHandedOut, Stops};
+ghost use Rattle.pb_read.specs.Inner.Checking.{AreBlamed, Blames, GoesOn, IsGoing, IsHandedOut, IsRefusal};
+ghost use Rattle.pb_read.specs.Inner.Checking.{Judges, JudgesEnd, JudgesRow, Stops};
 ghost use Rattle.pb_read.specs.Listed.{AreListed};
 ghost use Rattle.pb_read.specs.StandsFor.{StandsFor};
 ghost use Rattle.pb_read.specs.Shown.{IsAll, Sight, WereShown};
@@ -79,14 +79,15 @@ pub fn check_pb<R: Read + Drop, W: Watch>(
         (IsAll (records_of bytes)) (W.shown watch.old) (W.shown watch.new))) }
 {
     let mut records = Records::new(alloc, reader);
-    let checked = check_records(alloc, &mut records, watch);
+    let checked = check_pb_records(alloc, &mut records, watch);
     // Letting go of them by a call keeps this function's proof short.
     drop(records);
     checked
 }
 
-/// Checks these records.
-fn check_records<R: Read, W: Watch>(
+/// Checks these records as `check_pb` checks those of a text. Where a fault blames the reader, the reader has
+/// failed.
+pub fn check_pb_records<R: Read, W: Watch>(
     alloc: Global,
     records: &mut Records<R>,
     watch: &mut W,
@@ -94,7 +95,11 @@ fn check_records<R: Read, W: Watch>(
     ensures faults { IfSome records.old.left (λ all.
         IfOk result (λ checked. AreListed 0 all checked.faults.items)) }
     ensures election { IfSome records.old.left (λ all.
-        IfOk result (λ checked. IsHandedOut all checked.faults.items checked.election)) }
+        IfOk result (λ checked. MatchOption checked.election (checked.faults.items ≢ [])
+        (λ e. (checked.faults.items ≡ []) × StandsFor all e))) }
+    ensures blame { records.old.fault ≡ None → IfOk result (λ checked.
+        All (λ fault. fault.kind ≡ ReadKind.ReadFailed → records.new.fault ≡ Some RecordsFault.ReadFailed)
+        checked.faults.items) }
     ensures shown { IfSome records.old.left (λ all. IfOk result (λ checked.
         length checked.faults.items < 1000 → WereShown all checked.faults.items (IsAll all)
         (W.shown watch.old) (W.shown watch.new))) }
@@ -172,6 +177,8 @@ impl Check {
         ensures faults { OnOk result (IfSome records.old.left (λ all. AreListed 0 all faults.new.items)) }
         ensures election { IfOk result (λ election.
             IfSome records.old.left (λ all. IsHandedOut all faults.new.items election)) }
+        ensures blame { records.old.fault ≡ None →
+            OnOk result (AreBlamed records.new.fault faults.new.items) }
         ensures shown { OnOk result (IfSome records.old.left (λ all. length faults.new.items < 1000 →
             WereShown all faults.new.items (IsAll all) (W.shown watch.old) (W.shown watch.new))) }
     {
@@ -252,6 +259,7 @@ impl Check {
             ShowsStop all records.new.left faults (place_of self.new.progress) before (W.shown watch.new) result }
         ensures blame { records.old.fault ≡ None →
             IfErr result (λ refused. BlamesReader refused.fault.kind records.new.fault) }
+        ensures goes_on { IfErr result (λ refused. refused.is_left_out ≡ true → records.new.fault ≡ None) }
         ensures read { kept ≡ 0 → left_out ≡ 0 → HasReadAtMost 2000001 records.old.left records.new.left }
     {
         for before in kept..MOST_RECORDS + 1 {

@@ -21,7 +21,7 @@ mod vote;
 pub mod warning;
 mod watch;
 
-pub use check::{Checked, MOST_FAULTS, check_pb};
+pub use check::{Checked, MOST_FAULTS, check_pb, check_pb_records};
 pub use column::Column;
 pub use columns::{ProjectColumns, VoteColumns};
 pub use fault::{ReadFault, ReadKind};

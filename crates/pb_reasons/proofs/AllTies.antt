@@ -32,7 +32,7 @@ use Rattle.pb_reasons.proofs.TiedRounds.{take_again}
 
 -- ---- a share is at most the largest
 
-small_opening : (e : ElectionView) → IsElection e → opening_share e ≤ largest_money
+pub small_opening : (e : ElectionView) → IsElection e → opening_share e ≤ largest_money
 small_opening e h = elim (cases_lt 0 (length e.voters)) [
   | inl some ↦
       let within = opening_within e in
@@ -41,7 +41,7 @@ small_opening e h = elim (cases_lt 0 (length e.voters)) [
   | inr nobody ↦ let none = opening_of_nobody e (omega arith) in omega (arith, none)
 ]
 
-few_raises : (e : ElectionView) (options : CountOptions) (o : OutcomeView) → IsCountOf e options o → (c : Completion) → options.completion ≡ c → o.raised ≤ options.max_raises
+pub few_raises : (e : ElectionView) (options : CountOptions) (o : OutcomeView) → IsCountOf e options o → (c : Completion) → options.completion ≡ c → o.raised ≤ options.max_raises
 few_raises e options o h Plain is = omega (arith, h.unraised (λ add1. absurd (cc (is, add1))))
 few_raises e options o h NoShares is = omega (arith, h.unraised (λ add1. absurd (cc (is, add1))))
 few_raises e options o h Add1 is = (h.completed is).within_limit
@@ -79,7 +79,7 @@ elected_are_known e options o h counted = λ k d below.
 -- ---- the ties of one round more
 
 module _ (m : Measure) (s : SupportView) (share : ℕ) (elected : List ElectedView) where
-  here_is : (round : ℕ) (w : ElectedView) → round < length elected → w ≡ get_or elected round w → (rests : List ℕ)
+  pub here_is : (round : ℕ) (w : ElectedView) → round < length elected → w ≡ get_or elected round w → (rests : List ℕ)
       → rests ≡ rests_after s (replicate s.voters share) (take round elected)
       → ties_with m s elected rests w (round + 1) (length s.costs) ≡ ties_in m s share elected round
   here_is round w below here rests is =

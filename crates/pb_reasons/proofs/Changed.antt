@@ -1,7 +1,7 @@
 -- What a count reads of an election that is changed.
 use Rattle.std.proofs.Common.{◌≡◌, ◌∙◌, ◌<◌, ◌++◌, ◌∷◌, [], ℕ, List, append-nil, ap, get_or, length, map, replicate, slice_set, subst, sym}
 use Rattle.std.proofs.lemmas.List.{length-map, length-set}
-use Rattle.pb_core.specs.Election.{ElectionView, IsElection, IsProject, ProjectView}
+use Rattle.pb_core.specs.Election.{ElectionView, IsElection, IsProject, ProjectView, project_ids}
 use Rattle.pb_reasons.specs.WhatIf.{IsTrue, Says, Seen, changed, seen}
 use Rattle.pb_reasons.specs.Inner.Searching.{AreKnown, further_of}
 use Rattle.pb_reasons.specs.declared.changes.change.Change.{Change}
@@ -11,16 +11,18 @@ use Rattle.pb_reasons.specs.declared.changes.question.Question.{Question}
 use Rattle.pb_reasons.proofs.Copies.{own_cost}
 
 -- the changed costs, and the further ballots behind those that there are
-pub changed_seen : (change : Change) (place value : ℕ) (s t r : Seen) (more : List (List ℕ)) → t.costs ≡ s.costs → r.budget ≡ s.budget
+pub changed_seen : (change : Change) (place value : ℕ) (s t r : Seen) (more : List (List ℕ)) → t.costs ≡ s.costs → r.budget ≡ s.budget → r.ids ≡ s.ids
     → r.costs ≡ (changed change place value t).costs → r.ballots ≡ s.ballots ++ more → more ≡ replicate (further_of change value) (place ∷ [])
     → r ≡ changed change place value s
-changed_seen Cost place value s t r more same budget costs ballots further = λ i. record {
+changed_seen Cost place value s t r more same budget ids costs ballots further = λ i. record {
   budget = budget i;
+  ids = ids i;
   costs = (costs ∙ ap (λ (c : List ℕ). slice_set c place value) same) i;
   ballots = (ballots ∙ ap (λ (m : List (List ℕ)). s.ballots ++ m) further ∙ append-nil s.ballots) i;
 }
-changed_seen Voters place value s t r more same budget costs ballots further = λ i. record {
+changed_seen Voters place value s t r more same budget ids costs ballots further = λ i. record {
   budget = budget i;
+  ids = ids i;
   costs = (costs ∙ same) i;
   ballots = (ballots ∙ ap (λ (m : List (List ℕ)). s.ballots ++ m) further) i;
 }
@@ -38,8 +40,8 @@ pub known : (e : ElectionView) (q : Question) (p : ProjectView) (verdict : Verdi
     → Says e q verdict → AreKnown (seen e) q p.cost verdict
 unfolding IsTrue
 known e q p verdict is within at says = record {
-  own = (e, is, (λ i. record { budget = e.budget; costs = sym (own_cost e.projects q.place p within at) i; ballots = (seen e).ballots }), says);
-  nobody = (e, is, (λ i. record { budget = e.budget; costs = (seen e).costs; ballots = sym (append-nil (seen e).ballots) i }), says);
+  own = (e, is, (λ i. record { budget = e.budget; ids = project_ids e; costs = sym (own_cost e.projects q.place p within at) i; ballots = (seen e).ballots }), says);
+  nobody = (e, is, (λ i. record { budget = e.budget; ids = project_ids e; costs = (seen e).costs; ballots = sym (append-nil (seen e).ballots) i }), says);
   can_be = (project.costs, project.affordable);
 }
   where

@@ -6,7 +6,6 @@ use Rattle.std.proofs.Math.Nat.{pow-suc}
 use Rattle.pb_reasons.specs.WhatIf.{IsTrue, Seen, wins}
 use Rattle.pb_reasons.specs.Inner.Doubling.{NoneWins}
 use Rattle.pb_reasons.specs.declared.changes.change.Change.TheVariants.{Voters}
-use Rattle.pb_reasons.specs.declared.changes.change.Row.{Row}
 use Rattle.pb_reasons.specs.declared.changes.change.Verdict.{Verdict}
 use Rattle.pb_reasons.specs.declared.changes.question.Question.{Question}
 

@@ -37,5 +37,15 @@ pub mod Searches
 pub mod Tidy
 pub mod Ranges
 pub mod Doubling
+pub mod Sorted
+pub mod Far
+pub mod Runs
+pub mod FileTies
+pub mod RoundTies
+pub mod KnownTies
+pub mod Whole
 pub mod LoserOrder
 pub mod LosersSearched
+pub mod Exchanges
+pub mod Pairs
+pub mod Exchanged

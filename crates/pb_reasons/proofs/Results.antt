@@ -3,7 +3,7 @@ use Rattle.std.proofs.Common.{◌≡◌, ℕ, ◌+◌, ◌-◌, ◌<◌, ◌≤�
 use Rattle.std.specs.Prelude.{All, slice_get, slice_index, sum_by}
 use Rattle.std.proofs.lemmas.Bool.{cases_lt}
 use Rattle.std.proofs.lemmas.List.{get_or_past}
-use Rattle.std.proofs.lemmas.List.Elements.{All-nil, All-weaker}
+use Rattle.std.proofs.lemmas.List.Elements.{All-append, All-map, All-nil, All-weaker}
 use Rattle.std.proofs.lemmas.List.FromFn.{length-map-range_with_len}
 use Rattle.pb_core.specs.Election.{ElectionView, IsElection}
 use Rattle.pb_rounds.proofs.Added.{added_are_paid, added_have_votes, election_is_filled}
@@ -15,7 +15,7 @@ use Rattle.pb_rounds.specs.declared.rule.Rule.{Rule}
 use Rattle.pb_rounds.specs.Run.{ElectedView}
 use Rattle.pb_rounds.specs.declared.rule.FillUp.{FillUp}
 use Rattle.pb_rounds.specs.declared.rule.FillUp.TheVariants.{Nothing, MostVotes}
-use Rattle.pb_reasons.specs.Counted.{CountedView, IsCountBy, counted}
+use Rattle.pb_reasons.specs.Counted.{CountedView, IsCountBy, counted, winners_of}
 use Rattle.pb_reasons.specs.Inner.Counts.{IsCounted}
 use Rattle.pb_reasons.specs.CountedElection.{CountedElectionView, IsCountedElection}
 use Rattle.pb_reasons.specs.Reasons.{ending_of, project_reason, round_of}
@@ -25,6 +25,7 @@ use Rattle.pb_reasons.specs.declared.project_reason.Ending.{Ending}
 use Rattle.pb_reasons.specs.declared.project_reason.Ending.TheVariants.{Won, Added, Lost}
 use Rattle.pb_reasons.specs.declared.project_reason.ProjectReason.{ProjectReason}
 use Rattle.pb_reasons.proofs.Numbering.{added_has_number}
+use Rattle.pb_reasons.proofs.Tellable.{counted_can_be_told}
 
 -- what a count comes to is a result
 pub result_of : (rule : Rule) (e : ElectionView) (c : CountedView) → IsCountBy rule e c → IsCounted e c
@@ -67,6 +68,13 @@ are_added e o Nothing h within = record { known = All-nil (λ place. place < len
 pub result_is_added : (e : ElectionView) (c : CountedView) → IsElection e → IsCounted e c → AreAdded e c.outcome c.added
 result_is_added e c h result =
     subst (AreAdded e c.outcome) (sym (ap (λ (v : CountedView). v.added) result.2)) (are_added e c.outcome c.fill_up h result.1.within_budget)
+
+-- the winners are projects of the election
+pub winners_known : (c : CountedElectionView) → IsCountedElection c → All (λ place. place < length c.election.projects) (winners_of c.counted)
+winners_known c is =
+    All-append (λ place. place < length c.election.projects) (map (λ (w : ElectedView). w.place) c.counted.outcome.elected) c.counted.added
+    (All-map (λ place. place < length c.election.projects) (λ (w : ElectedView). w.place) c.counted.outcome.elected (counted_can_be_told c is).known)
+    (result_is_added c.election c.counted is.is_election (counted_is_result c is)).known
 
 -- the reasons of the outcome, and with them what is added
 pub ending_filled : (e : ElectionView) (c : CountedView) (place : ℕ) (w : Option ElectedView)

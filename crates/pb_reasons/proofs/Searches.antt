@@ -1,9 +1,16 @@
 -- Rows of a search, and what ends one.
-use Rattle.std.proofs.Common.{◌≡◌, ◌≢◌, ◌<◌, ◌≤◌, ℕ, Bool, true, false, if◌then◌else◌, get_or, length, refl, sym, ◌∙◌, ap, arith}
+use Rattle.std.specs.Prelude.{IfErr, IfOk}
+use Rattle.std.proofs.Common.{◌≡◌, ◌≢◌, ◌<◌, ◌≤◌, ℕ, List, Ok, Err, Result, Bool, true, false, if◌then◌else◌, get_or, length, refl, sym, ◌∙◌, ap, arith}
 use Rattle.pb_core.specs.Election.{ElectionView, IsElection, ProjectView}
-use Rattle.pb_rounds.specs.Counted.{IsCountFault}
+use Rattle.pb_core.specs.Order.{position_in}
+use Rattle.pb_reasons.specs.Counted.{counted, is_selected}
+use Rattle.pb_reasons.specs.CountedElection.{IsFaultIn}
+use Rattle.pb_rounds.specs.Counted.{IsCountFault, IsCountOf}
+use Rattle.pb_rounds.specs.Outcome.{OutcomeView}
+use Rattle.pb_rounds.specs.TieOrder.{IsSortedFor}
 use Rattle.pb_rounds.specs.declared.count_fault.CountFault.{CountFault}
 use Rattle.pb_rounds.specs.declared.count_fault.CountFault.TheVariants.{WorkerCount, StepRange, RaisesRange, RaisesSpent, NoMemory}
+use Rattle.pb_rounds.specs.declared.rule.Rule.{Rule}
 use Rattle.pb_reasons.specs.WhatIf.{CanBe, IsFound, IsTrue, Says, Seen, wins}
 use Rattle.pb_reasons.specs.Inner.Searching.{AreEnds, AreNear, AreOpposed, HasWon, IsSaid, IsStop}
 use Rattle.pb_reasons.specs.declared.changes.change.Change.{Change}
@@ -84,20 +91,30 @@ found_same s q change low high a b a_is b_is a_at b_at same = record {
   differ = λ apart. absurd (apart same);
 }
 
--- a count's fault ends a search, but for raises that are spent; and what ends one is a count's fault
-pub stop_by : (e : ElectionView) (q : Question) (fault : CountFault) → fault ≢ RaisesSpent → IsCountFault e q.rule.options fault → IsStop q fault
-stop_by e q WorkerCount apart is = record { out_of_range = λ unlike. is; not_spent = apart }
-stop_by e q StepRange apart is = record { out_of_range = λ unlike. is; not_spent = apart }
-stop_by e q RaisesRange apart is = record { out_of_range = λ unlike. is; not_spent = apart }
+-- a count's fault ends a search, but for raises that are spent; and what ends one is a fault of each count
+pub stop_by : (e : ElectionView) (q : Question) (fault : CountFault) → fault ≢ RaisesSpent → (fault ≢ NoMemory → IsFaultIn q.rule e fault) → IsStop q fault
+stop_by e q WorkerCount apart is = record { out_of_range = λ unlike. let (order, sorted, is_put, out) = is unlike in out; not_spent = apart }
+stop_by e q StepRange apart is = record { out_of_range = λ unlike. let (order, sorted, is_put, out) = is unlike in out; not_spent = apart }
+stop_by e q RaisesRange apart is = record { out_of_range = λ unlike. let (order, sorted, is_put, out) = is unlike in out; not_spent = apart }
 stop_by e q RaisesSpent apart is = absurd (apart refl)
 stop_by e q NoMemory apart is = record { out_of_range = λ unlike. absurd (unlike refl); not_spent = apart }
 
-pub fault_of_stop : (e : ElectionView) (q : Question) (fault : CountFault) → IsStop q fault → fault ≢ NoMemory → IsCountFault e q.rule.options fault
-fault_of_stop e q WorkerCount stop unlike = stop.out_of_range unlike
-fault_of_stop e q StepRange stop unlike = stop.out_of_range unlike
-fault_of_stop e q RaisesRange stop unlike = stop.out_of_range unlike
-fault_of_stop e q RaisesSpent stop unlike = absurd (stop.not_spent refl)
-fault_of_stop e q NoMemory stop unlike = absurd (unlike refl)
+fault_of : (e : ElectionView) (q : Question) (fault : CountFault) → IsStop q fault → fault ≢ NoMemory → IsCountFault e q.rule.options fault
+fault_of e q WorkerCount stop unlike = stop.out_of_range unlike
+fault_of e q StepRange stop unlike = stop.out_of_range unlike
+fault_of e q RaisesRange stop unlike = stop.out_of_range unlike
+fault_of e q RaisesSpent stop unlike = absurd (stop.not_spent refl)
+fault_of e q NoMemory stop unlike = absurd (unlike refl)
+
+fault_of_stop : (e sorted : ElectionView) (order : List ℕ) (q : Question) (fault : CountFault) → IsSortedFor q.rule.ties e order sorted → IsStop q fault → fault ≢ NoMemory
+    → IsFaultIn q.rule e fault
+fault_of_stop e sorted order q fault is_put stop unlike = (order, sorted, is_put, fault_of sorted q fault stop unlike)
+
+-- what ends a search of an election that was counted
+pub stopped_after : {A : Type 0} (e sorted : ElectionView) (order : List ℕ) (q : Question) (r : Result A CountFault) → IsSortedFor q.rule.ties e order sorted
+    → IfErr r (IsStop q) → IfErr r (λ fault. fault ≢ NoMemory → IsFaultIn q.rule e fault)
+stopped_after e sorted order q (Ok x) is_put stop = tt
+stopped_after e sorted order q (Err fault) is_put stop = fault_of_stop e sorted order q fault is_put stop
 
 pub memory_stops : (q : Question) → IsStop q NoMemory
 memory_stops q = record { out_of_range = λ unlike. absurd (unlike refl); not_spent = memory_spent }
@@ -105,12 +122,40 @@ memory_stops q = record { out_of_range = λ unlike. absurd (unlike refl); not_sp
     memory_spent : NoMemory ≢ RaisesSpent
     memory_spent same = cc
 
+-- what the count of a sorted election says of the project
+pub has_won_by : (e sorted : ElectionView) (q : Question) (order : List ℕ) (o : OutcomeView) (won : Bool) → IsSortedFor q.rule.ties e order sorted
+    → IsCountOf sorted q.rule.options o → won ≡ is_selected (counted sorted q.rule.fill_up o) (position_in order q.place) → HasWon e q won
+has_won_by e sorted q order o won is_put count is =
+    (record { election = sorted; order = order; rule = q.rule; counted = counted sorted q.rule.fill_up o }, (refl, is_put, (o, count, refl)), sym is)
+
+pub ok_won : {E : Type 0} (e sorted : ElectionView) (q : Question) (order : List ℕ) (position : ℕ) (r : Result Bool E) → IsSortedFor q.rule.ties e order sorted
+    → position ≡ position_in order q.place
+    → IfOk r (λ won. (o : OutcomeView) × IsCountOf sorted q.rule.options o × (won ≡ is_selected (counted sorted q.rule.fill_up o) position))
+    → IfOk r (HasWon e q)
+ok_won e sorted q order position (Ok won) is_put at (o, count, is) =
+    has_won_by e sorted q order o won is_put count (is ∙ ap (is_selected (counted sorted q.rule.fill_up o)) at)
+ok_won e sorted q order position (Err fault) is_put at said = tt
+
+pub err_won : {A : Type 0} (e sorted : ElectionView) (rule : Rule) (order : List ℕ) (r : Result A CountFault) → IsSortedFor rule.ties e order sorted
+    → IfErr r (IsCountFault sorted rule.options) → IfErr r (λ fault. fault ≢ NoMemory → IsFaultIn rule e fault)
+err_won e sorted rule order (Ok x) is_put said = tt
+err_won e sorted rule order (Err fault) is_put said = λ unlike. (order, sorted, is_put, said)
+
+-- what is so in any case is so of each end
+pub ok_so : {A : Type 0} {E : Type 0} (r : Result A E) {P : Type 0} → P → IfOk r (λ x. P)
+ok_so (Ok x) so = so
+ok_so (Err fault) so = tt
+
+pub err_so : {A : Type 0} (r : Result A CountFault) {P : Type 0} → P → IfErr r (λ fault. fault ≢ NoMemory → P)
+err_so (Ok x) so = tt
+err_so (Err fault) so = λ unlike. so
+
 -- what a count says that elects or adds the project, or does neither
 pub says_won : (e : ElectionView) (q : Question) → HasWon e q true → Says e q Won
-says_won e q (o, is, won) = (o, is, ap (λ (b : Bool). if b then Won else Lost) (sym won))
+says_won e q (x, is, won) = (x, is, ap (λ (b : Bool). if b then Won else Lost) (sym won))
 
 pub says_lost : (e : ElectionView) (q : Question) → HasWon e q false → Says e q Lost
-says_lost e q (o, is, lost) = (o, is, ap (λ (b : Bool). if b then Won else Lost) (sym lost))
+says_lost e q (x, is, lost) = (x, is, ap (λ (b : Bool). if b then Won else Lost) (sym lost))
 
 -- what a count says, and what is known of the project with its own cost
 pub said : (e : ElectionView) (q : Question) (p : ProjectView) (won : Bool) → IsElection e → q.place < length e.projects

@@ -165,15 +165,22 @@ filter_listed p (x ∷ xs) low (suc n) high e (from, to, rest) out = elim (cases
 ]
 
 -- what is not due does not tie
+pub those_are_due : (m : Measure) (s : SupportView) (elected : List ElectedView) (rests : List ℕ) (w : ElectedView) → 1 ≤ weight_of m s w.place
+    → (bounds : List (Option ℕ)) → AreTieBounds s elected rests bounds → (queue rest : List KeyView) (due : List ℕ)
+    → AreQueued m s [] bounds queue → TakesDue (limit_of m s w) queue rest due
+    → filter (is_tied m s elected rests w) due ≡ filter (is_tied m s elected rests w) (range_with_len 0 (length s.costs))
+those_are_due m s elected rests w positive bounds are queue rest due queued takes =
+    filter_listed (is_tied m s elected rests w) due 0 (length s.costs) (length s.costs) (omega arith)
+    (rises_within due 0 (length s.costs) (λ some. omega arith) (due_known m s elected rests w positive bounds are queue rest due queued takes) takes.rise)
+    (λ k a b out. untied m s elected rests w positive bounds are queue rest due queued takes k b out)
+
 pub ties_are_due : (m : Measure) (s : SupportView) (elected : List ElectedView) (rests : List ℕ) (w : ElectedView) → 1 ≤ weight_of m s w.place
     → (bounds : List (Option ℕ)) → AreTieBounds s elected rests bounds → (queue rest : List KeyView) (due : List ℕ)
     → AreQueued m s [] bounds queue → TakesDue (limit_of m s w) queue rest due → (round : ℕ)
     → ties_among m s elected rests w round due ≡ ties_with m s elected rests w round (length s.costs)
 ties_are_due m s elected rests w positive bounds are queue rest due queued takes round =
     ap (map (λ place. record { round = Some round; winner = w.place; other = place }))
-    (filter_listed (is_tied m s elected rests w) due 0 (length s.costs) (length s.costs) (omega arith)
-    (rises_within due 0 (length s.costs) (λ some. omega arith) (due_known m s elected rests w positive bounds are queue rest due queued takes) takes.rise)
-    (λ k a b out. untied m s elected rests w positive bounds are queue rest due queued takes k b out))
+    (those_are_due m s elected rests w positive bounds are queue rest due queued takes)
 
 -- ---- one project is put back
 

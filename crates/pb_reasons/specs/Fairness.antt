@@ -10,7 +10,7 @@ use Rattle.pb_rounds.specs.Outcome.{OutcomeView}
 use Rattle.pb_rounds.specs.declared.measure.Measure.{Measure}
 use Rattle.pb_reasons.specs.Counted.{CountedView, winners_of}
 
--- the projects with supporters that are neither elected nor added, in the order of the file
+-- the projects with supporters that are neither elected nor added, in their order
 abbrev pub losers : ElectionView → CountedView → List ℕ
 losers e c = filter (λ place. nat_lt 0 (votes_at (support_of e) place) && not (is_taken (winners_of c) place))
     (range_with_len 0 (length e.projects))

@@ -1,5 +1,6 @@
 -- Words that only private contracts and the invariants of private fields speak of: nobody has to believe
 -- them.
+pub mod AllTies
 pub mod Comparing
 pub mod Counts
 pub mod Kept

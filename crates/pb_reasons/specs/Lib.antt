@@ -1,4 +1,5 @@
 -- The words that public contracts reach, a notion a file.
+pub mod AllTies
 pub mod BesideVotes
 pub mod Comparison
 pub mod Counted

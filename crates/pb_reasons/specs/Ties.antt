@@ -1,4 +1,4 @@
--- The ties of a count that the order of the file decided.
+-- The ties of a count that the order of the projects decided.
 use Rattle.std.specs.Prelude.{ℕ, ◌+◌, ◌*◌, ◌==◌, ◌&&◌, ◌++◌, Bool, false, List, [], None, Some, filter, flat_map}
 use Rattle.std.specs.Prelude.{length, map, not, replicate, slice_get, take}
 use Rattle.std.specs.List.{range_with_len}
@@ -19,15 +19,15 @@ abbrev pub is_tied : Measure → SupportView → (elected : List ElectedView) (r
 is_tied m s elected rests winner place = not (is_elected elected place) && option_map_or
     (λ price. price * weight_of m s winner.place == winner.price * weight_of m s place) (price_at s rests place) false
 
--- the ties of a round, from 0, in the order of the file; its rests are those after the rounds before it
+-- the ties of a round, from 0, in the order of the projects; its rests are those after the rounds before it
 abbrev pub ties_in : Measure → SupportView → (share : ℕ) (elected : List ElectedView) → (round : ℕ) → List Tie
 ties_in m s share elected round =
     let rests = rests_after s (replicate s.voters share) (take round elected) in option_map_or
     (λ w. map (λ place. record { round = Some (round + 1); winner = w.place; other = place })
     (filter (is_tied m s elected rests w) (range_with_len 0 (length s.costs)))) (slice_get elected round) []
 
--- the ties of an added project, in the order of the file: with each that did not win, and has as many votes and the
--- same cost
+-- the ties of an added project, in the order of the projects: with each that did not win, and has as many votes and
+-- the same cost
 abbrev pub ties_with_added : SupportView → CountedView → (winner : ℕ) → List Tie
 ties_with_added s c winner = map (λ place. record { round = None; winner = winner; other = place })
     (filter (λ place. not (is_taken (winners_of c) place) && ((votes_at s place == votes_at s winner)

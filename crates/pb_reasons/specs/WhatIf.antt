@@ -1,11 +1,11 @@
 -- What the counts of a changed election say of a project, and what a search of such changes finds.
 use Rattle.std.specs.Prelude.{◌≡◌, ◌≢◌, ℕ, ◌+◌, ◌-◌, ◌*◌, ◌^◌, ◌<◌, ◌≤◌, ◌⊎◌, Bool, true, false, List, [], ◌∷◌, ◌++◌, if◌then◌else◌}
 use Rattle.std.specs.Prelude.{length, map, min, replicate, slice_set}
-use Rattle.pb_core.specs.Election.{ElectionView, IsElection, most_voters}
+use Rattle.pb_core.specs.Election.{ElectionView, IsElection, most_voters, project_ids}
 use Rattle.pb_core.specs.Money.{largest_money}
-use Rattle.pb_reasons.specs.Counted.{counted, is_selected}
-use Rattle.pb_rounds.specs.Counted.{IsCountFault, IsCountOf}
-use Rattle.pb_rounds.specs.Outcome.{OutcomeView}
+use Rattle.pb_core.specs.Order.{position_in}
+use Rattle.pb_reasons.specs.Counted.{is_selected}
+use Rattle.pb_reasons.specs.CountedElection.{CountedElectionView, IsCountIn, IsFaultIn}
 use Rattle.pb_rounds.specs.declared.count_fault.CountFault.TheVariants.{RaisesSpent}
 use Rattle.pb_reasons.specs.declared.changes.change.Change.{Change}
 use Rattle.pb_reasons.specs.declared.changes.change.Change.TheVariants.{Cost, Voters}
@@ -15,14 +15,17 @@ use Rattle.pb_reasons.specs.declared.changes.change.Verdict.TheVariants.{Lost, W
 use Rattle.pb_reasons.specs.declared.changes.found.WhatIf.{WhatIf}
 use Rattle.pb_reasons.specs.declared.changes.question.Question.{Question}
 
--- what a count reads of an election: the budget, the costs and the ballots, but no ids and no names
+-- what a count reads of an election: the budget, the projects' ids (by which a lot is drawn), the costs and the ballots,
+-- but no ids of voters and no names
 pub record Seen : Type 0 where
   pub budget : ℕ
+  pub ids : List (List ℕ)
   pub costs : List ℕ
   pub ballots : List (List ℕ)
 
 abbrev pub seen : ElectionView → Seen
-seen e = record { budget = e.budget; costs = map (λ p. p.cost) e.projects; ballots = map (λ v. v.ballot) e.voters }
+seen e = let costs = map (λ p. p.cost) e.projects in
+    record { budget = e.budget; ids = project_ids e; costs = costs; ballots = map (λ v. v.ballot) e.voters }
 
 -- the same with this cost for the project at this place, or with so many further voters who approve it alone
 abbrev pub changed : Change → (place value : ℕ) → Seen → Seen
@@ -36,9 +39,9 @@ CanBe s Voters value = length s.ballots + value ≤ most_voters
 
 -- what the count of an election says of the project that is asked about: whether it elects or adds it
 abbrev pub Says : ElectionView → Question → Verdict → Type 0
-Says e q Refused = IsCountFault e q.rule.options RaisesSpent
-Says e q verdict = (o : OutcomeView) × IsCountOf e q.rule.options o
-    × (verdict ≡ (if is_selected (counted e q.rule.fill_up o) q.place then Won else Lost))
+Says e q Refused = IsFaultIn q.rule e RaisesSpent
+Says e q verdict = (x : CountedElectionView) × IsCountIn q.rule e x
+    × (verdict ≡ (if is_selected x.counted (position_in x.order q.place) then Won else Lost))
 
 -- the row says what the count of an election says in which a count reads what is so changed
 unfoldable pub IsTrue : Seen → Question → Change → Row → Type 0

@@ -1,6 +1,8 @@
 //! An election, and what its count by a rule comes to.
 
-ghost use Rattle.std.specs.Prelude.{◌≡◌, ◌<◌, IfOk, length};
+ghost use Rattle.std.specs.Prelude.{◌≡◌, ◌<◌, All, IfOk, length, map, slice_index};
+ghost use Rattle.std.specs.List.{range_with_len};
+ghost use Rattle.pb_core.specs.Order.{in_order, position_in};
 ghost use Rattle.pb_price.specs.Supporters.{support_of};
 ghost use Rattle.pb_reasons.specs.Counted.{counted, winners_of};
 ghost use Rattle.pb_reasons.specs.CountedElection.{IsCountedElection};
@@ -16,6 +18,7 @@ use crate::project_reason::ProjectReason;
 use crate::totals::Totals;
 use pb_core::election::Election;
 use pb_core::no_memory::NoMemory;
+use pb_core::order::ProjectOrder;
 use pb_price::supporters::Supporters;
 use pb_rounds::outcome::Outcome;
 use pb_rounds::rule::Rule;
@@ -26,7 +29,9 @@ use std::marker::Model;
 /// they come to together, the supporters of each project and what these paid, each made once.
 #[derive(Drop)]
 pub struct CountedElection {
+    /// Its projects stand in the order in which ties take them.
     election: Election,
+    order: ProjectOrder,
     rule: Rule,
     counted: Counted,
     totals: Totals,
@@ -41,37 +46,49 @@ impl Model for CountedElection {
 
     ghost Value = { CountedElectionView };
 
-    ghost view = { λ c. record { election = c.election; rule = c.rule; counted = c.counted } };
+    ghost view = { λ c. record {
+      election = c.election;
+      order = c.order;
+      rule = c.rule;
+      counted = c.counted;
+    } };
 
     ghost invariant = { λ c. IsCountedElection (record {
       election = c.election;
+      order = c.order;
       rule = c.rule;
       counted = c.counted;
     }) × IsKept c.election c.counted c.kept × (c.totals ≡ totals_of c.election c.counted) };
 }
 
 impl CountedElection {
-    /// What the count of this election by the rule comes to whose outcome this is.
+    /// What the count of this election by the rule comes to whose outcome this is. Its projects stand in this
+    /// order of their places in the file.
     pub fn of(
         alloc: Global,
         election: Election,
+        order: ProjectOrder,
         rule: Rule,
         outcome: Outcome,
     ) -> Result<CountedElection, NoMemory>
-        requires { IsCountOf election rule.options outcome }
+        requires outcome { IsCountOf election rule.options outcome }
+        requires one_each { length order ≡ length election.projects }
         ensures { IfOk result (λ c. c ≡ record {
           election = election;
+          order = order;
           rule = rule;
           counted = counted election rule.fill_up outcome;
         }) }
     {
-        // What is true of every election bounds the sums of its outcome.
+        // What is true of every election bounds the sums of its outcome, and every order has each place.
         let _budget = election.budget();
+        let _places = order.places();
         let counted = Counted::of(alloc, &election, outcome, rule.fill_up)?;
         let totals = Totals::of(&election, &counted);
         let kept = Kept::of(alloc, &election, &counted)?;
         Ok(CountedElection {
             election,
+            order,
             rule,
             counted,
             totals,
@@ -85,6 +102,31 @@ impl CountedElection {
         ensures is_counted { IsCountedElection self.now }
     {
         &self.election
+    }
+
+    /// The place in the file, from 0, of the project at this place of the election.
+    pub fn place(&self, position: u32) -> u32
+        requires { position < length self.now.election.projects }
+        ensures place { result ≡ slice_index self.now.order position }
+        ensures known { result < length self.now.election.projects }
+    {
+        self.order.places()[position as usize]
+    }
+
+    /// The place in the election, from 0, of the project at this place of the file.
+    pub fn position(&self, place: u32) -> u32
+        requires { place < length self.now.election.projects }
+        ensures position { result ≡ position_in self.now.order place }
+        ensures known { result < length self.now.election.projects }
+    {
+        self.order.position(place)
+    }
+
+    /// For each place of the election, the place of its project in the file.
+    pub fn order(&self) -> &ProjectOrder
+        ensures { result.now ≡ self.now.order }
+    {
+        &self.order
     }
 
     /// The rule by which it is counted.
@@ -124,6 +166,38 @@ impl CountedElection {
         self.kept.has_won(place)
     }
 
+    /// The winners by their places in the file, in the same order.
+    pub fn winners_in_file(&self, alloc: Global) -> Result<Vec<u32>, NoMemory>
+        ensures { IfOk result (λ places. places.items
+            ≡ map (slice_index self.now.order) (winners_of self.now.counted)) }
+    {
+        places_at(alloc, self.order.places(), self.kept.winners())
+    }
+
+    /// The election, with its projects in the order in which ties take them.
+    pub(crate) fn into_election(self) -> Election
+        ensures { result ≡ self.election }
+    {
+        let CountedElection { election, .. } = self;
+        election
+    }
+
+    /// The election as it stands in the file.
+    pub fn into_file(self, alloc: Global) -> Result<Election, NoMemory>
+        ensures { IfOk result (λ election. election
+            ≡ in_order (map (position_in self.order) (range_with_len 0 (length self.order))) self.election) }
+    {
+        let CountedElection {
+            election,
+            order,
+            ..
+        } = self;
+        let mut election = election;
+        let back = order.back(alloc)?;
+        election.put_in_order(alloc, &back)?;
+        Ok(election)
+    }
+
     /// What the winners come to together.
     pub fn totals(&self) -> Totals
         ensures { result ≡ totals_of self.now.election self.now.counted }
@@ -153,4 +227,16 @@ impl CountedElection {
     {
         self.kept.project(&self.election, &self.counted, place)
     }
+}
+
+/// What stands at these positions of an order.
+fn places_at(alloc: Global, order: &[u32], positions: &[u32]) -> Result<Vec<u32>, NoMemory>
+    requires { All (λ position. position < length order.now) positions.now }
+    ensures { IfOk result (λ places. places.items ≡ map (slice_index order.now) positions.now) }
+{
+    let mut places = Vec::with_capacity(alloc, positions.len())?;
+    for position in positions {
+        places.push(order[*position as usize])?;
+    }
+    Ok(places)
 }

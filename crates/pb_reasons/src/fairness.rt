@@ -28,7 +28,7 @@ pub fn needed(supporters: &Supporters, place: u32) -> Money
     Money(cost.0.div_ceil(votes as u64))
 }
 
-/// For each project that is neither elected nor added, in the order of the file, the most that one of its
+/// For each project that is neither elected nor added, in their order, the most that one of its
 /// supporters paid for elected projects that each took at most what this one would have cost each supporter
 /// (under measure cost, for their cost), in hundredths; 0 for each winner.
 ///

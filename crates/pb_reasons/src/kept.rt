@@ -27,7 +27,7 @@ pub(crate) struct Kept {
     numbers: Vec<usize>,
     /// The elected in order of election, and then the added in theirs, by place.
     winners: Vec<u32>,
-    /// Whether each project is among these, in file order.
+    /// Whether each project is among these, in their order.
     flags: Vec<bool>,
 }
 

@@ -49,7 +49,7 @@ pub fn most_votes_is_its_rule()
         → (c.counted.outcome.elected ≡ []) × (winners_of c.counted ≡ elected_by_votes c.election) }
 {}
 
-/// Only the order of the file decided the ties of a count: its winner comes before the other project.
+/// Only the order of the projects decided the ties of a count: its winner comes before the other project.
 pub fn ties_are_decided_by_place()
     ensures { (e : ElectionView) (rule : Rule) (o : OutcomeView) → IsCountOf e rule.options o
         → All (λ (t : Tie). t.winner < t.other) (ties_of rule.options.measure e (counted e rule.fill_up o)) }

@@ -5,7 +5,7 @@ use pb_core::money::Money;
 /// What a voter paid for an elected project.
 #[derive(Clone, Copy)]
 pub struct Payment {
-    /// The project's place in the file, from 0.
+    /// The project's place in the election, from 0.
     pub place: u32,
     /// The amount, in hundredths.
     pub amount: Money,

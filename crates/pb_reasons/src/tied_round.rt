@@ -1,6 +1,7 @@
 //! The ties of one round.
 
-ghost use Rattle.std.specs.Prelude.{◌≡◌, ◌++◌, ◌∷◌, [], ◌<◌, ◌≤◌, All, OnOk, Some, length, nat_le, take};
+ghost use Rattle.std.specs.Prelude.{◌≡◌, ◌++◌, ◌∷◌, [], ◌<◌, ◌≤◌, All, IfOk, OnOk, Some, filter, length, nat_le, take};
+ghost use Rattle.std.specs.List.{range_with_len};
 ghost use Rattle.pb_price.specs.Price.{AreRests};
 ghost use Rattle.pb_reasons.specs.Inner.Rounds.{AreTieBounds, IsTieBound, is_as_good, scaled, target, ties_among};
 ghost use Rattle.pb_reasons.specs.Inner.Rounds.{ties_with};
@@ -195,6 +196,70 @@ impl<'a> TiedRound<'a> {
         let looked = self.look_at(rests, due.as_slice(), bounds, queue, ties);
         drop(due);
         looked
+    }
+
+    /// The projects that tie in this round, by place, rising; makes the lower bounds better, as `find` does.
+    pub(crate) fn others(
+        &self,
+        alloc: Global,
+        rests: &[Money],
+        bounds: &mut Vec<Option<Money>>,
+        queue: &mut BTreeSet<Key>,
+    ) -> Result<Vec<u32>, NoMemory>
+        requires winner { self.now.winner.place < length self.now.supporters.now.costs }
+        requires rests { AreRests self.now.supporters.now.voters rests.now }
+        requires bounds { AreTieBounds self.now.supporters.now self.now.elected.now rests.now
+            bounds.old.items }
+        requires queued { AreQueued self.now.measure self.now.supporters.now [] bounds.old.items queue.old.keys }
+        ensures bounds { OnOk result
+            (AreTieBounds self.now.supporters.now self.now.elected.now rests.now bounds.new.items) }
+        ensures queued { OnOk result
+            (AreQueued self.now.measure self.now.supporters.now [] bounds.new.items queue.new.keys) }
+        ensures others { IfOk result (λ others. others.items ≡ filter
+            (is_tied self.now.measure self.now.supporters.now self.now.elected.now rests.now self.now.winner)
+            (range_with_len 0 (length self.now.supporters.now.costs))) }
+    {
+        let due = take_due(alloc, queue, self.limit())?;
+        let others = self.tied_among(alloc, rests, due.as_slice(), bounds, queue);
+        drop(due);
+        others
+    }
+
+    /// Those of the projects at these places that tie; the others of these, which are not in the queue, are put into
+    /// it if they may tie later.
+    fn tied_among(
+        &self,
+        alloc: Global,
+        rests: &[Money],
+        due: &[u32],
+        bounds: &mut Vec<Option<Money>>,
+        queue: &mut BTreeSet<Key>,
+    ) -> Result<Vec<u32>, NoMemory>
+        requires winner { self.now.winner.place < length self.now.supporters.now.costs }
+        requires rests { AreRests self.now.supporters.now.voters rests.now }
+        requires known { All (λ place. place < length self.now.supporters.now.costs) due.now }
+        requires bounds { AreTieBounds self.now.supporters.now self.now.elected.now rests.now
+            bounds.old.items }
+        requires queued { AreQueued self.now.measure self.now.supporters.now due.now bounds.old.items
+            queue.old.keys }
+        ensures bounds { OnOk result
+            (AreTieBounds self.now.supporters.now self.now.elected.now rests.now bounds.new.items) }
+        ensures queued { OnOk result
+            (AreQueued self.now.measure self.now.supporters.now [] bounds.new.items queue.new.keys) }
+        ensures others { IfOk result (λ others. others.items ≡ filter
+            (is_tied self.now.measure self.now.supporters.now self.now.elected.now rests.now self.now.winner)
+            due.now) }
+    {
+        let mut others = Vec::new(alloc);
+        for place in due {
+            let look = self.look(rests, *place, bounds[*place as usize]);
+            bounds[*place as usize] = look.bound;
+            put_bound(queue, self.measure, self.supporters, *place, look.bound)?;
+            if look.is_tied {
+                others.push(*place)?;
+            }
+        }
+        Ok(others)
     }
 
     /// Looks at the projects at these places, which are not in the queue: puts their ties behind the others,

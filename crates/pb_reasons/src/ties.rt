@@ -1,4 +1,4 @@
-//! The ties of a count that the order of the file decided.
+//! The ties of a count that the order of the projects decided.
 
 ghost use Rattle.std.specs.Prelude.{◌≡◌, ◌<◌, ◌≤◌, ◌++◌, All, IfOk, OnOk, flat_map, length, replicate, take};
 ghost use Rattle.std.specs.List.{range_with_len};
@@ -20,9 +20,9 @@ use pb_rounds::outcome::Elected;
 use std::alloc::Global;
 use std::collections::BTreeSet;
 
-/// The ties of a count that the order of the file decided, in order of the rounds and then of the file: where a
+/// The ties of a count that the order of the projects decided, in order of the rounds and then of them: where a
 /// project that is not elected in the end had a price in a round as good as that of the project that the round
-/// elected. Behind them those of filling up, in order of the added and then of the file: where a project that did not
+/// elected. Behind them those of filling up, in order of the added and then of them: where a project that did not
 /// win has as many votes as an added one, and the same cost. The first hundred are told.
 ///
 /// It replays the rounds. In a round it looks only at projects whose last known price, which never falls, is
@@ -175,7 +175,11 @@ fn replay_ties(
 }
 
 /// What is left to each of this many voters before the first round.
-fn opening_rests(alloc: Global, share: Money, voters: u32) -> Result<Vec<Money>, NoMemory>
+pub(crate) fn opening_rests(
+    alloc: Global,
+    share: Money,
+    voters: u32,
+) -> Result<Vec<Money>, NoMemory>
     ensures { IfOk result (λ rests. rests.items ≡ replicate voters share) }
 {
     let rests = vec![in alloc; share; voters as usize]?;
@@ -183,7 +187,7 @@ fn opening_rests(alloc: Global, share: Money, voters: u32) -> Result<Vec<Money>,
 }
 
 /// For each of this many projects 0, which is a lower bound of every price; none for the elected.
-fn opening_bounds(
+pub(crate) fn opening_bounds(
     alloc: Global,
     elected: &[Elected],
     projects: usize,

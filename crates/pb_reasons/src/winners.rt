@@ -25,7 +25,7 @@ use std::marker::Model;
 pub struct Winners<'a> {
     election: &'a Election,
     places: &'a [u32],
-    /// Whether each project is among them, in file order.
+    /// Whether each project is among them, in their order.
     flags: Vec<bool>,
 }
 

@@ -8,6 +8,9 @@ pub mod QueueRound
 pub mod QueueSteps
 pub mod RunQueue
 pub mod Settled
+pub mod FileOrder
+pub mod TieOrders
+pub mod OneOrder
 pub mod Trials
 pub mod Exhausted
 mod ThreeVoters

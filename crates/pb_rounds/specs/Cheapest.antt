@@ -7,12 +7,12 @@ use Rattle.pb_rounds.specs.Run.{ElectedView, charged}
 use Rattle.pb_rounds.specs.declared.measure.Measure.{Measure}
 use Rattle.pb_rounds.specs.declared.measure.Measure.TheVariants.{Votes, Cost}
 
--- the first number is less, or they are equal and the first place is earlier in the file
+-- the first number is less, or they are equal and the first place is the earlier one
 abbrev pub ComesFirst : (number other place other_place : ℕ) → Type 0
 ComesFirst number other place other_place = (number < other) ⊎ ((number ≡ other) × place < other_place)
 
 -- A project is cheaper than another, each at its price, where its price is less for each unit of utility that
--- a supporter has of it, or as much, and it is earlier in the file. An approval is worth 1 under measure
+-- a supporter has of it, or as much, and it stands earlier. An approval is worth 1 under measure
 -- votes, and under measure cost the project's cost: price over cost, compared by cross products.
 abbrev pub IsCheaper : Measure → SupportView → (place price other other_price : ℕ) → Type 0
 IsCheaper Votes s place price other other_price = ComesFirst price other_price place other

@@ -14,7 +14,9 @@ pub mod Progress
 pub mod Queue
 pub mod RaiseEnds
 pub mod Reach
+pub mod RuleNames
 pub mod Threads
+pub mod Tied
 pub mod Candidates
 pub mod Fairness
 pub mod LeftAfter

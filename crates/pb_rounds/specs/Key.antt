@@ -11,13 +11,13 @@ pub record KeyView : Type 0 where
   pub weight : ℕ
   pub place : ℕ
 
--- by the price over the weight, which is at least 1, then by the place in the file; the weight comes last, so
+-- by the price over the weight, which is at least 1, then by the place; the weight comes last, so
 -- that keys that differ are told apart
 abbrev pub key_cmp : KeyView → KeyView → Ordering
 key_cmp = then_cmp (λ a b. nat_cmp (a.price * max 1 b.weight) (b.price * max 1 a.weight))
     (then_cmp (on (λ k. k.place) nat_cmp) (on (λ k. k.weight) nat_cmp))
 
--- the smaller price over weight comes first, and among equals the project that stands earlier in the file
+-- the smaller price over weight comes first, and among equals the project that stands earlier
 abbrev pub is_before : KeyView → KeyView → Bool
 is_before a b = is_lt (key_cmp a b)
 

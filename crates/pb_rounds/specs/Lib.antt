@@ -12,5 +12,6 @@ pub mod PriceSystem
 pub mod PricingRecord
 pub mod RuleNames
 pub mod Run
+pub mod TieOrder
 pub mod MostVotes
 pub mod Inner

@@ -19,7 +19,7 @@ abbrev pub fits : SupportView → (taken : List ℕ) → (left place : ℕ) → 
 fits s taken left place =
     nat_lt 0 (votes_at s place) && (not (is_taken taken place) && nat_le (cost_at s place) left)
 
--- by votes, the most first, then by cost, then by place in the file
+-- by votes, the most first, then by cost, then by place
 abbrev pub votes_cmp : SupportView → ℕ → ℕ → Ordering
 votes_cmp s = then_cmp (flip_args (on (votes_at s) nat_cmp)) (then_cmp (on (cost_at s) nat_cmp) nat_cmp)
 

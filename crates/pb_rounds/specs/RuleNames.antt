@@ -1,5 +1,9 @@
 -- What rules are called: on the command line, by one name, in an exported file by Pabulib's word, and there in words.
-use Rattle.std.specs.Prelude.{ℕ, ◌++◌, Bool, false, true, List, [], codes, decimal, if◌then◌else◌}
+use Rattle.std.specs.Char.{is_ascii_alphanumeric}
+use Rattle.std.specs.List.{list_all}
+use Rattle.std.specs.Prelude.{ℕ, ◌++◌, ◌&&◌, ◌||◌, ◌==◌, Bool, false, true, List, [], codes, decimal, if◌then◌else◌, length, nat_le, nat_lt}
+use Rattle.std.specs.Option.{option_map_or}
+use Rattle.std.specs.Str.{bytes_eq}
 use Rattle.pb_core.specs.MoneyText.{money_text}
 use Rattle.pb_rounds.specs.Count.{no_shares}
 use Rattle.pb_rounds.specs.declared.measure.Measure.{Measure}
@@ -9,6 +13,9 @@ use Rattle.pb_rounds.specs.declared.options.Completion.TheVariants.{Add1}
 use Rattle.pb_rounds.specs.declared.rule.FillUp.{FillUp}
 use Rattle.pb_rounds.specs.declared.rule.FillUp.TheVariants.{Nothing, MostVotes}
 use Rattle.pb_rounds.specs.declared.rule.Rule.{Rule}
+use Rattle.pb_rounds.specs.declared.tie_rule.TieKeys.{TieKeys}
+use Rattle.pb_rounds.specs.declared.tie_rule.TieKeys.TheVariants as tie
+use Rattle.pb_rounds.specs.declared.tie_rule.TieRule.{TieRule}
 use Rattle.pb_rounds.specs.declared.rule_names.TheConstants.{VOTES, COST, NONE, ADD1, UTILITARIAN, ADD1U, MV}
 
 -- one thing for each measure; and one for each completion, in the order of their names (without shares, as without raises)
@@ -34,12 +41,33 @@ measure_name m = by_measure m VOTES.now COST.now
 abbrev pub completion_name : Completion → FillUp → List ℕ
 completion_name c f = if no_shares c then MV.now else by_completion c f NONE.now ADD1.now UTILITARIAN.now ADD1U.now
 
+-- the seeds of lots: 1 to 64 of A-Z, a-z, 0-9 and `-`
+abbrev pub is_seed : List ℕ → Bool
+is_seed seed = nat_lt 0 (length seed) && (nat_le (length seed) 64
+    && list_all (λ byte. is_ascii_alphanumeric byte || (byte == 45)) seed)
+
+-- the name of keys that break ties, what stands before the seed of a lot behind them, and the name of a rule for ties
+abbrev pub keys_name : TieKeys → List ℕ
+keys_name tie.Nothing = codes "file"
+keys_name tie.Votes = codes "votes"
+keys_name tie.Cost = codes "cost"
+keys_name tie.VotesThenCost = codes "votes,cost"
+keys_name tie.CostThenVotes = codes "cost,votes"
+
+abbrev pub lot_name : TieKeys → List ℕ
+lot_name tie.Nothing = codes "lot:"
+lot_name k = keys_name k ++ codes ",lot:"
+
+abbrev pub ties_name : TieRule → List ℕ
+ties_name ties = option_map_or (λ seed. lot_name ties.keys ++ seed.bytes) ties.lot (keys_name ties.keys)
+
 -- one name for a rule, which says nothing of the most raises
 abbrev pub profile_name : Rule → List ℕ
 profile_name rule = let o = rule.options in let step = codes "/step=" ++ money_text o.step in
-    if no_shares o.completion then (if fills_up rule.fill_up then codes "MV/ties=file" else codes "NS/ties=file") else
+    let ties = codes "/ties=" ++ ties_name rule.ties in
+    if no_shares o.completion then (if fills_up rule.fill_up then codes "MV" else codes "NS") ++ ties else
     codes "ES/" ++ (measure_name o.measure ++ (codes "/" ++ (completion_name o.completion rule.fill_up ++ (codes "/hundredths"
-    ++ (by_completion o.completion rule.fill_up [] step [] step ++ codes "/ties=file")))))
+    ++ (by_completion o.completion rule.fill_up [] step [] step ++ ties)))))
 
 -- Pabulib's word for a rule, if it has one
 abbrev pub rule_word : Completion → FillUp → List ℕ
@@ -47,10 +75,18 @@ rule_word c f = if no_shares c then (if fills_up f then codes "greedy" else code
     by_completion c f (codes "equalshares") (codes "equalshares/add1") (codes "unknown") (codes "unknown")
 
 -- a rule in words: its measure, its raises, and whether what is left is filled up
-abbrev pub rule_text : Rule → List ℕ
-rule_text rule = let o = rule.options in
+abbrev pub method_text : Rule → List ℕ
+method_text rule = let o = rule.options in
     let none = codes ", no raises" in let filled = codes ", filled up by votes" in
     let raises = codes ", raises of " ++ money_text o.step ++ codes ", at most " ++ decimal o.max_raises in
     if no_shares o.completion then (if fills_up rule.fill_up then codes "most votes first" else codes "no shares") else
     by_measure o.measure (codes "equal shares by price") (codes "equal shares by price over cost")
     ++ by_completion o.completion rule.fill_up none raises (none ++ filled) (raises ++ filled)
+
+-- one of two things, by whether the order of the file alone decides ties
+abbrev pub by_ties : {A : Type 0} → TieRule → (by_file other : A) → A
+by_ties ties by_file other = if bytes_eq (ties_name ties) (codes "file") then by_file else other
+
+-- the same, and its rule for ties, where that is not the order of the file alone
+abbrev pub rule_text : Rule → List ℕ
+rule_text rule = method_text rule ++ by_ties rule.ties [] (codes ", ties by " ++ ties_name rule.ties)

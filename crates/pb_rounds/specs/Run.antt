@@ -39,7 +39,7 @@ module _ (m : Measure) (s : SupportView) where
   abbrev pub keys_at : List ℕ → List ℕ → List KeyView
   keys_at rests left = filter_map (key_at rests) left
 
-  -- the best project of a round: the least price over weight among the projects left, the first in the file
+  -- the best project of a round: the least price over weight among the projects left, the first one
   -- among equals
   unfoldable pub best_of : List ℕ → List ℕ → Option KeyView
   best_of rests left = first_least is_before (keys_at rests left)

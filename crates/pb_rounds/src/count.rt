@@ -63,7 +63,7 @@ pub(crate) fn opening_share<B: Allocator>(election: &Election<B>) -> Money
 
 /// The method of equal shares at one share (Peters, Pierczynski and Skowron 2021, with whole payments): while
 /// a project that is left has a price, the one with the least price is elected, under measure cost the one
-/// with the least price over cost, the earliest in the file among equals, and each of its supporters pays the
+/// with the least price over cost, the earliest among equals, and each of its supporters pays the
 /// price, or all that is left to them where that is less.
 ///
 /// The first round prices every project, the later ones those whose last known price could still be the best.

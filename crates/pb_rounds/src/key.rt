@@ -7,7 +7,7 @@ use std::cmp::Ordering;
 use std::marker::Model;
 
 /// What a round orders projects by: the smaller price over weight comes first, and among equals the project
-/// that stands earlier in the file. (The place decides before the weight, which only tells apart keys that
+/// that stands earlier. (The place decides before the weight, which only tells apart keys that
 /// are made by hand.)
 #[derive(Clone, Copy, PartialEq, Eq)]
 pub struct Key {
@@ -58,7 +58,7 @@ impl Key {
         self.weight
     }
 
-    /// The project's place in the file, from 0.
+    /// The project's place in the election, from 0.
     pub fn place(&self) -> u32
         ensures { result ≡ self.now.place }
     {

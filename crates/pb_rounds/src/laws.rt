@@ -1,9 +1,10 @@
 //! Laws over counts and their rules, each as the contract of a function that does nothing.
 
 ghost use Rattle.std.specs.Prelude.{◌≡◌, ◌≢◌, ◌↔◌, ◌+◌, ◌*◌, ◌<◌, ◌≤◌, ◌==◌, ℕ, List, None, Some, filter};
-ghost use Rattle.std.specs.Prelude.{length, sum_by};
-ghost use Rattle.std.specs.List.{list_any};
+ghost use Rattle.std.specs.Prelude.{length, option_map, sum_by};
+ghost use Rattle.std.specs.List.{list_any, range_with_len};
 ghost use Rattle.pb_core.specs.Election.{ElectionView, IsElection};
+ghost use Rattle.pb_core.specs.Order.{in_order};
 ghost use Rattle.pb_price.specs.Supporters.{SupportView, support_of, supporters_at};
 ghost use Rattle.pb_rounds.specs.Cheapest.{IsRun};
 ghost use Rattle.pb_rounds.specs.Completed.{AreSpent, IsCompleted};
@@ -13,12 +14,14 @@ ghost use Rattle.pb_rounds.specs.Counted.{IsCountFault, IsCountOf};
 ghost use Rattle.pb_rounds.specs.Fairness.{OfSomeMember, paid_within};
 ghost use Rattle.pb_rounds.specs.Outcome.{OutcomeView, settled};
 ghost use Rattle.pb_rounds.specs.RuleNames.{profile_name};
+ghost use Rattle.pb_rounds.specs.TieOrder.{IsTieOrder, by_file};
 ghost use Rattle.pb_rounds.specs.Run.{ElectedView, RunView, outcome_of, weight_of};
 ghost use Rattle.pb_rounds.specs.declared.count_fault.CountFault.TheVariants.{RaisesSpent};
 ghost use Rattle.pb_rounds.specs.declared.measure.Measure.{Measure};
 ghost use Rattle.pb_rounds.specs.declared.options.Completion.TheVariants.{Add1, NoShares};
 ghost use Rattle.pb_rounds.specs.declared.options.CountOptions.{CountOptions};
 ghost use Rattle.pb_rounds.specs.declared.rule.Rule.{Rule};
+ghost use Rattle.pb_rounds.specs.declared.tie_rule.TieRule.{TieRule};
 
 /// The opening share is the largest that all voters can get of the budget. Where nobody votes it is 0.
 pub fn opening_share_is_largest()
@@ -81,11 +84,23 @@ pub fn outcomes_are_fair_to_groups()
 {}
 
 /// Two rules of one name give shares or not, raise them or not and fill up or not. Where they give shares they have
-/// the same measure, and where they raise them the same step.
+/// the same measure, and where they raise them the same step. Ties are broken by the same keys and the same lot, if
+/// by one.
 pub fn names_tell_rules_apart()
     ensures { (first second : Rule) → first.options.step ≤ largest_step → second.options.step ≤ largest_step
         → profile_name first ≡ profile_name second
         → (first.options.completion ≢ NoShares → first.options.measure ≡ second.options.measure)
         × (first.options.completion ≡ second.options.completion) × (first.fill_up ≡ second.fill_up)
-        × (first.options.completion ≡ Add1 → first.options.step ≡ second.options.step) }
+        × (first.options.completion ≡ Add1 → first.options.step ≡ second.options.step)
+        × (first.ties.keys ≡ second.ties.keys)
+        × (option_map (λ seed. seed.bytes) first.ties.lot ≡ option_map (λ seed. seed.bytes) second.ties.lot) }
+{}
+
+/// Equal projects come in one order. Where the rule for ties is that of the file alone, it is the order of the file,
+/// and an election sorted by it is as it was.
+pub fn ties_have_one_order()
+    ensures one { (ties : TieRule) (e : ElectionView) (first second : List ℕ)
+        → IsTieOrder ties e first → IsTieOrder ties e second → first ≡ second }
+    ensures file { (e : ElectionView) (order : List ℕ) → IsElection e → IsTieOrder by_file e order
+        → (order ≡ range_with_len 0 (length e.projects)) × (in_order order e ≡ e) }
 {}

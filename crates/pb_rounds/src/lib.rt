@@ -27,6 +27,8 @@ mod rule_words;
 mod run;
 mod shortcut_laws;
 mod side_by_side;
+pub mod tie_order;
+pub mod tie_rule;
 mod trial;
 
 pub use by_votes::most_votes_first;
@@ -37,3 +39,4 @@ pub use measure::Measure;
 pub use options::{Completion, CountOptions};
 pub use outcome::{Elected, Outcome};
 pub use rule::{FillUp, Rule};
+pub use tie_rule::{TieKeys, TieRule};

@@ -7,7 +7,7 @@ use std::marker::Model;
 /// An elected project.
 #[derive(Clone, Copy, Debug, PartialEq, Eq)]
 pub struct Elected {
-    /// Its place in the file, from 0.
+    /// Its place in the election, from 0.
     pub place: u32,
     /// What each supporter paid at most, in hundredths.
     pub price: Money,

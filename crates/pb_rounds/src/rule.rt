@@ -4,6 +4,7 @@ ghost use Rattle.std.specs.Prelude.{◌≡◌, false, true};
 ghost use Rattle.pb_rounds.specs.RuleNames.{fills_up};
 
 use crate::options::CountOptions;
+use crate::tie_rule::TieRule;
 
 /// What is done with what the elected leave of the budget.
 #[derive(Clone, Copy)]
@@ -33,4 +34,6 @@ pub struct Rule {
     pub options: CountOptions,
     /// What is done with what they leave of the budget.
     pub fill_up: FillUp,
+    /// Which of equal projects comes first.
+    pub ties: TieRule,
 }

@@ -3,12 +3,16 @@
 ghost use Rattle.std.specs.Prelude.{◌≡◌, ◌++◌, [], IfOk, OnOk, codes, decimal, string_bytes};
 ghost use Rattle.std.specs.Prelude.{if◌then◌else◌};
 ghost use Rattle.pb_core.specs.MoneyText.{money_text};
-ghost use Rattle.pb_rounds.specs.RuleNames.{fills_up, profile_name, rule_text, rule_word};
+ghost use Rattle.pb_rounds.specs.Inner.RuleNames.{named};
+ghost use Rattle.pb_rounds.specs.RuleNames.{by_ties, fills_up, method_text, profile_name};
+ghost use Rattle.pb_rounds.specs.RuleNames.{rule_text, rule_word, ties_name};
+ghost use Rattle.std.specs.Str.{bytes_eq};
 
 use crate::measure::Measure;
 use crate::options::{Completion, CountOptions};
 use crate::rule::{FillUp, Rule};
 use crate::rule_names::{completion_name, measure_name};
+use crate::tie_rule::TieRule;
 use itoa::Buffer;
 use pb_core::no_memory::NoMemory;
 use std::alloc::Global;
@@ -33,26 +37,37 @@ impl Rule {
     pub fn profile(&self, alloc: Global) -> Result<String, NoMemory>
         ensures { IfOk result (λ text. string_bytes text ≡ profile_name self.now) }
     {
+        let ties = self.ties.text(alloc)?;
+        let name = self.name_with(alloc, ties.as_str());
+        drop(ties);
+        name
+    }
+
+    /// Its name, with this name of its rule for ties.
+    fn name_with(&self, alloc: Global, ties: &str) -> Result<String, NoMemory>
+        ensures { IfOk result (λ text. string_bytes text ≡ named
+            self.now.options.measure self.now.options.completion self.now.fill_up self.now.options.step ties.now) }
+    {
         let measure = measure_name(self.options.measure);
         let completion = completion_name(self.options.completion, self.fill_up);
         match self.options.completion {
             Completion::Plain => {
-                Ok(format!(in alloc; "ES/{measure}/{completion}/hundredths/ties=file")?)
+                Ok(format!(in alloc; "ES/{measure}/{completion}/hundredths/ties={ties}")?)
             }
             Completion::Add1 => {
                 let step = self.options.step.text(alloc)?;
                 let name = format!(in alloc;
-                    "ES/{measure}/{completion}/hundredths/step={step}/ties=file"
+                    "ES/{measure}/{completion}/hundredths/step={step}/ties={ties}"
                 );
                 drop(step);
                 Ok(name?)
             }
             Completion::NoShares => {
-                let name = match self.fill_up {
-                    FillUp::Nothing => "NS/ties=file",
-                    FillUp::MostVotes => "MV/ties=file",
+                let method = match self.fill_up {
+                    FillUp::Nothing => "NS",
+                    FillUp::MostVotes => "MV",
                 };
-                Ok(String::from_str(alloc, name)?)
+                Ok(format!(in alloc; "{method}/ties={ties}")?)
             }
         }
     }
@@ -60,6 +75,15 @@ impl Rule {
     /// The rule in words.
     pub fn text(&self, alloc: Global) -> Result<String, NoMemory>
         ensures { IfOk result (λ text. string_bytes text ≡ rule_text self.now) }
+    {
+        let mut text = self.method_text(alloc)?;
+        put_ties(alloc, &mut text, &self.ties)?;
+        Ok(text)
+    }
+
+    /// The rule in words, but for its rule for ties.
+    fn method_text(&self, alloc: Global) -> Result<String, NoMemory>
+        ensures { IfOk result (λ text. string_bytes text ≡ method_text self.now) }
     {
         if let Completion::NoShares = self.options.completion {
             let words = match self.fill_up {
@@ -80,6 +104,30 @@ impl Rule {
         put_fill_up(&mut text, self.fill_up)?;
         Ok(text)
     }
+}
+
+/// Puts a rule for ties after a text, where it is not the order of the file alone.
+fn put_ties(alloc: Global, text: &mut String, ties: &TieRule) -> Result<(), NoMemory>
+    ensures { OnOk result (string_bytes text.new ≡ string_bytes text.old
+        ++ by_ties ties.now [] (codes ", ties by " ++ ties_name ties.now)) }
+{
+    let name = ties.text(alloc)?;
+    let put = put_ties_named(text, name.as_str());
+    drop(name);
+    put
+}
+
+/// Puts the rule for ties with this name after a text.
+fn put_ties_named(text: &mut String, name: &str) -> Result<(), NoMemory>
+    ensures { OnOk result (string_bytes text.new ≡ string_bytes text.old
+        ++ (if bytes_eq name.now (codes "file") then [] else codes ", ties by " ++ name.now)) }
+{
+    if name == "file" {
+        return Ok(());
+    }
+    text.push_str(", ties by ")?;
+    text.push_str(name)?;
+    Ok(())
 }
 
 /// Puts how what is left is filled up after a text.

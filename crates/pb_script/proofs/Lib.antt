@@ -1,6 +1,7 @@
 -- The lemmas that the proofs of this crate share.
 pub mod PlacesTexts
 pub mod OneRequest
+mod EntryCounting
 mod OpenToAll
 pub mod Rising
 pub mod Rolls

@@ -10,7 +10,7 @@ use Rattle.pb_desk.specs.Desk.{DeskView}
 use Rattle.pb_desk.specs.Opening.{OpeningView}
 use Rattle.pb_desk.specs.Replay.{IsLegal}
 use Rattle.pb_desk.specs.Rows.{journal_text, ScriptRowView}
-use Rattle.pb_rows.specs.Reading.{Fields, records_of}
+use Rattle.pb_rows.specs.Reading.{Fields}
 use Rattle.pb_script.specs.Inner.ScriptReading.{SplitsScript}
 use Rattle.pb_script.specs.declared.admission.Admission.{Admission}
 use Rattle.pb_script.specs.Served.{IsServeFault, IsServed}
@@ -95,12 +95,12 @@ fault_of_serving a clerks records lists (Script script.NoMemory) split fails = m
 fault_of_serving a clerks records lists (Script fault) split fails = absurd fails
 
 module _ (a : Admission) (clerks : ℕ) (lists : List (List RequestView)) where
-  pub script_text : (shuts : Bool) (e : ElectionView) (scripts : Option (List ℕ)) (d : DeskView) (text : List ℕ) → IfSome scripts (λ bytes. SplitsScript a clerks (records_of bytes) lists)
-      → IsServedBy e clerks shuts lists d → IsWritten d text → IfSome scripts (λ bytes. IsServed a e clerks shuts (records_of bytes) text)
+  pub script_text : (shuts : Bool) (e : ElectionView) (scripts : Option (List Fields)) (d : DeskView) (text : List ℕ) → IfSome scripts (λ rows. SplitsScript a clerks rows lists)
+      → IsServedBy e clerks shuts lists d → IsWritten d text → IfSome scripts (λ rows. IsServed a e clerks shuts rows text)
   script_text shuts e None d text splits served written = tt
-  script_text shuts e (Some bytes) d text splits served written = text_served a e clerks shuts (records_of bytes) lists d text splits served written
+  script_text shuts e (Some rows) d text splits served written = text_served a e clerks shuts rows lists d text splits served written
 
-  pub script_unserved : (scripts : Option (List ℕ)) (fault : ServeFault) → IfSome scripts (λ bytes. SplitsScript a clerks (records_of bytes) lists)
-      → IsServingFault clerks fault → IfSome scripts (λ bytes. IsServeFault a clerks (records_of bytes) fault)
+  pub script_unserved : (scripts : Option (List Fields)) (fault : ServeFault) → IfSome scripts (λ rows. SplitsScript a clerks rows lists)
+      → IsServingFault clerks fault → IfSome scripts (λ rows. IsServeFault a clerks rows fault)
   script_unserved None fault splits fails = tt
-  script_unserved (Some bytes) fault splits fails = fault_of_serving a clerks (records_of bytes) lists fault splits fails
+  script_unserved (Some rows) fault splits fails = fault_of_serving a clerks rows lists fault splits fails

@@ -1,5 +1,6 @@
 -- The words that public contracts reach, a notion a file.
 pub mod Admission
+pub mod EntryCounts
 pub mod Scripts
 pub mod ScriptFault
 pub mod ScriptReading

@@ -4,6 +4,7 @@
 #![tactic(auto)]
 
 pub mod admission;
+pub mod entry_counts;
 pub mod file_voters;
 pub mod laws;
 pub mod request_rows;
@@ -16,11 +17,12 @@ pub mod serve_fault;
 pub mod serve_script;
 
 pub use admission::{Admission, NoNotice, Notice, RowRefusal};
+pub use entry_counts::EntryCounts;
 pub use file_voters::voters_of;
 pub use request_rows::{RequestRows, RowsFault};
-pub use roll::{RollFault, read_roll};
+pub use roll::{RollFault, read_roll, read_roll_records};
 pub use script::ScriptRow;
 pub use script_fault::ScriptFault;
 pub use script_run::ScriptRun;
 pub use serve_fault::ServeFault;
-pub use serve_script::ROOM;
+pub use serve_script::{ROOM, ServedScript};

@@ -1,7 +1,7 @@
 //! The reader of a voters' roll: the ids of those who may vote, one a row.
 
 ghost use Rattle.std.specs.Prelude.{◌≡◌, ◌<◌, ◌≤◌, ◌+◌, ◌++◌, ℕ, List, [], Some, false, true, is_some};
-ghost use Rattle.std.specs.Prelude.{IfErr, IfOk, IfSome, OnOk};
+ghost use Rattle.std.specs.Prelude.{IfErr, IfOk, IfSome, IsErrOf, OnOk};
 ghost use Rattle.std.specs.FinMap as map;
 ghost use Rattle.std.specs.Str.{trim};
 ghost use Rattle.csv.specs.Records.{AllText, fields_of};
@@ -77,10 +77,27 @@ pub fn read_roll<R: Read + Drop>(alloc: Global, reader: R) -> Result<IdTable, Ro
         × AreRoll before × IsNextRollFault before left fault)) }
 {
     let mut records = Records::new(alloc, reader);
-    let mut roll = IdTable::new(alloc);
-    let read = read_ids(alloc, &mut records, &mut roll);
+    let roll = read_roll_records(alloc, &mut records);
     drop(records);
-    match read {
+    roll
+}
+
+/// Reads the records of a roll, none of which was read, as `read_roll` reads those of a text. Where it blames
+/// the reader, the reader has failed.
+pub fn read_roll_records<R: Read>(
+    alloc: Global,
+    records: &mut Records<R>,
+) -> Result<IdTable, RollFault>
+    ensures roll { IfOk result (λ roll. IfSome records.old.left (λ rows. AreRoll rows × ((voter : List ℕ)
+        → is_some (map.get roll voter) ≡ is_among (ids_of rows) voter))) }
+    ensures fault { IfErr result (λ fault. IfSome records.old.left (λ rows.
+        (before left : List Fields) × (rows ≡ before ++ left)
+        × AreRoll before × IsNextRollFault before left fault)) }
+    ensures blame { (row : ℕ) → IsErrOf result (RollFault.ReadFailed row) →
+        records.new.fault ≡ Some RecordsFault.ReadFailed }
+{
+    let mut roll = IdTable::new(alloc);
+    match read_ids(alloc, records, &mut roll) {
         Ok(()) => Ok(roll),
         Err(fault) => {
             drop(roll);

@@ -14,6 +14,6 @@ pub struct ScriptRun<'a, G, N> {
     pub admission: &'a Admission,
     /// It is called before the first try of each row.
     pub gate: &'a G,
-    /// It hears of the rows that are refused, and of the answers to the others.
+    /// It hears of the rows that are refused.
     pub notice: &'a N,
 }

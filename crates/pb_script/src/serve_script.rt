@@ -1,15 +1,17 @@
 //! The clerks of a script at work: each serves its own requests, side by side with the others.
 
-ghost use Rattle.std.specs.Prelude.{◌≡◌, ◌+◌, ◌<◌, ◌≤◌, [], All, length, map, IfErr, IfOk, IfSome};
-ghost use Rattle.std.specs.Prelude.{OnOk};
+ghost use Rattle.std.specs.Prelude.{◌≡◌, ◌+◌, ◌<◌, ◌≤◌, ℕ, List, [], All, length, map, IfErr, IfOk, IfSome};
+ghost use Rattle.std.specs.Prelude.{IsErrOf, OnOk, Some};
 ghost use Rattle.pb_shared.specs.Inner.Desk.{desk_with};
-ghost use Rattle.pb_core.specs.Request.{asked};
+ghost use Rattle.pb_core.specs.Request.{asked, EntryView};
 ghost use Rattle.pb_desk.specs.Replay.{IsLegal, most_clerks};
 ghost use Rattle.pb_desk.specs.Rows.{journal_text};
+ghost use Rattle.pb_desk.specs.declared.version.Version.TheVariants.{Two};
 ghost use Rattle.pb_rows.specs.Reading.{records_of};
 ghost use Rattle.pb_shared.specs.Clerk.{AreClerks};
 ghost use Rattle.pb_shared.specs.Inner.Newcomers.{AreNewcomers};
 ghost use Rattle.pb_read.specs.StandsFor.{most_records};
+ghost use Rattle.pb_script.specs.EntryCounts.{counts_of};
 ghost use Rattle.pb_script.specs.Served.{IsServeFault, IsServed};
 ghost use Rattle.pb_script.specs.Serving.{program_room};
 ghost use Rattle.pb_script.specs.Inner.Script.{clerks_within};
@@ -18,8 +20,9 @@ ghost use Rattle.pb_script.specs.Inner.Serving.{AreBack, IsServingFault, list_of
 ghost use Rattle.pb_script.specs.Inner.Serving.{ShutAtEnd};
 
 use crate::admission::Notice;
+use crate::entry_counts::EntryCounts;
 use crate::requests::Requests;
-use crate::script::read_script;
+use crate::script::read_lists;
 use crate::script_fault::ScriptFault;
 use crate::script_run::ScriptRun;
 use crate::serve_fault::ServeFault;
@@ -29,6 +32,7 @@ use pb_core::no_memory::NoMemory;
 use pb_core::request::Request;
 use pb_desk::desk::Desk;
 use pb_desk::desk_fault::DeskFault;
+use pb_rows::{Records, RecordsFault};
 use pb_shared::clerk::Clerk;
 use pb_shared::share_fault::ShareFault;
 use pb_shared::shared_desk::SharedDesk;
@@ -43,6 +47,15 @@ pub const ROOM: u32 = 4_294_967_295;
 /// How many times a clerk tries the lock for one request, offering the processor after each lost try. It is
 /// enough for a holder without a processor to get one, and for a large journal to grow.
 const TRIES: u32 = 100_000;
+
+/// What comes of a script that is served.
+#[derive(Drop)]
+pub struct ServedScript {
+    /// The text of the desk's journal.
+    pub text: Vec<u8>,
+    /// Its entries.
+    pub counts: EntryCounts,
+}
 
 /// What the clerks of a shared desk are to do: each serves its own requests, and the gate is called before
 /// each.
@@ -312,61 +325,41 @@ fn serve_all<T: Threads + Sync, G: Gate>(
     Ok(serve_shared(rt, alloc, shared, fresh, work)?)
 }
 
-/// The text of a desk's journal. Once it is there, whoever listens is told the answers.
-fn written<N: Notice>(alloc: Global, desk: Desk, notice: &N) -> Result<Vec<u8>, NoMemory>
-    ensures legal { IfOk result (λ text. IsLegal desk.opening desk.journal) }
-    ensures fits { IfOk result (λ text. length desk.journal ≤ desk.room) }
-    ensures text { IfOk result (λ text. text.items ≡ journal_text desk.opening.version desk.journal) }
+/// The text of a desk's journal, and its entries.
+fn written(alloc: Global, desk: Desk) -> Result<ServedScript, NoMemory>
+    ensures legal { IfOk result (λ served. IsLegal desk.opening desk.journal) }
+    ensures fits { IfOk result (λ served. length desk.journal ≤ desk.room) }
+    ensures text { IfOk result (λ served. served.text.items ≡ journal_text desk.opening.version desk.journal) }
+    ensures counts { IfOk result (λ served. served.counts.counts ≡ counts_of desk.journal) }
 {
     let text = desk.journal_text(alloc);
-    if text.is_ok() {
-        tell_answers(&desk, notice);
-    }
+    let counts = EntryCounts::of(&desk, 0);
     drop(desk);
     match text {
-        Ok(text) => Ok(text),
+        Ok(text) => Ok(ServedScript { text, counts }),
         Err(_) => Err(NoMemory),
     }
 }
 
-/// Tells the answer of each entry of a desk's journal, in their order.
-fn tell_answers<N: Notice>(desk: &Desk, notice: &N) {
-    for before in 0..desk.entries() {
-        if let Some(entry) = desk.entry(before + 1) {
-            notice.answered(entry.answer);
-        }
-    }
-}
-
-/// Reads a script, serves the requests that are admitted on a shared desk of this election, and makes the
-/// text of its journal.
-///
-/// Each clerk serves its own rows in their order, by at most 100,000 tries of the lock for each. One who
-/// finds the desk busy all that time stops; what the clerks leave over is served after all of them have
-/// stopped, clerks in rising number. Where the run `shuts` the desk, clerk 0 asks for that in one last entry,
-/// after all of these. Before the first try of a row the gate is called with the clerk's number and the row's
-/// place among the clerk's own rows, from 0.
-///
-/// A row that is refused refuses the script, and is told to `notice`; once the text is made, so is the answer
-/// of each entry. The script is refused before the number of clerks.
-pub fn serve_admitted<T: Threads + Sync, S: Read + Drop, G: Gate, N: Notice>(
+/// Serves the records of a script, none of which was read, as `serve_admitted` does. Where it blames the
+/// reader, the reader has failed.
+pub fn serve_records<T: Threads + Sync, S: Read, G: Gate, N: Notice>(
     rt: &T,
     alloc: Global,
     election: Election,
-    script: S,
+    records: &mut Records<S>,
     run: &ScriptRun<'_, G, N>,
-) -> Result<Vec<u8>, ServeFault>
-    // Where the script's bytes are known, the text is that of a journal that they and the number of clerks
-    // allow,
-    ensures ok { IfOk result (λ text. IfSome (S.remaining script) (λ bytes.
-        IsServed run.now.admission.now election run.now.clerks run.now.shuts
-        (records_of bytes) text.items)) }
-
-    // and they decide which fault comes.
-    ensures fault { IfErr result (λ fault. IfSome (S.remaining script) (λ bytes.
-        IsServeFault run.now.admission.now run.now.clerks (records_of bytes) fault)) }
+) -> Result<ServedScript, ServeFault>
+    ensures ok { IfOk result (λ served. IfSome records.old.left (λ rows.
+        IsServed run.now.admission.now election run.now.clerks run.now.shuts rows served.text.items)) }
+    ensures counts { IfOk result (λ served. (journal : List EntryView)
+        × (served.text.items ≡ journal_text Two journal) × (served.counts.counts ≡ counts_of journal)) }
+    ensures fault { IfErr result (λ fault. IfSome records.old.left (λ rows.
+        IsServeFault run.now.admission.now run.now.clerks rows fault)) }
+    ensures blame { (row : ℕ) → IsErrOf result (ServeFault.Script (ScriptFault.ReadFailed row)) →
+        records.new.fault ≡ Some RecordsFault.ReadFailed }
 {
-    let lists = match read_script(alloc, script, run) {
+    let lists = match read_lists(alloc, records, run) {
         Ok(lists) => lists,
         Err(fault) => {
             drop(election);
@@ -380,5 +373,43 @@ pub fn serve_admitted<T: Threads + Sync, S: Read + Drop, G: Gate, N: Notice>(
     let served = serve_all(rt, alloc, election, run.clerks, &work);
     drop(lists);
     let desk = ended(served?, run.shuts)?;
-    Ok(written(alloc, desk, run.notice)?)
+    Ok(written(alloc, desk)?)
+}
+
+/// Reads a script, serves the requests that are admitted on a shared desk of this election, and makes the
+/// text of its journal.
+///
+/// Each clerk serves its own rows in their order, by at most 100,000 tries of the lock for each. One who
+/// finds the desk busy all that time stops; what the clerks leave over is served after all of them have
+/// stopped, clerks in rising number. Where the run `shuts` the desk, clerk 0 asks for that in one last entry,
+/// after all of these. Before the first try of a row the gate is called with the clerk's number and the row's
+/// place among the clerk's own rows, from 0.
+///
+/// A row that is refused refuses the script, and is told to `notice`. The script is refused before the number
+/// of clerks.
+pub fn serve_admitted<T: Threads + Sync, S: Read + Drop, G: Gate, N: Notice>(
+    rt: &T,
+    alloc: Global,
+    election: Election,
+    script: S,
+    run: &ScriptRun<'_, G, N>,
+) -> Result<ServedScript, ServeFault>
+    // Where the script's bytes are known, the text is that of a journal that they and the number of clerks
+    // allow,
+    ensures ok { IfOk result (λ served. IfSome (S.remaining script) (λ bytes.
+        IsServed run.now.admission.now election run.now.clerks run.now.shuts
+        (records_of bytes) served.text.items)) }
+
+    // the counts are those of the journal's entries,
+    ensures counts { IfOk result (λ served. (journal : List EntryView)
+        × (served.text.items ≡ journal_text Two journal) × (served.counts.counts ≡ counts_of journal)) }
+
+    // and they decide which fault comes.
+    ensures fault { IfErr result (λ fault. IfSome (S.remaining script) (λ bytes.
+        IsServeFault run.now.admission.now run.now.clerks (records_of bytes) fault)) }
+{
+    let mut records = Records::new(alloc, script);
+    let served = serve_records(rt, alloc, election, &mut records, run);
+    drop(records);
+    served
 }

@@ -14,10 +14,10 @@ use Rattle.pb_serving.proofs.Apart.{same_err}
 use Rattle.pb_serving.specs.Answered.{IsBehind}
 use Rattle.pb_serving.specs.Inner.Room.{HasNoRoom}
 use Rattle.pb_faults.specs.declared.fault.AppFault.{AppFault}
-use Rattle.pb_faults.specs.declared.fault.AppFault.TheVariants.{ClerkCount, Count, Audit, Export, Memory, Open, OpenDesk, OtherFile, Read, Roll, Script, Serving, Warned, Write}
+use Rattle.pb_faults.specs.declared.fault.AppFault.TheVariants.{ClerkCount, Count, Audit, Export, Memory, Open, OpenDesk, OtherFile, Read, Roll, Script, Serving, TooManyRuns, Warned, Write}
 use Rattle.pb_faults.specs.declared.serving_fault.ServingFault.TheVariants.{Spelling, Moved, Locked, Output}
 use Rattle.pb_script.specs.declared.script_fault.ScriptFault.TheVariants.{ReadFailed}
-use Rattle.pb_faults.specs.Durable.{of_device, of_durable}
+use Rattle.pb_serving.specs.Inner.Durable.{of_device, of_durable}
 
 pub behind_device : (why : DeviceFault) (answered served unserved : ℕ) → served + unserved ≤ 4097 → IsBehind (of_device why) answered served unserved
 behind_device device.NoMemory answered served unserved few = (few, inl refl)
@@ -52,6 +52,10 @@ has_cause first before now d new count more same few room opening grown (inr (in
 has_cause first before now d new count more same few room opening grown (inr (inr full)) =
     inr (d.journal, more, grown, inr (subst (λ (o : OpeningView). 2 ^ 60 ≤ length (journal_text o.version d.journal)) (sym opening) full))
 
+-- a device that failed is told as a failed write
+pub failed_is : {T : Type 0} {r : Result T DurableFault} (why : DurableFault) → r ≡ Err why → r ≡ Err (durable.Device device.Failed) → of_durable why ≡ Write
+failed_is why is failed = ap of_durable (same_err is failed)
+
 pub not_durable : (why : DurableFault) (i : ℕ) → Script (ReadFailed i) ≡ of_durable why → ⊥
 not_durable (durable.Desk desk.NoMemory) i is = cc is
 not_durable (durable.Desk desk.JournalFull) i is = cc is
@@ -75,6 +79,7 @@ output_or (Audit fault) = inr (λ is. cc is)
 output_or OtherFile = inr (λ is. cc is)
 output_or OpenDesk = inr (λ is. cc is)
 output_or (Count fault) = inr (λ is. cc is)
+output_or TooManyRuns = inr (λ is. cc is)
 output_or (Export fault) = inr (λ is. cc is)
 output_or (Open number) = inr (λ is. cc is)
 output_or Write = inr (λ is. cc is)

@@ -2,6 +2,7 @@
 -- them.
 pub mod Admitted
 pub mod Batch
+pub mod Durable
 pub mod Rows
 pub mod Room
 pub mod AtHand

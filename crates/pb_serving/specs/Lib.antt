@@ -1,4 +1,3 @@
 -- The words that public contracts reach, a notion a file.
 pub mod Answered
-pub mod Paced
 pub mod Inner

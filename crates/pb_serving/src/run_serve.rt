@@ -1,7 +1,7 @@
 //! The command `serve`, once its journal is open.
 
 ghost use Rattle.std.specs.Prelude.{◌≡◌, ◌≢◌, ◌⊎◌, ◌+◌, ◌-◌, ◌^◌, ◌<◌, ◌≤◌, ◌++◌, ℕ, List, [], All, None};
-ghost use Rattle.std.specs.Prelude.{length, min, true, IfErr, IfOk, IfSome, IsErrOf, OnOk};
+ghost use Rattle.std.specs.Prelude.{drop, length, min, true, IfErr, IfOk, IfSome, IsErrOf, OnOk};
 ghost use Rattle.std.specs.Io.KnownBytes.{Appends};
 ghost use Rattle.pb_core.specs.Request.{EntryView};
 ghost use Rattle.pb_core.specs.declared.answer.Answer.{Answer};
@@ -14,6 +14,7 @@ ghost use Rattle.pb_durable.specs.Inner.Either.{StandsForEither};
 ghost use Rattle.pb_rows.specs.Reading.{Fields};
 ghost use Rattle.pb_rows.specs.Writing.{text_of_rows};
 ghost use Rattle.pb_script.specs.Admission.{broken_rule};
+ghost use Rattle.pb_script.specs.EntryCounts.{counts_of};
 ghost use Rattle.pb_script.specs.declared.script_fault.ScriptFault.TheVariants.{ReadFailed};
 ghost use Rattle.pb_script.specs.RowsView.{HasFailed, HasGiven};
 ghost use Rattle.pb_script.specs.ScriptReading.{fault_of_row};
@@ -21,27 +22,38 @@ ghost use Rattle.pb_faults.specs.Fault.{line, told};
 ghost use Rattle.pb_serving.specs.Answered.{heading, Answers, Halts, IsBehind, StandsWithin};
 ghost use Rattle.pb_serving.specs.Inner.Room.{HasNoRoom};
 ghost use Rattle.pb_serving.specs.Inner.Admitted.{AddsAdmitted};
+ghost use Rattle.pb_serving.specs.Inner.Durable.{of_durable};
 
 use crate::batch::{BatchEnd, next_batch};
 use crate::heading::heading;
 use crate::rows_at_hand::RowsAtHand;
 use crate::session::Session;
 use pb_core::answer::Answer;
-use pb_durable::{ClerkRequest, Device, DurableDesk, Recorded};
+use pb_desk::DeskFault;
+use pb_durable::{ClerkRequest, Device, DurableDesk, DurableFault, Recorded};
 use pb_faults::{AppFault, ServingFault, write_out, write_refused_row};
-use pb_script::{Notice, RequestRows, RowRefusal, ScriptFault};
+use pb_script::{EntryCounts, Notice, RequestRows, RowRefusal, ScriptFault};
 use std::alloc::Global;
 use std::io::{Read, Write};
 
 /// A run has fewer batches.
 const MOST_BATCHES: u64 = 1 << 50;
 
+/// What a run has served.
+#[derive(Clone, Copy)]
+pub struct ServedRows {
+    /// How many rows were refused.
+    pub refused: u64,
+    /// The entries that came to the journal.
+    pub counts: EntryCounts,
+}
+
 /// Says `torn;BYTES` where bytes were cut off the journal, and `entries;N;open` or `entries;N;shut`, and then
 /// answers each row of the input in turn: by its journal row, once that is durable, or by the line of why it
 /// is refused, which changes nothing. What the session's `pace` says is at hand is served together, up to
 /// 4096 rows, and each answer is flushed before the next row is waited for. The session's `notice` is told
 /// which rows are refused, and the answer to each other row once it is written. At the end of the input the
-/// journal is closed. Answers how many rows were refused.
+/// journal is closed. Answers how many rows were refused, and what came of the others.
 ///
 /// It ends early where the input or the writer fails, where the journal is not written, or out of memory.
 /// What was answered stands.
@@ -51,18 +63,20 @@ pub fn run_serve<D: Device, R: Read, P: RowsAtHand, N: Notice, W: Write>(
     rows: &mut RequestRows<R>,
     session: &Session<'_, P, N>,
     writer: &mut W,
-) -> Result<u64, AppFault>
+) -> Result<ServedRows, AppFault>
     requires { D.tells → IsDurable D.seen D.may_leave desk.old }
 
     // Each row that was given has its answer, and the rows alone decide the text: all rows, where they are
     // known.
-    ensures answered { IfOk result (λ refused. (records : List Fields) × (text : List ℕ)
+    ensures answered { IfOk result (λ served. (records : List Fields) × (text : List ℕ)
         × IfSome rows.old.left (λ left. left ≡ records)
         × HasGiven rows.old rows.new (length records)
         × Answers session.now.admission.now records desk.old.desk.journal desk.new.desk.journal text
         × Appends (W.contents writer.old) (W.contents writer.new)
         (heading session.now.torn desk.old.desk ++ text)
-        × (refused + length desk.new.desk.journal ≡ length records + length desk.old.desk.journal)) }
+        × (served.refused + length desk.new.desk.journal ≡ length records + length desk.old.desk.journal)) }
+    ensures counts { IfOk result (λ served. served.counts.counts
+        ≡ counts_of (drop (length desk.old.desk.journal) desk.new.desk.journal)) }
 
     // Each entry that it adds breaks none of the desk's rules, however it ends.
     ensures admitted { (more : List EntryView) × (desk.new.desk.journal ≡ desk.old.desk.journal ++ more)
@@ -109,7 +123,7 @@ pub fn run_serve<D: Device, R: Read, P: RowsAtHand, N: Notice, W: Write>(
         (StandsWithin desk.old.desk.opening.version desk.old.desk.journal desk.new.desk.journal) }
 {
     // The desk's journal is legal.
-    let _entries = desk.desk().entries();
+    let before = desk.desk().entries();
     let opened = heading(alloc, session.torn, desk.desk())?;
     write_out(
         writer,
@@ -118,7 +132,10 @@ pub fn run_serve<D: Device, R: Read, P: RowsAtHand, N: Notice, W: Write>(
     )?;
     let refused = serve_rows(alloc, desk, rows, session, writer)?;
     desk.close()?;
-    Ok(refused)
+    Ok(ServedRows {
+        refused,
+        counts: EntryCounts::of(desk.desk(), before),
+    })
 }
 
 /// Answers the rows that are left.
@@ -237,7 +254,10 @@ fn answer<D: Device, N: Notice, W: Write>(
     if asks.is_empty() {
         return Ok(());
     }
-    let Recorded { answers, rows } = desk.serve_all(alloc, asks)?;
+    let Recorded { answers, rows } = match desk.serve_all(alloc, asks) {
+        Ok(recorded) => recorded,
+        Err(fault) => return Err(unanswered(fault)),
+    };
     write_out(
         writer,
         rows.as_slice(),
@@ -245,6 +265,17 @@ fn answer<D: Device, N: Notice, W: Write>(
     )?;
     tell(notice, &answers);
     Ok(())
+}
+
+/// The fault of requests that were not answered.
+fn unanswered(fault: DurableFault) -> AppFault
+    ensures { result ≡ of_durable fault }
+{
+    match fault {
+        DurableFault::Desk(DeskFault::NoMemory) => AppFault::Memory,
+        DurableFault::Desk(DeskFault::JournalFull) => AppFault::Write,
+        DurableFault::Device(why) => AppFault::from(why),
+    }
 }
 
 /// Tells these answers, in their order.

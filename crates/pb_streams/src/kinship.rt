@@ -1,6 +1,7 @@
 //! Which .pb file a journal belongs to.
 
 use crate::digested::Hex;
+use crate::linked::behind_link;
 use crate::run_refusal::RunRefusal;
 use pb_core::no_memory::NoMemory;
 use pb_durable::file_beside::{name_file, read_file_beside};
@@ -51,10 +52,7 @@ impl Kinship {
         journal: &[u8],
     ) -> Result<Belonging, RunRefusal> {
         let alloc = rt.alloc();
-        let beside = match read_file_beside(rt, alloc, path) {
-            Ok(beside) => beside,
-            Err(error) => return Err(unread_beside(rt, path, &error)),
-        };
+        let beside = beside(rt, path)?;
         let belonging = match self.file.get() {
             Some(digest) => {
                 let text = beside.as_ref().map(|text| text.as_slice());
@@ -143,6 +141,27 @@ impl Kinship {
         self.refusal.set(Some(refusal));
         Err(Error::from(ErrorKind::Other))
     }
+}
+
+/// The bytes of the file beside the journal with this path, which may be a link.
+fn beside<R: Files<File = File> + AllocGlobal>(
+    rt: &R,
+    path: &str,
+) -> Result<Option<Vec<u8>>, RunRefusal> {
+    let own = match behind_link(rt, path) {
+        Ok(own) => own,
+        Err(error) => return Err(unread_beside(rt, path, &error)),
+    };
+    let journal = match &own {
+        Some(own) => own.as_str(),
+        None => path,
+    };
+    let read = match read_file_beside(rt, rt.alloc(), journal) {
+        Ok(beside) => Ok(beside),
+        Err(error) => Err(unread_beside(rt, journal, &error)),
+    };
+    drop(own);
+    read
 }
 
 /// The file beside the journal with this path could not be read, for this reason.

@@ -1,16 +1,18 @@
 //! Ids of projects that stand behind the vote, where no count reads them.
 
-use crate::changed::{has_digit, has_one_of, has_part, is_digits, is_one_of};
+use crate::beside_vote::BesideVote;
+use crate::changed::{has_digit, has_one_of, has_part, is_digits, is_one_of, last_word};
 use crate::column_kinds::{NUMBERS, is_of_validity};
 use crate::prelude::*;
 use crate::warnings::places_of;
 
 /// Columns of VOTES that hold no votes of the voter, whatever stands in them.
 const OTHERS: &str =
-    "voter_id|vote_id|choice_id|ballot_id|comment|remark|remarks|note|notes|against|rejected|veto|contra";
+    "voter_id|vote_id|choice_id|ballot_id|comment|remark|remarks|note|notes|against|rejected|veto|contra|\
+    author|author_of|own_project";
 
 /// Columns that hold none unless they have lists of projects, though their values may be as ids are.
-const OF_VOTERS: &str =
+pub(crate) const OF_VOTERS: &str =
     "age|age_group|sex|gender|voting_method|channel|station|polling_station|ward|district|\
     subdistrict|neighborhood|unit|subunit|education|votes|class|school_class|klasa|form|group|\
     year_group|team|house|building|room|table|desk|urn";
@@ -22,7 +24,7 @@ const OF_PERSONS: &str = "age|sex|gender";
 const OF_NAMES: &str = "other|own|choice|project|projects|vote|option|text";
 
 /// Words in the name of a column that holds votes, also as parts of longer ones.
-const OF_VOTES: &str = "vote|choice|preference|project|option|selection";
+pub(crate) const OF_VOTES: &str = "vote|choice|preference|project|option|selection";
 
 /// Words of a name that hold no votes, though another word of it is one of those.
 const OF_NO_VOTES: &str =
@@ -31,6 +33,10 @@ const OF_NO_VOTES: &str =
     kiosk|area|branch|bus|center|centre|key|library|line|lot|pin|precinct|rank|seq|slot|team|ward|\
     weekday|zone|before|lang|child|income|location|district|language|school|round|batch|sheet|page|\
     device|source|household";
+
+/// What programs call a column that has no name, with its number.
+const INVENTED: &str =
+    "unnamed|column|col|field|spalte|feld|kolumna|pole|colonne|columna|coluna|colonna|sloupec|kolom";
 
 /// What a voter writes who makes no further choice.
 const NOTHING: &str = "-|none|nan|null|nil|n/a|na|no|nie|brak";
@@ -57,7 +63,8 @@ struct VoteColumn {
     ticks: Option<u32>,
     /// Whether it may hold votes, by all that was read.
     is_open: bool,
-    /// Whether something shows that it holds votes: its name, or an id that is no number, or several ids.
+    /// Whether something shows that it holds votes: its name, as where it is a letter or has a number, or an id
+    /// that is no number, or several ids.
     is_shown: bool,
     /// The first row with a project's id in it, measured by how many there are.
     odd: Option<Odd>,
@@ -97,7 +104,9 @@ impl BehindVote {
             let is_again = voters > 1 && name.eq_ignore_ascii_case(Column::Vote.name());
             let mut column = VoteColumn::of(place, name, projects);
             let is_of_row = name.eq_ignore_ascii_case(Column::ProjectId.name());
-            column.is_open = (place > vote || is_of_row) && !column.holds_none && !is_again;
+            let is_called = column.is_shown && has_part(OF_VOTES, name);
+            let may_be = place > vote || is_of_row || is_called;
+            column.is_open = may_be && !column.holds_none && !is_again && place != vote;
             is_open |= column.is_open;
             columns.push(column)?;
         }
@@ -156,8 +165,13 @@ impl BehindVote {
         odd
     }
 
-    /// Takes the end of the file.
-    pub(crate) fn end(&self, alloc: Global, found: &mut Oddities) -> Result<(), AllocError> {
+    /// Takes the end of the file, with what all rows show of the columns beside the vote.
+    pub(crate) fn end(
+        &self,
+        alloc: Global,
+        beside: &BesideVote,
+        found: &mut Oddities,
+    ) -> Result<(), AllocError> {
         let mut all: Vec<Odd> = Vec::new(alloc);
         for column in &self.columns {
             if let (Some(odd), true) = (column.odd, column.is_open && column.is_shown) {
@@ -172,6 +186,7 @@ impl BehindVote {
                 all.push(stray)?;
             }
         }
+        beside.end(&mut all, found)?;
         found.take_in_order(all)
     }
 }
@@ -179,22 +194,24 @@ impl BehindVote {
 impl VoteColumn {
     /// A column of which nothing was read.
     fn of(place: usize, name: &str, projects: &Firsts) -> VoteColumn {
-        let is_of_voters = is_one_of(OF_VOTERS, name);
-        let is_of_votes = !has_one_of(OF_NO_VOTES, name)
-            && (has_part(OF_VOTES, name) || has_one_of("second|third", name));
-        let last_word = name
-            .rsplit(|c: char| !c.is_alphanumeric())
-            .find(|word| !word.is_empty());
+        let word = name.trim_matches(|c: char| !c.is_alphabetic());
+        let is_invented = word.is_empty() || is_one_of(INVENTED, word);
+        let bare = name.trim_matches(|c: char| c.is_ascii_digit());
+        let has_number = bare.len() < name.len() && !has_digit(bare);
+        let is_numbered = has_number || word.chars().count() < 2;
+        let is_of_voters = is_one_of(OF_VOTERS, word);
+        let is_of_votes = !has_one_of(OF_NO_VOTES, word)
+            && (is_numbered || has_part(OF_VOTES, name) || has_one_of("second|third", name));
         VoteColumn {
             place,
             is_named: !name.is_empty(),
             holds_none: is_one_of(OTHERS, name) || is_one_of(NUMBERS, name) || is_of_validity(name),
             is_of_voters,
             is_of_persons: is_one_of(OF_PERSONS, name),
-            may_have_names: name.is_empty() || has_one_of(OF_NAMES, name),
-            ticks: last_word.and_then(|word| projects.place(word)),
+            may_have_names: is_invented || has_one_of(OF_NAMES, name),
+            ticks: projects.place(last_word(name)),
             is_open: true,
-            is_shown: name.is_empty() || (is_of_votes && !is_of_voters),
+            is_shown: is_invented || (is_of_votes && !is_of_voters),
             odd: None,
             others: 0,
         }

@@ -1,8 +1,8 @@
 //! Why a vote names an id that no project has.
 
 use crate::changed::{
-    Difference, has_digit, has_word, how_differs, is_date, is_decimal, is_nothing, is_power,
-    is_tick, is_word, without_hidden,
+    Difference, has_digit, how_differs, is_date, is_decimal, is_nothing, is_power, is_tick,
+    is_word, without_hidden,
 };
 use crate::ids::Ids;
 use crate::meta_oddities::whole_number;
@@ -37,7 +37,7 @@ pub enum Cause {
     /// It is an id with this around it.
     Brackets,
     Quotes,
-    /// It is an id in brackets, and not the whole vote is; or the vote is, but not all lists are.
+    /// It is an id in brackets, and not the whole vote is; or the vote is, but not all votes are.
     OneInBrackets,
     SomeInBrackets,
     /// It is an id, or several, that a program or a spreadsheet changed.
@@ -51,7 +51,6 @@ pub enum Cause {
     Beside,
     Places,
     Columns,
-    Tick,
     /// It is alike the id of a project, in the vote or (where true) in PROJECTS.
     Alike(Difference, bool),
     /// It is alike the ids of several projects; or that of one begins with it.
@@ -66,29 +65,18 @@ pub enum Cause {
     More,
     /// The id of a project was changed.
     ChangedProject,
-    /// It is a word in place of ids, or looks like a list of PHP, or a web page's address.
+    /// It is a word in place of ids.
     Word,
-    Php,
-    Percent,
     /// It ends in three dots.
     CutOff,
-    /// It has a sign for each project.
-    Signs,
     /// It lacks the zeros that the id of a project has, also in other votes.
     Kept,
-    /// It is ids of one character each, with nothing between them, or another id.
-    Run,
-    /// It ends with `=`, as e-mail programs break lines.
-    Mail,
     /// It has a character that no id of a project has.
     OddLetter,
-    /// It is 0 and more behind the last comma, as the decimals of a number.
-    CommaZeros,
     /// Votes may have other ids than PROJECTS, such as the numbers of rows.
     Shifted,
-    /// No vote names a project; and some end as codes in base64 do.
+    /// No vote names a project.
     OtherElection,
-    Coded,
     /// None is known: no id has its form, or one has it nearly, or exactly.
     OtherForm,
     Near,
@@ -112,13 +100,6 @@ impl Cause {
     }
 }
 
-/// What an id has in it that shows its cause.
-const LOOKS: [(&str, Cause); 3] = [
-    (":{i:", Cause::Php),
-    ("%2c", Cause::Percent),
-    ("%20", Cause::Percent),
-];
-
 /// What between ids makes several of them one piece.
 const BETWEEN: [(char, Cause); 9] = [
     (' ', Cause::Blanks),
@@ -138,6 +119,9 @@ const LIST_QUOTES: &str = "'\"";
 /// What is a comma in other scripts.
 const OTHER_COMMAS: &str = "\u{ff0c}\u{3001}\u{60c}";
 
+/// How long a text may be, in bytes, that is looked at for ids with nothing between them.
+const LONGEST_RUN: usize = 64;
+
 /// Why a vote names this id, which no project has, and the place of the project that it is about. The file
 /// has a column for each project, or not, and may be of two elections, or not.
 pub(crate) fn cause_of(
@@ -147,14 +131,15 @@ pub(crate) fn cause_of(
     (has_columns, is_other): (bool, bool),
 ) -> Result<(Cause, Option<u32>), AllocError> {
     let id = unknown.id.as_str();
-    let plain = plain_cause(id, &witness.ids, projects, has_columns);
+    let plain = plain_cause(id, &witness.ids, has_columns);
     let plain = match plain {
-        _ if witness.are_coded() => Some(Cause::Coded),
         Some(Cause::Nothing) if unknown.is_beside && id == "0" => Some(Cause::Places),
         Some(Cause::Nothing) if unknown.is_beside => Some(Cause::Beside),
         Some(Cause::Brackets) if !unknown.is_in_brackets => Some(Cause::OneInBrackets),
-        None if unknown.is_beside && is_zeros(id) => Some(Cause::CommaZeros),
-        Some(cause) if witness.rows.have_commas() => Some(beside_lists(cause, id, witness)),
+        Some(Cause::Brackets) if witness.rows.has_bare && !is_of_program(id) => {
+            Some(Cause::SomeInBrackets)
+        }
+        Some(cause) if witness.rows.have_commas() => Some(beside_lists(cause, id)),
         plain => plain,
     };
     if let Some(cause) = plain {
@@ -186,18 +171,21 @@ pub(crate) fn cause_of(
     }
 }
 
-/// What this cause of an id is where other votes are lists with commas: there another sign between ids, or
-/// brackets around some votes, may say more.
-fn beside_lists(cause: Cause, id: &str, witness: &Witness) -> Cause {
-    let is_quoted = id.contains(|c: char| LIST_QUOTES.contains(c));
+/// What this cause of an id is where other votes are lists with commas: there another sign between ids may say
+/// more.
+fn beside_lists(cause: Cause, id: &str) -> Cause {
     let has_comma = id.contains(|c: char| OTHER_COMMAS.contains(c));
     match cause {
         Cause::OnLines => Cause::TwoLines,
         Cause::Blanks | Cause::Bars => Cause::Range,
         Cause::Marks if !has_comma => Cause::Range,
-        Cause::Brackets if witness.rows.has_list && !is_quoted => Cause::SomeInBrackets,
         cause => cause,
     }
+}
+
+/// Whether brackets around an id are those of a list that a program wrote: it has quotation marks, or is R's.
+fn is_of_program(id: &str) -> bool {
+    id.starts_with("c(") || id.contains(|c: char| LIST_QUOTES.contains(c))
 }
 
 /// The cause of an id by which this project is found, or several are.
@@ -219,7 +207,7 @@ fn cause_by(by: By, id: &str, projects: &Projects, place: u32) -> (Cause, Option
 }
 
 /// The cause that an id shows by itself, or beside ids of projects.
-fn plain_cause(id: &str, ids: &Ids, projects: &Projects, has_columns: bool) -> Option<Cause> {
+fn plain_cause(id: &str, ids: &Ids, has_columns: bool) -> Option<Cause> {
     let cause = if ids.left_out.has(id) {
         Cause::LeftOut
     } else if ids.projects.len() == 0 && ids.left_out.len() == 0 {
@@ -234,16 +222,10 @@ fn plain_cause(id: &str, ids: &Ids, projects: &Projects, has_columns: bool) -> O
         Cause::Lines
     } else if id.contains('\n') {
         Cause::TwoLines
-    } else if id.ends_with('=') {
-        Cause::Mail
     } else if id.eq_ignore_ascii_case(Column::Vote.name()) {
         Cause::NamesAgain
     } else if id.ends_with("...") || id.ends_with('\u{2026}') {
         Cause::CutOff
-    } else if is_by_signs(id, ids) {
-        Cause::Signs
-    } else if let Some((_, cause)) = LOOKS.iter().find(|(look, _)| has_word(id, look)) {
-        *cause
     } else if let Some(cause) = wrapped(id, ids) {
         cause
     } else if let Some((_, cause)) = BETWEEN.iter().find(|(mark, _)| ids.are_apart_by(id, *mark)) {
@@ -253,7 +235,7 @@ fn plain_cause(id: &str, ids: &Ids, projects: &Projects, has_columns: bool) -> O
     } else if is_nothing(id) {
         Cause::Nothing
     } else {
-        return changed(id, ids, projects);
+        return changed(id, ids);
     };
     Some(cause)
 }
@@ -279,7 +261,7 @@ fn wrapped(id: &str, ids: &Ids) -> Option<Cause> {
 }
 
 /// How an id, or several, was changed by a program or a spreadsheet.
-fn changed(id: &str, ids: &Ids, projects: &Projects) -> Option<Cause> {
+fn changed(id: &str, ids: &Ids) -> Option<Cause> {
     let whole = id.strip_suffix(".0").unwrap_or("");
     if ids.projects.has(whole) && !ids.projects.has("0") {
         return Some(Cause::PointZero);
@@ -294,36 +276,33 @@ fn changed(id: &str, ids: &Ids, projects: &Projects) -> Option<Cause> {
         Some(Cause::Shortened)
     } else if is_date(id, false) {
         Some(Cause::Date)
-    } else if is_together(id, ids, projects.length) {
-        let is_sure = projects.length > 1;
-        Some(if is_sure { Cause::Together } else { Cause::Run })
+    } else if is_together(id, ids) {
+        Some(Cause::Together)
     } else {
         None
     }
 }
 
-/// Whether a text is ids of this length, one behind the other.
-fn is_together(text: &str, ids: &Ids, length: usize) -> bool {
-    if length < 1 || text.len() <= length {
-        return false;
+/// Whether a text that is no id is several, one behind the other.
+fn is_together(text: &str, ids: &Ids) -> bool {
+    let mut ends = [false; LONGEST_RUN];
+    for end in 1..=text.len().min(LONGEST_RUN) {
+        let is_id = |begin: usize| {
+            let id = text
+                .as_bytes()
+                .get(begin..end)
+                .and_then(|bytes| str::from_utf8(bytes).ok());
+            let is_begun = begin == 0 || ends.get(begin.saturating_sub(1)) == Some(&true);
+            // A vote names no id twice.
+            let is_again = |id: &str| end == text.len() && text.starts_with(id);
+            is_begun && id.is_some_and(|id| ids.projects.has(id) && !is_again(id))
+        };
+        let is_end = (0..end).any(is_id);
+        if let Some(it) = ends.get_mut(end.saturating_sub(1)) {
+            *it = is_end;
+        }
     }
-    let is_id = |piece: &[u8]| str::from_utf8(piece).is_ok_and(|id| ids.projects.has(id));
-    text.as_bytes().chunks(length).all(is_id)
-}
-
-/// The fewest projects that have signs in a vote.
-const MANY: usize = 5;
-
-/// Whether a text has a sign for each project: its id, or one of these.
-fn is_by_signs(text: &str, ids: &Ids) -> bool {
-    let is_sign = |c: char| "-._".contains(c);
-    let is_id = |piece: &[u8]| str::from_utf8(piece).is_ok_and(|id| ids.projects.has(id));
-    let are_ids = |part: &str| part.as_bytes().chunks(1).all(is_id);
-    let count = ids.projects.len();
-    count >= MANY
-        && text.len() == count
-        && text.contains(is_sign)
-        && text.split(is_sign).all(are_ids)
+    ends.get(text.len().saturating_sub(1)) == Some(&true)
 }
 
 /// The cause of an id that is like none of a project.
@@ -351,9 +330,10 @@ fn last_cause(
         return (Cause::ChangedProject, projects.changed);
     } else if is_foreign {
         Cause::OtherElection
-    } else if is_tick(id) && id.len() > 1 {
-        Cause::Tick
-    } else if is_word(id) || (projects.have_digits && !has_digit(id)) {
+    } else if is_word(id)
+        || (is_tick(id) && id.len() > 1)
+        || (projects.have_digits && !has_digit(id))
+    {
         Cause::Word
     } else if odd_letter(id, projects).is_some() {
         Cause::OddLetter
@@ -361,11 +341,6 @@ fn last_cause(
         Cause::Unknown
     };
     (cause, None)
-}
-
-/// Whether a text is several zeros.
-fn is_zeros(text: &str) -> bool {
-    text.len() > 1 && text.trim_matches('0').is_empty()
 }
 
 /// Whether votes may have other ids than PROJECTS: several that no project has have numbers above all of its ids;

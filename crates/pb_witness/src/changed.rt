@@ -76,16 +76,16 @@ pub fn has_one_of(words: &str, text: &str) -> bool {
         .any(|word| is_one_of(words, word))
 }
 
+/// The last word of a text; the empty text if it has none.
+pub(crate) fn last_word(text: &str) -> &str {
+    let mut words = text.rsplit(|c: char| !c.is_alphanumeric());
+    words.find(|word| !word.is_empty()).unwrap_or("")
+}
+
 /// Whether a text begins with this word, in any case.
 pub(crate) fn begins(text: &str, word: &str) -> bool {
     let start = text.as_bytes().get(..word.len());
     start.is_some_and(|start| start.eq_ignore_ascii_case(word.as_bytes()))
-}
-
-/// Whether a text is a code in base64 that ends with `=`.
-pub(crate) fn is_base64(text: &str) -> bool {
-    let is_other = |c: char| !c.is_ascii_alphanumeric() && !"+/=".contains(c);
-    text.ends_with('=') && text.len() > 4 && text.len() % 4 == 0 && !text.contains(is_other)
 }
 
 /// A text without what is neither a letter nor a digit.

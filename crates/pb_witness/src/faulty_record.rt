@@ -1,7 +1,7 @@
 //! A record of a .pb file that was refused, and what can be known of it.
 
 use crate::changed::{
-    differ_in_form, form_of, has_digit, has_word, is_digits, is_nothing, is_power, letters_of,
+    differ_in_form, has_digit, has_word, is_digits, is_nothing, is_power, letters_of,
     without_hidden,
 };
 use crate::fields::{JoinedBy, has_more, joined};
@@ -11,12 +11,7 @@ use crate::prelude::*;
 use crate::quote::Span;
 use crate::records::TextRecords;
 use crate::seen::Seen;
-use crate::witness::Witness;
 use pb_read::Refusal;
-use std::str;
-
-/// The longest id at the end of a text that is looked for, in bytes.
-const LONGEST_END: usize = 20;
 
 /// Characters that end a line elsewhere.
 const OTHER_LINE_ENDS: &str = "\u{85}\u{2028}\u{2029}";
@@ -43,7 +38,7 @@ impl FaultyRecord {
     }
 
     /// The places of its id, and of the other value that a row of its section needs.
-    pub(crate) fn places(&self) -> (usize, usize) {
+    pub fn places(&self) -> (usize, usize) {
         match self.stage {
             Stage::InProjects(columns) => (columns.id, columns.cost),
             Stage::InVotes(columns) => (columns.voter, columns.vote),
@@ -150,16 +145,6 @@ impl FaultyRecord {
         Ok(None)
     }
 
-    /// Whether a row that is short, or has no amount, ends with `=`, or the row before it, as e-mail programs
-    /// break lines.
-    pub fn is_of_mail<R: Files>(&self, text: &Text<'_, R>) -> bool {
-        let is_kind = matches!(self.kind(), ReadKind::BadMoney | ReadKind::MissingField);
-        let is_above = || text
-            .row_at(self.seen.last)
-            .is_some_and(|row| is_broken(&row));
-        is_kind && (is_broken(&self.record) || is_above())
-    }
-
     /// Whether it is a mark of a merge conflict, between two versions of some rows.
     pub fn is_conflict(&self) -> bool {
         let line = text_at(&self.record, 0);
@@ -182,20 +167,6 @@ impl FaultyRecord {
     /// Whether it is the first row below the column names.
     pub fn is_first_row(&self) -> bool {
         self.seen.last.at == self.seen.names.at
-    }
-
-    /// Whether it is META's head with commas behind it, and the row below ends in commas too, but has `;`.
-    pub fn is_padded<R: Files>(&self, text: &Text<'_, R>) -> bool {
-        let field = self.at(0);
-        let head = field.trim_end_matches(',');
-        if !self.is_first() || head.len() == field.len() || !head.eq_ignore_ascii_case("META") {
-            return false;
-        }
-        let below = text.row_behind(self.mark);
-        below.is_some_and(|row| {
-            let last = row.len().saturating_sub(1);
-            last > 0 && text_at(&row, last).ends_with(',')
-        })
     }
 
     /// Whether it is a project's row whose cost seems to stand further right, because of a `;` in a text
@@ -237,51 +208,6 @@ impl FaultyRecord {
         self.is_of_votes()
             && are_alike(text_at(&first, id), self.at(id))
             && Money::read(self.at(cost)).is_ok()
-    }
-
-    /// Whether it may be the rest of the vote in the row above, which alone ends in a comma: one field with
-    /// ids of projects.
-    pub fn is_rest_of_vote<R: Files>(&self, text: &Text<'_, R>, witness: &Witness) -> bool {
-        let is_one = self.record.len() == 1 && self.is_of_votes() && witness.rows.cut == 1;
-        let above = text.row_at(self.seen.last).filter(|_| is_one);
-        let is_cut = above.is_some_and(|row| text_at(&row, self.places().1).ends_with(','));
-        is_cut && witness.ids.are_all(self.at(0))
-    }
-
-    /// What stands between a voter and a vote, if it is a row of VOTES with one of two fields that has both:
-    /// before the first comma an id like the first voter's and that of a project, behind it ids of projects.
-    /// Of the first row it is the voter behind it; and where that row is one field too, what stands there
-    /// before the same sign.
-    pub fn joined_vote<R: Files>(&self, text: &Text<'_, R>, ids: &Ids) -> Option<&str> {
-        let field = self.at(0);
-        let (first, rest) = field.split_once(',').unwrap_or((field, ""));
-        let is_kind = self.kind() == ReadKind::MissingField && self.is_of_votes();
-        if !is_kind || self.record.len() != 1 || self.seen.columns != 2 || !ids.are_all(rest) {
-            return None;
-        }
-        let is_first = self.is_first_row();
-        let row = text.row_behind(if is_first { self.mark } else { self.seen.names })?;
-        let other = text_at(&row, self.places().0);
-        let begin = first.len().saturating_sub(LONGEST_END).max(1);
-        for place in begin..first.len() {
-            let tail = first.as_bytes().get(place..).unwrap_or(b"");
-            let tail = str::from_utf8(tail).unwrap_or("");
-            let front = first.strip_suffix(tail).unwrap_or("");
-            let voter = front.trim_end_matches(|c: char| !c.is_alphanumeric());
-            if !ids.projects.has(tail) {
-                continue;
-            }
-            let own = form_of(text.alloc, voter, false).ok()?;
-            let sign = front.strip_prefix(voter)?;
-            let other = match before_votes(other, sign, ids) {
-                Some(before) if row.len() == 1 => form_of(text.alloc, before, false).ok()?,
-                _ => form_of(text.alloc, other, false).ok()?,
-            };
-            if own.as_str() == other.as_str() {
-                return Some(sign);
-            }
-        }
-        None
     }
 
     /// What separates the fields of a row in place of `;`, if it is one field with tabs, or with as many
@@ -330,11 +256,6 @@ impl FaultyRecord {
         is_one && has_words && self.is_of_votes()
     }
 
-    /// Whether a quotation mark stands alone at the end of its line, so that its field begins with the next.
-    pub fn is_ditto(&self) -> bool {
-        (0..self.record.len()).any(|place| raw_text(&self.record, place).starts_with('\n'))
-    }
-
     /// Whether two rows may stand on one line: only the last field of the first, and the first of the second,
     /// are one.
     pub fn is_two_rows(&self) -> bool {
@@ -357,12 +278,6 @@ impl FaultyRecord {
     pub fn is_same_head(&self) -> bool {
         let head = head_of(section_of(&self.stage));
         matches!(self.stage, Stage::Header(_)) && self.at(0).eq_ignore_ascii_case(head)
-    }
-
-    /// Whether it is META's head, behind a quotation mark that is closed on another line or never.
-    pub fn is_quoted_meta(&self) -> bool {
-        let is_meta = |(line, _): (&str, &str)| line.trim().eq_ignore_ascii_case("META");
-        self.kind() == ReadKind::NoSection && self.at(0).split_once('\n').is_some_and(is_meta)
     }
 
     /// The section whose head and column names this one row seems to be.
@@ -438,18 +353,6 @@ impl FaultyRecord {
             .filter(|_| self.kind() == ReadKind::MissingColumn);
         joined?.separators()
     }
-}
-
-/// What stands before this sign in a field, if ids of projects stand behind it.
-fn before_votes<'f>(field: &'f str, sign: &str, ids: &Ids) -> Option<&'f str> {
-    let (voter, vote) = field.split_once(sign).filter(|_| !sign.is_empty())?;
-    (ids.have_one(vote) && ids.are_all(vote)).then_some(voter)
-}
-
-/// Whether the last field of a row ends with `=` behind something else.
-fn is_broken(row: &ByteRecord) -> bool {
-    let field = text_at(row, row.len().saturating_sub(1));
-    field.ends_with('=') && field.contains(|c: char| c != '=')
 }
 
 /// Whether two ids have the same text before their numbers, and are as long as each other.

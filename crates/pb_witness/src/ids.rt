@@ -1,6 +1,6 @@
 //! The ids of a file's projects, as far as a witness was shown them.
 
-use crate::changed::plain;
+use crate::changed::{last_word, plain};
 use crate::prelude::*;
 use crate::swallowed::later_lines;
 
@@ -107,9 +107,10 @@ impl Ids {
         vote.split(',').any(|piece| self.projects.has(piece.trim()))
     }
 
-    /// Whether column names are ids of several projects.
+    /// Whether column names are ids of several projects, or end in them.
     pub fn are_columns(&self, names: &ByteRecord) -> bool {
-        let is_id = |place: &usize| self.projects.has(text_at(names, *place));
+        let has = |name: &str| self.projects.has(name) || self.projects.has(last_word(name));
+        let is_id = |place: &usize| has(text_at(names, *place));
         (0..names.len()).filter(is_id).count() > 1
     }
 

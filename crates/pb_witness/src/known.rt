@@ -1,7 +1,8 @@
 //! What is known of a file in which a record was refused.
 
 use crate::cause::{Cause, are_shifted, cause_of};
-use crate::changed::{has_time, is_nothing, is_one_of, is_shortened};
+use crate::changed::{has_time, is_nothing, is_shortened};
+use crate::elsewhere::elsewhere;
 use crate::faulty_record::FaultyRecord;
 use crate::prelude::*;
 use crate::projects::Projects;
@@ -9,11 +10,6 @@ use crate::unknown::{Unknown, Votes};
 use crate::voters::{FirstRows, first_rows};
 use crate::witness::Witness;
 use pb_read::Refusal;
-
-/// What a log says was done to a vote.
-const DONE: &str =
-    "insert|inserted|update|updated|delete|deleted|remove|removed|cancel|canceled|cancelled|revoke|revoked|\
-    withdraw|withdrawn";
 
 /// What is found in a file when it is read again.
 #[derive(Drop)]
@@ -27,6 +23,8 @@ pub struct ReadAgain {
     claimed: Option<u32>,
     /// If each row names one project, a further column that differs between the rows of a voter.
     pub varying: Option<usize>,
+    /// The place of another column that has all ids that no project has, and whether it is of VOTES.
+    pub elsewhere: Option<(usize, bool)>,
 }
 
 /// Why an id is unknown.
@@ -63,25 +61,18 @@ pub enum Repeat {
     OneId,
     /// The rows are the same.
     Copy,
-    /// The rows of a voter say what was done to the vote, as a log does.
-    Log,
     /// The rows of a voter have different times.
     Times,
-    /// The id is a time, which several voters may have.
-    TimeId,
     Unknown,
 }
 
 impl Repeat {
     /// How many reasons there are.
-    pub const COUNT: usize = 12;
+    pub const COUNT: usize = 10;
 
     /// Whether the reason is one for all rows of VOTES, and not for each of them.
     pub fn is_shared(&self) -> bool {
-        !matches!(
-            self,
-            Repeat::Copy | Repeat::Log | Repeat::Times | Repeat::Unknown
-        )
+        !matches!(self, Repeat::Copy | Repeat::Times | Repeat::Unknown)
     }
 }
 
@@ -105,6 +96,7 @@ impl ReadAgain {
             causes,
             claimed,
             varying,
+            elsewhere: elsewhere(text, witness)?,
         })
     }
 }
@@ -151,8 +143,6 @@ impl Known<'_> {
             Repeat::OtherPeople
         } else if is_voter && rows.voters_repeated == 1 && rows.rows_repeated > 2 {
             Repeat::OneId
-        } else if is_voter && has_time(faulty.id()) {
-            Repeat::TimeId
         } else {
             self.beside_earlier(text, faulty)
         }
@@ -178,18 +168,14 @@ impl Known<'_> {
         };
         let (row, earlier) = (&faulty.record, &earlier);
         let mut is_same = earlier.len() == row.len();
-        let (mut has_times, mut is_log) = (false, false);
+        let mut has_times = false;
         for place in 0..row.len() {
             let differs = bytes_at(earlier, place) != bytes_at(row, place);
             is_same &= !differs;
             let are_times = has_time(text_at(earlier, place)) && has_time(text_at(row, place));
             has_times |= differs && are_times;
-            let is_done = is_one_of(DONE, text_at(earlier, place))
-                || is_one_of(DONE, text_at(row, place));
-            is_log |= differs && is_done;
         }
         match faulty.kind() {
-            ReadKind::RepeatedVoter if is_log => Repeat::Log,
             _ if is_same => Repeat::Copy,
             ReadKind::RepeatedVoter if has_times => Repeat::Times,
             _ => Repeat::Unknown,
@@ -230,7 +216,9 @@ fn causes_of<R: Files>(
     for unknown in ids {
         let (mut cause, project) = cause_of(unknown, witness, projects, (has_columns, is_other))?;
         let is_above = projects.are_below(unknown.id.as_str());
-        let is_open = matches!(cause, Cause::Unknown | Cause::Near | Cause::Run);
+        let is_short = unknown.id.len() <= projects.longest.saturating_add(1);
+        let is_open = matches!(cause, Cause::Unknown | Cause::Near)
+            || (cause == Cause::Together && is_short);
         if are_shifted && is_open && (ids.len() == 1 || is_above) {
             cause = Cause::Shifted;
         }

@@ -22,13 +22,6 @@ pub(crate) struct LastVote {
     /// Whether it ends behind a comma, and how many rows do.
     is_cut: bool,
     cut: u64,
-    /// The first row whose vote has nothing before an id but a comma, measured by how many there are; how many
-    /// commas the last vote has, and whether all have as many.
-    gap: Option<Odd>,
-    commas: Option<usize>,
-    differ: bool,
-    /// How many votes are not empty: if all begin with a comma, it means nothing.
-    full: u64,
 }
 
 impl LastVote {
@@ -42,17 +35,6 @@ impl LastVote {
         let is_end = vote_place.saturating_add(1) == record.len();
         self.is_cut = is_end && vote.last() == Some(&b',');
         self.cut = self.cut.saturating_add(u64::from(self.is_cut));
-        if vote.is_empty() {
-            return;
-        }
-        self.full = self.full.saturating_add(1);
-        let commas = vote.iter().filter(|byte| **byte == b',').count();
-        self.differ |= self.commas.is_some_and(|before| before != commas);
-        self.commas = Some(commas);
-        if commas >= row.ballot().len() && has_gap(row.value()) {
-            let odd = row.odd(Oddity::VotesMissing).in_form(4);
-            self.gap = Some(odd.behind(self.gap));
-        }
     }
 
     /// Takes the end of the file, whose accepted rows give this election; the last may be odd.
@@ -63,7 +45,6 @@ impl LastVote {
         if self.is_cut && self.cut == 1 {
             found.take(odd.as_a(Oddity::VotesMissing).in_form(3));
         }
-        found.take_some(self.gap.filter(|gap| self.differ && gap.number < self.full));
         if self.is_note(election) {
             found.take(odd.as_a(Oddity::FooterRow).in_form(3));
         }
@@ -95,17 +76,6 @@ impl LastVote {
         let is_unlike = is_spaced && !has_spaces && (is_number || is_bare);
         (is_total && !has_totals) || is_unlike || (is_word && !has_words && is_number)
     }
-}
-
-/// Whether a vote has nothing before an id but a comma.
-fn has_gap(vote: &str) -> bool {
-    let (mut has_empty, mut has_gap) = (false, false);
-    for piece in vote.split(',') {
-        let is_empty = piece.trim().is_empty();
-        has_gap |= has_empty && !is_empty;
-        has_empty |= is_empty;
-    }
-    has_gap
 }
 
 /// Whether a vote names one project alone, by the number of the voters above it or of all projects.

@@ -1,7 +1,7 @@
 //! What was seen of the texts that a run reads, and is found when they are looked at again.
 //!
 //! While pb_read reads a .pb file, a `Witness` looks on and keeps what words need of what is refused;
-//! `Warnings` collect what is accepted and probably not meant. `EntryCounts` count the answers of a journal.
+//! `Warnings` collect what is accepted and probably not meant.
 //! After a run has failed, a text that is a file is looked at again: where a record begins, which quotation
 //! mark is open, what the proved desk answers. Nothing but that each call returns is proved of this, and no
 //! result can change by it but by `--strict`, which refuses a file for a warning.
@@ -9,12 +9,13 @@
 
 pub mod audited;
 pub mod behind_vote;
+mod beside_vote;
 pub mod cause;
 pub mod changed;
 mod column_kinds;
 mod columns;
 pub mod desk_answer;
-pub mod entry_counts;
+pub mod elsewhere;
 pub mod failures;
 pub mod faulty_record;
 pub mod fields;
@@ -44,7 +45,9 @@ mod swallowed;
 pub mod text;
 mod twins;
 pub mod unknown;
+mod unread;
 pub mod unwritable;
+mod value_columns;
 mod vote_oddities;
 mod voter_lists;
 pub mod voters;

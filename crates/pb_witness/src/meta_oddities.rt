@@ -4,7 +4,9 @@ use crate::changed::{begins, has_one_of, is_one_of};
 use crate::keys::Keys;
 use crate::prelude::*;
 use crate::row::Limits;
+use crate::unread::UnreadKeys;
 use pb_core::money_fault::MoneyFault;
+use pb_core::project::Project;
 use pb_read::MetaKey;
 use std::mem;
 
@@ -16,6 +18,11 @@ const NO_DISTRICT: &str =
 
 /// The fewest projects of which most should not cost more than the budget.
 const MANY: usize = 5;
+
+/// The fewest projects whose sum may stand in place of an amount, and the most digits of one.
+const SUMMED: usize = 4;
+
+const DIGITS: u32 = 18;
 
 /// What META's third column is called if it has values of keys.
 const VALUES: &str =
@@ -67,6 +74,7 @@ pub(crate) struct MetaOddities {
     /// district.
     further: Option<Odd>,
     has_budget_per: bool,
+    unread: UnreadKeys,
 }
 
 impl MetaOddities {
@@ -85,6 +93,7 @@ impl MetaOddities {
             has_thousands: false,
             further: None,
             has_budget_per: false,
+            unread: UnreadKeys::new(alloc),
         }
     }
 
@@ -144,6 +153,7 @@ impl MetaOddities {
             self.rule_mark = mark;
         } else {
             self.take_further(key, value, mark);
+            self.unread.take(value, mark)?;
         }
         Ok(())
     }
@@ -173,7 +183,7 @@ impl MetaOddities {
         rows: (u64, u64),
         has_districts: bool,
         found: &mut Oddities,
-    ) {
+    ) -> Result<(), AllocError> {
         let (approvals, is_whole) = (approvals_of(election), !found.refuses_votes);
         let may_be = |claim: &ClaimedNumber| {
             claim.is_usual || (is_whole && claim.number != Some(approvals))
@@ -188,10 +198,13 @@ impl MetaOddities {
             found.take(below.in_form(1));
         } else if let Some((sum, form)) = sum_below_budget(election) {
             found.take(below.as_a(Oddity::BudgetAboveCosts).in_form(form).by(sum));
+        } else if may_be_sum(election.projects(), election.budget().0) {
+            found.take(below.as_a(Oddity::BudgetAboveCosts).in_form(2));
         }
         let are_of_parts = self.has_budget_per || has_districts;
         let further = self.further.filter(|odd| are_of_parts || odd.number > 1);
         found.take_some(further.map(|odd| odd.by(0)));
+        self.unread.end(election, found)
     }
 }
 
@@ -230,6 +243,37 @@ fn above_budget(election: &Election) -> usize {
     projects.filter(|project| project.cost().0 > budget).count()
 }
 
+/// Whether these projects, four or more, of which most cost something else than the one before, cost just this amount
+/// together, and it is not rounder than their costs: then it may be their sum.
+pub(crate) fn may_be_sum(projects: &[Project], amount: u64) -> bool {
+    let (mut sum, mut before, mut differ) = (0u64, 0u64, 0usize);
+    for project in projects {
+        let cost = project.cost().0;
+        sum = sum.saturating_add(cost);
+        differ = differ.saturating_add(usize::from(cost != before));
+        before = cost;
+    }
+    if sum != amount || projects.len() < SUMMED || differ.saturating_mul(2) <= projects.len() {
+        return false;
+    }
+    projects
+        .iter()
+        .all(|project| zeros_of(amount) <= zeros_of(project.cost().0))
+}
+
+/// In how many zeros an amount ends, in hundredths.
+fn zeros_of(amount: u64) -> u64 {
+    let (mut rest, mut zeros) = (amount, 0u64);
+    for _ in 0..DIGITS {
+        if rest == 0 || rest % 10 != 0 {
+            return zeros;
+        }
+        rest /= 10;
+        zeros = zeros.saturating_add(1);
+    }
+    zeros
+}
+
 /// What all projects cost together.
 pub(crate) fn sum_of_costs(election: &Election) -> u64 {
     let projects = election.projects().iter();
@@ -246,7 +290,7 @@ fn sum_below_budget(election: &Election) -> Option<(u64, usize)> {
     match sum {
         0 => None,
         _ if are_below(100, sum) => Some((sum, 0)),
-        _ if are_below(10, sum) && are_all_below => Some((sum, 2)),
+        _ if are_below(10, sum) && are_all_below => Some((sum, 1)),
         _ => None,
     }
 }

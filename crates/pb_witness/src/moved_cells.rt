@@ -7,14 +7,6 @@ use crate::prelude::*;
 use crate::witness::Witness;
 
 impl FaultyRecord {
-    /// Whether it is the first row of VOTES, and its fields have ids of projects, one each, as column names do.
-    pub fn is_names_again(&self, ids: &Ids) -> bool {
-        let has_id = |place: usize| ids.projects.has(self.at(place));
-        let are_ids = (0..self.record.len()).all(|place| self.at(place).is_empty()
-            || has_id(place));
-        self.is_of_votes() && self.is_first_row() && are_ids && ids.are_columns(&self.record)
-    }
-
     /// Whether the row below these column names has no first field, and ids of projects in several others.
     pub fn has_names_below<R: Files>(&self, text: &Text<'_, R>, ids: &Ids) -> bool {
         let below = text.row_behind(self.mark);

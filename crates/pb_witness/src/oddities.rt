@@ -69,6 +69,9 @@ const COUNT: usize = LISTED.len();
 /// The most warnings of one kind that a check lists.
 pub const MOST: u64 = 100;
 
+/// The most texts that no count reads of which words speak.
+const MOST_UNREAD: usize = 3;
+
 /// What a row is of.
 #[derive(Clone, Copy, PartialEq, Eq)]
 pub enum Subject {
@@ -180,6 +183,14 @@ impl Odd {
         }
     }
 
+    /// The same, which repeats this earlier one.
+    pub(crate) fn repeats(self, earlier: Odd) -> Odd {
+        Odd {
+            before: Some(earlier.mark),
+            ..self
+        }
+    }
+
     /// The same, measured by this number.
     pub fn by(self, number: u64) -> Odd {
         Odd { number, ..self }
@@ -200,6 +211,8 @@ pub struct Oddities {
     pub kinds: &'static [Oddity],
     most: u64,
     found: Vec<Odd>,
+    /// Texts that no count reads, of which words alone speak: no row of a check names them.
+    pub unread: Vec<Odd>,
     counts: [u64; COUNT],
     firsts: [u64; COUNT],
     /// Whether the file has no row of VOTES, as that of a desk that has not opened.
@@ -235,6 +248,7 @@ impl Oddities {
             kinds,
             most,
             found: Vec::new(alloc),
+            unread: Vec::new(alloc),
             counts: [0; COUNT],
             firsts: [0; COUNT],
             has_no_votes: false,
@@ -269,6 +283,18 @@ impl Oddities {
         if let Some(odd) = odd {
             self.take(odd);
         }
+    }
+
+    /// Takes a text that no count reads, unless its column is odd otherwise.
+    pub(crate) fn take_unread(&mut self, odd: Odd) -> Result<(), AllocError> {
+        let is_it = |other: &Odd| match (other.names, odd.names) {
+            (Some(one), Some(names)) => one.at == names.at && other.value_place == odd.value_place,
+            _ => false,
+        };
+        if self.unread.len() < MOST_UNREAD && !self.found.iter().any(is_it) {
+            self.unread.push(odd)?;
+        }
+        Ok(())
     }
 
     /// Takes these, by where they stand.

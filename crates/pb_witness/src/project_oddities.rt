@@ -3,9 +3,13 @@
 use crate::behind_vote::names_other;
 use crate::changed::{has_digit, has_one_of, is_decimal, is_one_of};
 use crate::columns::FurtherColumns;
-use crate::meta_oddities::{has_decimals, has_thousands_mark, sum_of_costs, whole_number};
+use crate::meta_oddities::{
+    has_decimals, has_thousands_mark, may_be_sum, sum_of_costs, whole_number,
+};
 use crate::prelude::*;
 use crate::twins::Twins;
+use crate::unread::Unread;
+use crate::value_columns::ValueColumns;
 
 /// What a row of totals is called.
 const TOTALS: &str =
@@ -14,11 +18,6 @@ const TOTALS: &str =
 
 /// The fewest projects above a last one that is their sum by its cost alone.
 const MANY: usize = 4;
-
-/// The largest amounts that some columns of databases can hold, and how many costs have to be so.
-const LARGEST: &str = "32767|65535|2147483647";
-
-const FEWEST: u64 = 3;
 
 /// What columns are called that name a part of the city.
 const DISTRICTS: &str = "district|subdistrict|neighborhood|subunit";
@@ -57,16 +56,16 @@ pub(crate) struct ProjectOddities {
     name: Option<usize>,
     votes: Option<usize>,
     selected: Option<usize>,
-    /// Whether a column names a part of the city.
-    pub(crate) has_districts: bool,
+    /// The first column that names a part of the city.
+    district: Option<usize>,
     /// The fewest ballots that have to approve a project, where META says so.
     fewest: Option<u64>,
     twins: Twins,
     further: FurtherColumns,
-    /// The first project whose name says that it is withdrawn, measured by how many there are, and the first
-    /// with such a cost.
+    values: ValueColumns,
+    unread: Unread,
+    /// The first project whose name says that it is withdrawn, measured by how many there are.
     withdrawn: Option<Odd>,
-    largest: Option<Odd>,
     accepted: Vec<CheckedProject>,
 }
 
@@ -78,19 +77,20 @@ impl ProjectOddities {
         header: Mark,
         fewest: Option<u64>,
     ) -> Result<ProjectOddities, AllocError> {
-        let is_of_district = |place: usize| is_one_of(DISTRICTS, text_at(names, place));
+        let is_of_district = |place: &usize| is_one_of(DISTRICTS, text_at(names, *place));
         Ok(ProjectOddities {
             alloc,
             names: names.len(),
             name: column_of(names, "name"),
             votes: column_of(names, "votes"),
             selected: column_of(names, "selected"),
-            has_districts: (0..names.len()).any(is_of_district),
+            district: (0..names.len()).find(is_of_district),
             fewest,
             twins: Twins::new(alloc),
             further: FurtherColumns::of(alloc, names, header, Section::Projects)?,
+            values: ValueColumns::of(alloc, names, header)?,
+            unread: Unread::of(alloc, names, header)?,
             withdrawn: None,
-            largest: None,
             accepted: Vec::new(alloc),
         })
     }
@@ -106,15 +106,14 @@ impl ProjectOddities {
         }
         self.take_cut(row, found);
         let name = row.at(self.name.unwrap_or(usize::MAX));
-        self.twins.take(row, name, found)?;
+        let district = row.at(self.district.unwrap_or(usize::MAX));
+        self.twins.take(row, (name, district), found)?;
+        self.values.take(row)?;
+        self.unread.take(row);
         if says_withdrawn(name) {
-            let odd = row.odd(Oddity::ValidColumn).in_form(4);
+            let odd = row.odd(Oddity::ValidColumn).in_form(3);
             let odd = odd.at(self.name.unwrap_or(usize::MAX));
             self.withdrawn = Some(odd.behind(self.withdrawn));
-        }
-        if is_one_of(LARGEST, row.value()) {
-            let odd = row.odd(Oddity::BudgetAboveCosts).in_form(1);
-            self.largest = Some(odd.behind(self.largest));
         }
         self.further.take(row, found)?;
         self.accepted.push(CheckedProject {
@@ -144,6 +143,11 @@ impl ProjectOddities {
         }
     }
 
+    /// Whether a column names a part of the city.
+    pub(crate) fn has_districts(&self) -> bool {
+        self.district.is_some()
+    }
+
     /// Takes the end of PROJECTS, whose accepted rows give this election.
     pub(crate) fn end_rows(
         &self,
@@ -151,8 +155,8 @@ impl ProjectOddities {
         found: &mut Oddities,
     ) -> Result<(), AllocError> {
         found.take_some(self.withdrawn);
-        found.take_some(self.largest.filter(|odd| odd.number >= FEWEST));
-        self.further.end(election, found)
+        self.further.end(found);
+        self.unread.end(found)
     }
 
     /// Takes the end of a file that has a fault or not, whose accepted rows give this election.
@@ -164,13 +168,13 @@ impl ProjectOddities {
         found: &mut Oddities,
     ) -> Result<(), AllocError> {
         self.take_total(election, found);
-        self.take_shortened(election, projects, found)?;
         let compares = self.votes.is_some() && !has_fault;
         let is_check = found.tells(Oddity::NoSupporter);
-        if !compares && self.fewest.is_none() && !is_check {
-            return Ok(());
+        let supporters = supporters_of(self.alloc, election)?;
+        if !found.refuses_votes {
+            self.twins.end(supporters.as_slice(), found);
+            self.values.end(election, supporters.as_slice(), found);
         }
-        let supporters = supporters_of(self.alloc, election, false)?;
         let form = if self.has_other_ids(&supporters) {
             2
         } else {
@@ -204,42 +208,6 @@ impl ProjectOddities {
         Ok(())
     }
 
-    /// Takes each project that only votes for several projects name, where a spreadsheet turns its id alone into
-    /// that of another one, which votes name alone.
-    fn take_shortened(
-        &self,
-        election: &Election,
-        projects: &Firsts,
-        found: &mut Oddities,
-    ) -> Result<(), AllocError> {
-        let mut all = election.projects().iter();
-        if !all.any(|project| is_shortened(project.id(), projects)) {
-            return Ok(());
-        }
-        let alone = supporters_of(self.alloc, election, true)?;
-        let all = supporters_of(self.alloc, election, false)?;
-        let singles = alone
-            .iter()
-            .fold(0u64, |sum: u64, count| sum.saturating_add(*count));
-        let are_many = singles.saturating_mul(3) >= election.voters().len() as u64;
-        for (place, project) in election.projects().iter().enumerate() {
-            let id = project.id();
-            let other = projects.place(id.trim_end_matches('0')).unwrap_or(u32::MAX);
-            let is_other = alone.get(other as usize).is_some_and(|count| *count > 1);
-            let is_long = alone.get(place) == Some(&0)
-                && all.get(place).is_some_and(|count| *count > FEWEST);
-            if is_shortened(id, projects) && is_other && is_long && are_many {
-                if let Some(row) = self.accepted.get(place) {
-                    let odd = row.odd.as_a(Oddity::RepeatedKey).in_form(3);
-                    found.take(odd.at(row.odd.id_place));
-                }
-            }
-        }
-        drop(all);
-        drop(alone);
-        Ok(())
-    }
-
     /// Whether the numbers of votes that projects claim have the sum of these, but stand at other projects.
     fn has_other_ids(&self, supporters: &[u64]) -> bool {
         let (mut said, mut sum, mut differ) = (0u64, 0u64, 0u64);
@@ -257,6 +225,12 @@ impl ProjectOddities {
         let (Some(first), Some(last)) = (self.accepted.first(), self.accepted.last()) else {
             return;
         };
+        if let Some((project, above)) = election.projects().split_last() {
+            let cost = project.cost().0;
+            if cost > election.budget().0 && may_be_sum(above, cost) {
+                return found.take(last.odd);
+            }
+        }
         let place = self.accepted.len().saturating_sub(1);
         let fewest = if last.is_total { 2 } else { MANY };
         if place >= fewest && is_sum(election, place) {
@@ -301,17 +275,12 @@ fn is_shortened(id: &str, projects: &Firsts) -> bool {
     is_decimal(id) && short.len() < id.len() && projects.has(short)
 }
 
-/// How many ballots approve each project, or each alone.
-fn supporters_of(
-    alloc: Global,
-    election: &Election,
-    is_alone: bool,
-) -> Result<Vec<u64>, AllocError> {
+/// How many ballots approve each project.
+fn supporters_of(alloc: Global, election: &Election) -> Result<Vec<u64>, AllocError> {
     let mut counts = Vec::new(alloc);
     counts.resize(election.projects().len(), 0u64)?;
     for voter in election.voters() {
-        let ballot = voter.ballot.places();
-        for place in ballot.iter().filter(|_| !is_alone || ballot.len() == 1) {
+        for place in voter.ballot.places() {
             if let Some(count) = counts.get_mut(*place as usize) {
                 *count = count.saturating_add(1);
             }

@@ -40,9 +40,7 @@ pub struct Projects {
     /// The places of the projects by all of these texts.
     places: IdTable,
     /// The number of bytes of the longest id.
-    longest: usize,
-    /// The number of bytes of each id; 0 where they differ.
-    pub(crate) length: usize,
+    pub(crate) longest: usize,
     /// The place of the first whose id a spreadsheet seems to have changed.
     pub(crate) changed: Option<u32>,
     /// Whether each id has a digit; whether they differ by their numbers alone, and the greatest of these.
@@ -59,7 +57,6 @@ impl Projects {
             rows: Vec::new(text.alloc),
             places: IdTable::new(text.alloc),
             longest: 0,
-            length: 0,
             changed: None,
             have_digits: true,
             are_numbered: true,
@@ -106,8 +103,6 @@ impl Projects {
         witness: &Witness,
     ) -> Result<(), AllocError> {
         let place = u32::try_from(self.rows.len()).unwrap_or(u32::MAX);
-        let is_as_long = place == 0 || self.length == id.len();
-        self.length = if is_as_long { id.len() } else { 0 };
         self.longest = self.longest.max(id.len());
         self.have_digits &= has_digit(id);
         self.are_numbered &= self.has_front(order_of(id).0) && has_digit(id);
@@ -183,14 +178,15 @@ impl Projects {
         self.rows.get(place as usize)
     }
 
-    /// The place of the first project whose id is this one and more, of which the next is no digit.
+    /// The place of the first project whose id is this one and more, of which the next is no digit; or has it
+    /// between signs.
     pub(crate) fn begun(&self, id: &str) -> Option<u32> {
         let is_more = |rest: &str| rest.starts_with(|c: char| !c.is_ascii_digit());
-        let place = self.rows.iter().position(|row| row
-            .id
-            .as_str()
-            .strip_prefix(id)
-            .is_some_and(is_more))?;
+        let place = self.rows.iter().position(|row| {
+            let own = row.id.as_str();
+            let mut parts = own.split(|c: char| !c.is_alphanumeric());
+            own.strip_prefix(id).is_some_and(is_more) || parts.any(|part| part == id)
+        })?;
         u32::try_from(place).ok().filter(|_| has_digit(id))
     }
 

@@ -35,9 +35,10 @@ pub struct VoteRows {
     pub voters_repeated: u64,
     /// Whether a row names several projects.
     has_long: bool,
-    /// Whether a vote that is accepted names several projects, where some are refused for an unknown id; and
-    /// whether one of these has a comma.
-    pub(crate) has_list: bool,
+    /// Whether a vote that is accepted names a project, or several, where some are refused for an unknown id;
+    /// and whether one of these has a comma.
+    pub(crate) has_bare: bool,
+    has_list: bool,
     pub(crate) has_comma: bool,
     /// How many commas the last vote with ids has, and whether all have as many.
     commas: Option<usize>,
@@ -63,6 +64,7 @@ impl VoteRows {
             rows_repeated: 0,
             voters_repeated: 0,
             has_long: false,
+            has_bare: false,
             has_list: false,
             has_comma: false,
             commas: None,
@@ -142,6 +144,7 @@ impl VoteRows {
     /// Takes the projects that these ballots name.
     pub(crate) fn name_all(&mut self, election: &Election) -> Result<(), AllocError> {
         for voter in election.voters() {
+            self.has_bare |= !voter.ballot.places().is_empty();
             self.has_list |= voter.ballot.places().len() > 1;
             for place in voter.ballot.places() {
                 self.name(*place)?;

@@ -32,7 +32,7 @@ pub(crate) fn swallows_row(
         return false;
     }
     for place in 0..record.len() {
-        let lines = later_lines(record, place);
+        let (first, lines) = raw_text(record, place).split_once('\n').unwrap_or(("", ""));
         let lines = lines.strip_suffix('\n').unwrap_or(lines);
         let last = lines.split('\n').count();
         for (number, line) in lines.split('\n').enumerate() {
@@ -43,8 +43,9 @@ pub(crate) fn swallows_row(
             } else {
                 1
             };
-            let fields = line.split(';').count().saturating_add(behind);
-            if fields > names && is_row(line, part, projects) {
+            let count = line.split(';').count();
+            let goes_on = is_last && count > place && is_end(first, place, part, projects);
+            if count.saturating_add(behind) > names && (goes_on || is_row(line, part, projects)) {
                 return true;
             }
         }
@@ -53,7 +54,7 @@ pub(crate) fn swallows_row(
 }
 
 /// Whether a line seems to be a row of META that the count uses, of a project with a cost, or of a voter who
-/// votes for these projects.
+/// votes for these projects; within the name of a column any row.
 fn is_row(line: &str, part: Part, projects: &Firsts) -> bool {
     match part {
         Part::Key if line.contains(';') => match MetaKey::of(field_of(line, 0)) {
@@ -69,6 +70,21 @@ fn is_row(line: &str, part: Part, projects: &Firsts) -> bool {
             !field_of(line, columns.voter).is_empty()
                 && names_other(field_of(line, columns.vote), &[], projects).is_some()
         }
+        Part::Names(_) => line.contains(';'),
+        _ => false,
+    }
+}
+
+/// Whether a line whose first field is at this place of a row seems to end it: a cost is behind that, or a vote
+/// for these projects.
+fn is_end(line: &str, place: usize, part: Part, projects: &Firsts) -> bool {
+    let behind = |column: usize| match column.checked_sub(place) {
+        None | Some(0) => "",
+        Some(further) => field_of(line, further),
+    };
+    match part {
+        Part::Project(columns) => Money::read(behind(columns.cost)).is_ok(),
+        Part::Vote(columns) => names_other(behind(columns.vote), &[], projects).is_some(),
         _ => false,
     }
 }

@@ -1,15 +1,16 @@
 //! What is odd in VOTES.
 
 use crate::behind_vote::{BehindVote, names_other};
-use crate::cause::{comes_next, order_of};
-use crate::changed::{form_of, has_digit, has_one_of, is_decimal, is_digits, without_hidden};
+use crate::beside_vote::BesideVote;
+use crate::changed::{form_of, has_digit, has_one_of, without_hidden};
 use crate::columns::FurtherColumns;
 use crate::last_vote::LastVote;
 use crate::meta_oddities::whole_number;
 use crate::prelude::*;
 use crate::project_oddities::has_total;
 use crate::rankings::Rankings;
-use crate::voter_lists::{are_lists, ends_in_projects};
+use crate::unread::Unread;
+use crate::voter_lists::ends_in_projects;
 
 /// What stands in place of an id below a list that was signed.
 const SIGNED: &str = "signed|signature|podpis|unterschrift";
@@ -26,8 +27,9 @@ pub(crate) struct VoteOddities {
     pub(crate) names: usize,
     further: FurtherColumns,
     behind: BehindVote,
-    /// The voters whose ids have a character at an end that can't be seen, or end in `.0`: the place among all,
-    /// and the row.
+    beside: BesideVote,
+    unread: Unread,
+    /// The voters whose ids have a character at an end that can't be seen: the place among all, and the row.
     marked: Vec<(u32, Mark)>,
     /// Where the last row begins, and what it is.
     last_row: Option<(Mark, Part)>,
@@ -41,8 +43,6 @@ pub(crate) struct VoteOddities {
     first_note: Option<Odd>,
     /// The first row whose id begins as what programs leave out, measured by how many there are.
     left_out: Option<Odd>,
-    /// The first row whose id is several ids, from one to another, measured by how many there are.
-    range: Option<Odd>,
     rankings: Rankings,
     last: LastVote,
 }
@@ -61,6 +61,8 @@ impl VoteOddities {
             names: names.len(),
             further: FurtherColumns::of(alloc, names, header, Section::Votes)?,
             behind: BehindVote::of(alloc, names, header, projects)?,
+            beside: BesideVote::of(alloc, names, header)?,
+            unread: Unread::of(alloc, names, header)?,
             marked: Vec::new(alloc),
             last_row: None,
             empty: 0,
@@ -69,7 +71,6 @@ impl VoteOddities {
             first_has_more: false,
             first_note: None,
             left_out: None,
-            range: None,
             rankings: Rankings::new(alloc),
             last: LastVote::default(),
         })
@@ -91,6 +92,8 @@ impl VoteOddities {
             found.take(row.odd(Oddity::TwiceInVote));
         }
         self.last_row = Some((row.mark, row.part));
+        self.beside.take(row);
+        self.unread.take(row);
         self.take_id(row, found)?;
         let is_long = row.record.len() > self.names;
         if is_long {
@@ -109,17 +112,10 @@ impl VoteOddities {
     fn take_id(&mut self, row: &Row<'_>, found: &mut Oddities) -> Result<(), AllocError> {
         let id = bytes_at(row.record, row.places().0);
         let is_plain = is_plain_end(id.first()) && is_plain_end(id.last());
-        if (!is_plain && is_marked(row.id())) || ends_in_zero(id) {
+        if !is_plain && is_marked(row.id()) {
             let voters = row.election.voters().len().saturating_sub(1);
             let place = u32::try_from(voters).unwrap_or(u32::MAX);
             self.marked.push((place, row.mark))?;
-        }
-        if id.contains(&b'\n') && !id.contains(&b';') {
-            found.take(row.odd(Oddity::HiddenCharacter).in_form(2));
-        }
-        if is_range(row) {
-            let odd = row.odd(Oddity::HiddenCharacter).in_form(3);
-            self.range = Some(odd.behind(self.range));
         }
         if id.starts_with(b"#") || id.starts_with(b"//") {
             let odd = row.odd(Oddity::NoteRows).in_form(2);
@@ -201,7 +197,6 @@ impl VoteOddities {
         let voters = election.voters().len() as u64;
         let are_few = |odd: &Odd| odd.number.saturating_mul(2) <= voters;
         found.take_some(self.left_out.filter(are_few));
-        found.take_some(self.range);
         let may_be = self.last_empty > 0 && self.last_empty == self.empty;
         let are_last = may_be && self.are_notes(election)?;
         let is_voter = self.first_has_more && have_spaces(election);
@@ -228,12 +223,9 @@ impl VoteOddities {
             let odd = Odd::of_column(Oddity::VotesWithPoints, self.header, odd.value_place);
             found.take(odd.in_form(1).by(projects));
         }
-        if let (Some(odd), true) = (last, are_lists(self.alloc, election)?) {
-            let odd = Odd::of_column(Oddity::SeveralBallots, self.header, odd.id_place);
-            found.take(odd.in_form(2));
-        }
-        self.further.end(election, found)?;
-        self.behind.end(self.alloc, found)?;
+        self.further.end(found);
+        self.behind.end(self.alloc, &self.beside, found)?;
+        self.unread.end(found)?;
         self.take_marked(election, found)
     }
 
@@ -258,36 +250,24 @@ impl VoteOddities {
         Ok(true)
     }
 
-    /// Takes the rows of voters who are there twice but for a character that can't be seen, or for `.0`, if
-    /// no id has another number behind a point.
+    /// Takes the rows of voters who are there twice but for a character that can't be seen.
     fn take_marked(&self, election: &Election, found: &mut Oddities) -> Result<(), AllocError> {
         if self.marked.is_empty() {
             return Ok(());
         }
-        let (mut ids, mut has_points) = (IdTable::new(self.alloc), false);
-        for voter in election.voters() {
-            let id = voter.id.text();
-            if !is_marked(id) && !ends_in_zero(id.as_bytes()) {
-                let _ = ids.insert(self.alloc, id, 0)?;
-                has_points |= is_decimal(id);
-            }
+        let mut ids = IdTable::new(self.alloc);
+        for voter in election
+            .voters()
+            .iter()
+            .filter(|voter| !is_marked(voter.id.text()))
+        {
+            let _ = ids.insert(self.alloc, voter.id.text(), 0)?;
         }
         for (place, mark) in &self.marked {
             let voter = election.voters().get(*place as usize);
-            let id = voter.map_or("", |voter| voter.id.text());
-            let is_hidden = is_marked(id);
-            if has_points && !is_hidden {
-                continue;
-            }
-            let bare = without_hidden(id);
-            let bare = if is_hidden {
-                bare
-            } else {
-                bare.strip_suffix(".0").unwrap_or(bare)
-            };
+            let bare = voter.map_or("", |voter| without_hidden(voter.id.text()));
             if let (Some(_), Some((_, part))) = (ids.insert(self.alloc, bare, 0)?, self.last_row) {
-                let odd = Odd::of_row(Oddity::HiddenCharacter, *mark, part);
-                found.take(odd.in_form(usize::from(!is_hidden)));
+                found.take(Odd::of_row(Oddity::HiddenCharacter, *mark, part));
             }
         }
         drop(ids);
@@ -348,38 +328,9 @@ fn is_marked(id: &str) -> bool {
     has_some && without_hidden(id).len() < id.len()
 }
 
-/// Whether an id ends in `.0`, as programs write numbers.
-fn ends_in_zero(id: &[u8]) -> bool {
-    let point = id.len().saturating_sub(2);
-    point > 0 && id.last() == Some(&b'0') && id.get(point) == Some(&b'.')
-}
-
 /// Whether a text has white space in it.
 pub(crate) fn has_space(text: &str) -> bool {
     text.contains(|c: char| c.is_whitespace())
-}
-
-/// Whether the id of a row begins with that behind the row above, and ends with a later one, as a range does.
-fn is_range(row: &Row<'_>) -> bool {
-    if is_digits(row.id()) {
-        return false;
-    }
-    let is_sign = |c: char| !c.is_alphanumeric();
-    let Some((first, rest)) = row.id().split_once(is_sign) else {
-        return false;
-    };
-    let mut above = row.election.voters().iter().rev().skip(1);
-    let last = rest.rsplit(is_sign).next().unwrap_or("");
-    let ((front, number), (other, next)) = (order_of(first), order_of(last));
-    front == other
-        && !front.is_empty()
-        && number < next
-        && !row.id().contains('\n')
-        && has_digit(first)
-        && has_digit(last)
-        && above
-            .next()
-            .is_some_and(|above| comes_next(first, above.id.text()))
 }
 
 /// Whether an id has white space in it, or a word for a total, or one for a signature and no digit.

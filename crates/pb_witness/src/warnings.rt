@@ -61,9 +61,11 @@ impl Warnings {
         }
     }
 
-    /// What was found, once the file has ended and may end there, where anything was.
+    /// What was found, once the file has ended and may end there, where anything was, or a text that no count
+    /// reads.
     pub fn found(&self) -> Option<&Oddities> {
-        self.first.is_some().then_some(&self.found)
+        let is_some = self.first.is_some() || !self.found.unread.is_empty();
+        (self.has_ended && is_some).then_some(&self.found)
     }
 
     /// The rule that META names and where, once the file has ended and may end there.
@@ -163,8 +165,8 @@ impl Warnings {
         found.refuses_votes = self.witness.rows.refused > 0;
         found.voters = election.voters().len() as u64;
         if let Some(projects) = &self.projects {
-            let has_districts = projects.has_districts;
-            self.meta.end(election, self.rows, has_districts, found);
+            let has_districts = projects.has_districts();
+            self.meta.end(election, self.rows, has_districts, found)?;
             let ids = &self.witness.ids.projects;
             projects.end(election, self.has_fault, ids, found)?;
         }

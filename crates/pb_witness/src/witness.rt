@@ -1,12 +1,12 @@
 //! Who looks on while a .pb file is read, and keeps what words need of what the reader refuses.
 
-use crate::changed::{is_base64, is_nothing};
+use crate::changed::is_nothing;
 use crate::faulty_record::{FaultyRecord, piece_of};
 use crate::ids::Ids;
 use crate::prelude::*;
 use crate::rows::VoteRows;
 use crate::seen::Seen;
-use crate::unknown::{Unknown, UnknownIds};
+use crate::unknown::UnknownIds;
 use pb_read::{MOST_FAULTS, Refusal, VoteColumns, Watch, check_pb};
 
 /// Looks on while a .pb file is read, and keeps what words need of the first 1,000 records that are refused.
@@ -53,12 +53,6 @@ impl Witness {
     pub(crate) fn is_of_other_projects(&self) -> bool {
         let is_none = !self.rows.names_project && self.ids.left_out.len() == 0;
         is_none && self.unknown.found.len() > 1
-    }
-
-    /// Whether no vote names a project, and an id that votes name ends as a code in base64 does.
-    pub(crate) fn are_coded(&self) -> bool {
-        let is_code = |unknown: &Unknown| is_base64(unknown.id.as_str());
-        self.is_of_other_projects() && self.unknown.found.iter().any(is_code)
     }
 
     /// Takes a record that is accepted, and begins here.

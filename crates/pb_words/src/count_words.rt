@@ -42,6 +42,17 @@ pub fn count_words(
     out.finish()
 }
 
+/// Words for a count of the .pb file with this path whose ties are not told; no path is standard input.
+pub fn too_many_runs_words(alloc: Global, path: Option<&str>) -> Said {
+    let mut out = WordsWriter::new(alloc);
+    out.fill(
+        "{}: the count has more than 1000 runs (one for each raise), so its ties are not listed. `pb_app page` \
+        shows those of a winner and a loser in the run that decided.\n",
+        &[Name(path)],
+    );
+    out.finish()
+}
+
 /// Words for what to do about raises that were spent: what is known of more raises, and of a step that
 /// decides.
 pub fn spent_words(

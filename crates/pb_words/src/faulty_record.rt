@@ -15,14 +15,11 @@ pub(crate) const BY_COLUMN: &str =
 const NO_ID: &str =
     "Look at the ballots before you write an id: ids may stand in the middle of their rows, or below, as where merged cells were taken apart, or the column `vote` may have slid down by one cell. If the row is a ballot of the voter above, write that voter's id. If it is another voter's ballot, write any id that no other row has. If it is a total, delete it.\n";
 
-const NAMES_TWICE: &str =
-    "This row has ids of projects, one in each field, as a row of column names has. If it is one, delete it. If not, look at the voter's ballot.\n";
-
 const NAMES_AND_ROW: &str =
     "The first row may stand behind the column names, on the same line. If so, begin a new line where it begins.\n";
 
 const NAMES_BELOW: &str =
-    "The row of column names stands further below. Move it up, to the line below the heading. If what then stands below it is no project and no vote, delete it.\n";
+    "The row of column names stands further below. Move it up, to the line below the heading. If what then stands below it is no row of the table, do what it says of other rows before you delete it.\n";
 
 const NOTE_ABOVE: &str =
     "The row of column names stands further below. If this line says that rows are left out or not valid, or what signs or amounts mean, ask first. If not, delete it.\n";
@@ -64,23 +61,21 @@ impl<R: Files> Case<'_, R> {
             (ReadKind::NoSection, _) => self.start_remedy(),
             (ReadKind::SectionOrder, stage) => wrong_head(stage, self.faulty.at(0)).1,
             (ReadKind::NoHeader, _) if self.faulty.is_same_head() =>
-                "Delete one of the two lines.\n",
+                "If nothing is missing between the two lines, delete one of them.\n",
             (ReadKind::NoHeader, _) => self.names().add_header,
             (ReadKind::MissingColumn, _) => self.column_remedy(),
-            (ReadKind::EmptyId, Stage::InVotes(_)) if self.faulty.is_names_again(ids) =>
-                NAMES_TWICE,
             (ReadKind::EmptyId, Stage::InVotes(_)) if self.faulty.is_ballot(ids) => NO_ID,
             (ReadKind::MissingField, _) if self.faulty.is_invisible() =>
                 "Delete the line. (Some programs put such a character at the end of a file.)\n",
             (ReadKind::BadMoney, Stage::InProjects(_))
                 if self.faulty.is_id_alone() || self.faulty.value().starts_with("--") =>
-                "Write the amount with digits only, like `1200` or `1200.50`. If the row is a heading or a note, and no project, delete it, but not before you did what it says.\n",
+                "If it is a project, write its whole amount with digits only, like `1200` or `1200.50`. If it is a heading, a note or a line of dashes, do what it says of the rows above or below it before you delete it. If it begins another table, take all of that table out; if it has budgets of districts or the like, this program can't count the file.\n",
             (ReadKind::BadMoney, _) => amount_remedy(self.faulty.value()),
             (ReadKind::MoneyTooFine, _) => fine_remedy(self.faulty.value()),
             (ReadKind::MissingField, Stage::InProjects(_)) if is_one =>
-                "If it is the heading of the votes, write VOTES. If it is the end of a text on the line above, join the two lines. If it is a note, delete it.\n",
+                "If it is the heading of the votes, write VOTES. If it is the end of a text on the line above, join the two lines. If it is a heading or a note, do what it says of the rows above or below it before you delete it. If it begins another table, take all of that table out; if it has budgets of districts or the like, this program can't count the file.\n",
             (ReadKind::MissingField, Stage::InProjects(_)) =>
-                "Complete the row, or delete it if it does not belong here.\n",
+                "Find out what belongs there, and complete the row. If it is a heading or a note, do what it says of the rows above or below it before you delete it.\n",
             (kind, _) => words_of(kind).1,
         }
     }
@@ -210,7 +205,8 @@ impl<R: Files> Case<'_, R> {
         let is_cut = self.faulty.record.len() > MOST_NAMES;
         out.put(if is_cut { ", and others.\n" } else { ".\n" });
         // Behind an odd line end the name would take the first row's field with it.
-        if !self.faulty.has_other_line_end() && !self.has_row_behind() {
+        let has_other = self.faulty.has_other_line_end() || self.has_row_behind();
+        if !has_other && !self.known.witness.ids.are_columns(&self.faulty.record) {
             self.put_nearly(out, column);
         }
     }
@@ -221,7 +217,7 @@ impl<R: Files> Case<'_, R> {
         match nearly(0) {
             Ok(Some(place)) => match nearly(place.saturating_add(1)) {
                 Ok(Some(other)) => out.fill(
-                    "Find out whether {} or {} is this column, and write `{}` in its place. If both are parts of it (costs to be added up, or several choices), make one column of them.\n",
+                    "Find out whether {} or {} is this column, and write `{}` in its place. If both are parts of it, find out whether they add up (parts of a cost, choices of one ballot; then make one column of them), or one replaces the other (two ballots of a voter).\n",
                     &[
                         Quoted(self.faulty.at(place)),
                         Quoted(self.faulty.at(other)),

@@ -18,7 +18,7 @@ use pb_witness::desk_answer::DeskAnswer;
 const MISPLACED: &str = "A row is missing, repeated or in the wrong order.";
 
 const INCOMPLETE: &str =
-    "If the power failed or the disk was full, run `pb_app serve` first: it cuts off the incomplete end. \
+    "If the power failed or the disk was full, run `pb_app serve` first: it cuts off what follows an empty line. \
     If not, the journal is not as the desk wrote it.";
 
 /// Words for a fault of a journal that was audited on a .pb file.

@@ -50,8 +50,8 @@ const WORKBOOK: &str =
 const JSON: &str =
     ": the file looks like JSON.\nGet the .pb file itself, which is text with `;` between the fields.\n";
 
-const UTF_16: &str =
-    ": the file looks like text in the encoding UTF-16.\nSave the file again with the encoding UTF-8.\n";
+const WIDE: &str =
+    ": the file looks like text in the encoding UTF-16 or UTF-32.\nSave the file again with the encoding UTF-8.\n";
 
 /// What is said of a file in which no line has a text.
 pub(crate) const EMPTY: &str = ": the file is empty.\nGet or save the file again.\n";
@@ -64,30 +64,31 @@ pub(crate) fn put_looks<R: Files>(out: &mut WordsWriter, text: &Text<R>) -> bool
         return false;
     };
     let bytes = &buffer[..count.min(512)];
-    let is_utf_16 = is_utf_16(bytes);
+    let is_wide = is_wide(bytes);
     let is_workbook = bytes.starts_with(b"PK")
         && text.path.is_some_and(|path| path.ends_with(".xlsx"));
     let looks = match looks_by(bytes) {
         _ if is_workbook => Some(WORKBOOK),
-        _ if is_utf_16 => Some(UTF_16),
+        _ if is_wide => Some(WIDE),
         looks => looks,
     };
     let Some(looks) = looks else {
         return false;
     };
     out.fill("{}{}", &[Name(text.path), Own(looks)]);
-    if is_utf_16 || is_workbook {
+    if is_wide || is_workbook {
         put_clean(out, text, "");
     }
     true
 }
 
-/// Whether a text seems to be encoded in UTF-16: it has the mark of it, or each second byte is 0.
-fn is_utf_16(bytes: &[u8]) -> bool {
+/// Whether a text seems to be encoded in UTF-16 or UTF-32: it has the mark of it, or each second byte is 0.
+fn is_wide(bytes: &[u8]) -> bool {
     let is_0 = |place: usize| bytes.get(place) == Some(&0);
     let is_pair = |first: usize, second: usize| is_0(first) && !is_0(second);
     bytes.starts_with(b"\xff\xfe")
         || bytes.starts_with(b"\xfe\xff")
+        || bytes.starts_with(b"\0\0\xfe\xff")
         || (is_pair(0, 1) && is_pair(2, 3))
         || (is_pair(1, 0) && is_pair(3, 2) && bytes.len() > 3)
 }

@@ -6,7 +6,8 @@ use crate::read_rules::{
 };
 use crate::unknown_words::put_clean;
 use pb_read::{Column, MetaKey};
-use pb_witness::changed::{has_thousandths, without_hidden};
+use pb_witness::changed::{has_thousandths, is_grouped, without_hidden};
+use pb_witness::elsewhere::small_amount;
 use pb_witness::fields::JoinedBy;
 use pb_witness::heads::{OddHead, head_of, late_meta};
 use pb_witness::keys::Given;
@@ -43,8 +44,26 @@ impl<R: Files> Case<'_, R> {
                 &[Number(line_of(self.text, first))],
             );
         }
+        if self.put_lost_thousands(out, value) {
+            return true;
+        }
         out.put(value_remedy(self.faulty.kind(), value));
         put_cleaning(out, self.text, self.faulty.kind(), value);
+        true
+    }
+
+    /// Puts which amount may have lost a mark that this one has between thousands, if one may have, and what to
+    /// do; answers whether one may.
+    pub(crate) fn put_lost_thousands(&self, out: &mut WordsWriter, amount: &str) -> bool {
+        let marks = amount.split(|c: char| c == '.' || c == ',').count();
+        let small = small_amount(self.text, self.faulty);
+        let Some((small, mark)) = small.filter(|_| is_grouped(amount) && marks > 2) else {
+            return false;
+        };
+        out.fill(
+            "Line {} has the amount {}, without such a mark: a spreadsheet may have read 940.000 as 940. Compare the budget and each cost with the office's list, and write all of them with digits only, like `1200` or `1200.50`.\n",
+            &[Number(line_of(self.text, mark)), Quoted(small.as_str())],
+        );
         true
     }
 

@@ -3,8 +3,9 @@
 use crate::meta_words::ONE_CHOICE;
 use crate::prelude::*;
 use crate::read_texts::RULES;
-use crate::unknown_words::DROP_ZERO_COST;
+use crate::unknown_words::{DROP_ZERO_COST, NAMES_AGAIN};
 use pb_core::money::Money;
+use pb_read::Column;
 use pb_witness::changed::{is_grouped, is_nothing, is_one_of, without_hidden};
 
 /// What may stand beside an amount and is a currency.
@@ -26,7 +27,9 @@ pub(crate) fn amount_remedy(value: &str) -> &'static str {
     };
     let number = value.trim_matches(|c: char| !c.is_ascii_digit());
     let is_broken = number.contains(|c: char| !is_of_number(c));
-    if value.starts_with('#') {
+    if is_cost(value) {
+        NAMES_AGAIN
+    } else if value.starts_with('#') {
         "A spreadsheet writes this where a column is too narrow, or a formula is wrong. Get the amount again.\n"
     } else if is_grouped(value) || number.is_empty() {
         words_of(ReadKind::BadMoney).1
@@ -78,15 +81,25 @@ pub(crate) fn clean_options(kind: ReadKind, value: &str) -> Option<&'static str>
     match kind {
         ReadKind::ZeroCost => Some(DROP_ZERO_COST),
         ReadKind::VoteType if value.eq_ignore_ascii_case(ONE_CHOICE) => Some(" --single-choice"),
-        ReadKind::BadMoney if is_grouped(value) => Some(""),
-        ReadKind::BadMoney if is_hidden_amount(value) => Some(""),
+        ReadKind::BadMoney if is_grouped(value) || is_hidden_amount(value) || is_cost(value) =>
+            Some(""),
+        ReadKind::VoteType if without_hidden(value).eq_ignore_ascii_case("approval") => Some(""),
         _ => None,
     }
 }
 
-/// Whether a value is an amount but for characters at its ends that can't be seen.
+/// Whether a value is the column's name, as where a row has the column names again.
+fn is_cost(value: &str) -> bool {
+    value.eq_ignore_ascii_case(Column::Cost.name())
+}
+
+/// Whether a value is an amount but for characters at its ends that can't be seen, or a dash for its decimals.
 fn is_hidden_amount(value: &str) -> bool {
     let bare = without_hidden(value);
+    let bare = bare
+        .strip_suffix(",-")
+        .or(bare.strip_suffix(".-"))
+        .unwrap_or(bare);
     bare.len() < value.len() && Money::read(bare).is_ok()
 }
 

@@ -19,8 +19,8 @@ Add the row of column names below the section's heading.\n",
     "a needed column is missing in the row of column names.
 PROJECTS needs the columns `project_id` and `cost`; VOTES needs `voter_id` and `vote`.\n",
     "the row has no field for a needed column.
-Find out what belongs there, and complete the row, or delete it if it does not belong here. If a voter chose \
-    nothing, leave the field empty, but keep its `;`.\n",
+Find out what belongs there, and complete the row. If a voter chose nothing, leave the field empty, but keep its `;`. \
+    If it is a heading or a note, do what it says of the rows above or below it before you delete it.\n",
     "META has no row for `budget`, or none for `vote_type`.
 Add the row that is missing: `budget;AMOUNT`, or `vote_type;approval` (only if the votes are approval \
     votes).\n",
@@ -38,11 +38,12 @@ Check whether the amount has too many digits.\n",
     "a project's cost is 0, but every project must cost something.
 Write the project's cost. If the project was withdrawn, delete its row, and take its id out of the votes.\n",
     "an id is empty.
-Fill in the id, or delete the row if it is a total or a note. First compare a few rows with the original: a column may have \
-    slid down by one cell.\n",
+First compare a few rows with the original: a column may have slid down by one cell. Fill in the id only if the \
+    row is a project or a ballot of its own. If it is a part of the row above, or a total or a note, do what it says of other rows before you delete it.\n",
     "an earlier row has the same project id.
-Find out whether the rows are one project or two. Two projects need two ids, also in the votes. One project needs \
-    one row, with its whole cost.\n",
+Find out whether the rows are one project or two. Two projects need two ids, also in the votes; if a program made \
+    their ids the same (1.10 and 1.1), get both tables again. One project needs one row, with the cost that is valid, or the sum if the rows \
+    are parts of it.\n",
     "an earlier row has the same voter id.
 Find out whether the rows are one ballot, those of different people, or which of them is valid.\n",
     "the vote names an id that no project has.

@@ -109,13 +109,12 @@ fn put_each_fault<'c, R: Files>(
     }
 }
 
-/// How many causes there are of which words are put once: those of repeated ids, and broken lines, which are
-/// two.
-const MANY_CAUSES: usize = Repeat::COUNT + 2;
+/// How many causes there are of which words are put once: those of repeated ids, and marks of conflicts.
+const MANY_CAUSES: usize = Repeat::COUNT + 1;
 
 impl<R: Files> Case<'_, R> {
     /// The number of the cause of a record's fault, if words for it are put once: a voter's repeated id, a
-    /// mark of a merge conflict, a line that an e-mail program broke.
+    /// mark of a merge conflict.
     fn cause_number(&self) -> Option<usize> {
         match self.faulty.kind() {
             ReadKind::UnknownProject => None,
@@ -123,11 +122,7 @@ impl<R: Files> Case<'_, R> {
                 let repeat = self.known.repeat_of(self.text, self.faulty);
                 (repeat.is_shared() || self.text.is_file()).then_some(repeat as usize)
             }
-            _ if self.faulty.is_conflict() => Some(Repeat::COUNT),
-            _ => self
-                .faulty
-                .is_of_mail(self.text)
-                .then_some(Repeat::COUNT + 1),
+            _ => self.faulty.is_conflict().then_some(Repeat::COUNT),
         }
     }
 

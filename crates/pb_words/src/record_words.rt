@@ -6,11 +6,11 @@ use crate::meta_words::{
     VOTE, put_cleaning, put_joined, put_late_meta, put_odd_head, put_separate,
 };
 use crate::prelude::*;
+use crate::row_causes::CUT_CODE;
 use crate::section::{due_at_end, end_remedy};
 use crate::unknown_words::{LATE_PROJECT, is_cut_code, put_clean};
 use pb_read::Stage;
 use pb_witness::cause::Cause;
-use pb_witness::changed::has_one_of;
 use pb_witness::fields::JoinedBy;
 use pb_witness::heads::{head_of, section_of};
 use pb_witness::quote::{Span, span_of};
@@ -36,7 +36,7 @@ impl<R: Files> Case<'_, R> {
             return;
         }
         let is_vote = self.faulty.kind() == ReadKind::UnknownProject;
-        if is_vote && !self.faulty.is_spaced_quote() && !self.faulty.is_ditto() {
+        if is_vote && !self.faulty.is_spaced_quote() {
             return self.put_vote(out);
         }
         let span = put_mark(out, self.text, self.faulty.mark);
@@ -74,8 +74,8 @@ impl<R: Files> Case<'_, R> {
         let _ = put_over(out, span, true);
     }
 
-    /// Puts what is wrong with a line that is read as a heading, is a mark of a merge conflict, or was broken
-    /// by an e-mail program; answers whether it is one.
+    /// Puts what is wrong with a line that is read as a heading, is a mark of a merge conflict, or ends in bytes
+    /// of 0; answers whether it is one.
     fn put_line_words(&self, out: &mut WordsWriter) -> bool {
         if let Some(records) = self.faulty.like_head(self.text) {
             let _ = put_mark(out, self.text, records.mark());
@@ -87,8 +87,6 @@ impl<R: Files> Case<'_, R> {
         }
         let words = if self.faulty.is_conflict() {
             ": this is a mark of a merge conflict: the file has two versions of the rows between `<<<<<<<` and `>>>>>>>`.\nAsk whoever made the file which version is right. Keep that one, and delete the other and the marks.\n"
-        } else if self.faulty.is_of_mail(self.text) {
-            ": this line, or the one above it, ends with `=`, as e-mail programs break long lines.\nGet the file again, as an attachment.\n"
         } else if self.has_nul() {
             ": bytes of 0 stand here, as where a program did not write a file to its end.\nGet the whole file again.\n"
         } else {
@@ -123,12 +121,6 @@ impl<R: Files> Case<'_, R> {
                 ": a space is before a quotation mark, so the mark is read as part of the text.\nDelete the space between `;` and the quotation mark.\n",
             );
             put_clean(out, self.text, "");
-        } else if self.faulty.is_quoted_meta() {
-            out.put(": a quotation mark is before META. Delete it.\n");
-        } else if self.faulty.is_ditto() {
-            out.put(
-                ": a quotation mark stands alone at the end of this line.\nIf it means `as above`, write what the row above has there. If not, delete it.\n",
-            );
         } else if put_unclosed(out, span) {
             out.put(CLOSE_IT);
         } else {
@@ -187,10 +179,10 @@ impl<R: Files> Case<'_, R> {
         if self.faulty.is_split() {
             return self.put_split(out);
         }
-        if self.faulty.is_padded(self.text) {
-            return out.put(
-                "The lines end in commas, which a spreadsheet may have put there. Delete the commas at the line ends.\n",
-            );
+        if self.faulty.kind() == ReadKind::BadMoney
+            && self.put_lost_thousands(out, self.faulty.value())
+        {
+            return;
         }
         if self.faulty.separators().is_some() {
             out.put(match self.text.joined_behind(self.faulty.mark) {
@@ -218,7 +210,7 @@ impl<R: Files> Case<'_, R> {
                 out, self.text, joined,
             ),
             Some(_) => {}
-            None if self.faulty.is_behind_mark() => put_clean(out, self.text, ""),
+            None if self.is_hidden() => put_clean(out, self.text, ""),
             None if self.faulty.is_by_project() => out.fill(
                 "If each voter has a row for each project, `pb_clean {} -o NEW.pb --repeated-voters merge` makes one ballot of a voter's rows. If each row is a person, call the column `vote`.\n",
                 &[Name(self.text.path)],
@@ -227,16 +219,16 @@ impl<R: Files> Case<'_, R> {
         }
     }
 
+    /// Whether an invisible character is before META, or beside the name of a column that is missing.
+    fn is_hidden(&self) -> bool {
+        let is_column = self.faulty.kind() == ReadKind::MissingColumn;
+        self.faulty.is_behind_mark() || (is_column && self.faulty.has_hidden_column())
+    }
+
     /// Puts what to do about a row that seems to be none of its section, or half of one; answers whether it
     /// seems so.
     fn put_row_words(&self, out: &mut WordsWriter) -> bool {
-        if self.faulty.is_rest_of_vote(self.text, self.known.witness) {
-            out.put(
-                "This may be the rest of the vote in the row above, which ends in a comma. If so, put it there. If it is a voter's id, write `;` behind it.\n",
-            )
-        } else if let Some(sign) = self.joined_vote() {
-            put_joined_vote(out, sign)
-        } else if self.faulty.record.len() == 1 && self.faulty.at(0).starts_with('{') {
+        if self.faulty.record.len() == 1 && self.faulty.at(0).starts_with('{') {
             out.put(
                 "This row seems to be JSON. Get the rows again, with their fields in the order of the column names, and `;` between them.\n",
             )
@@ -277,10 +269,8 @@ impl<R: Files> Case<'_, R> {
                 _ =>
                     "Check whether the first comma stands for `;`. If so, commas separate the fields of this row: write `;` between them, but keep the commas between the ids of a vote.\n",
             }
-        } else if self.is_message() {
-            "This may be a message of the program that wrote the file, which failed here. Then get the whole file again. If it is a heading or a note, do what it says of the rows below, then delete it.\n"
         } else if self.faulty.is_line_of_words() {
-            "If it says that rows are left out, get the whole file; a filter leaves rows out too. If it is a heading or a note, do what it says of the rows below, then delete it. If it is a vote, write all of its fields.\n"
+            "If it says that rows are left out, get the whole file; a filter leaves rows out too. If it is a heading or a note, do what it says of the rows above or below it before you delete it. If it begins another table, take all of that table out; if it has budgets of districts or the like, this program can't count the file. If it is a vote, write all of its fields.\n"
         } else if is_short && self.faulty.is_like_project(self.text) {
             LATE_PROJECT
         } else {
@@ -296,22 +286,11 @@ impl<R: Files> Case<'_, R> {
         is_one && vote.contains(',') && ids.are_all(vote)
     }
 
-    /// Whether it is a row of VOTES with one field, in which a program seems to say that it failed.
-    fn is_message(&self) -> bool {
-        let text = self.faulty.at(0);
-        let is_one = self.faulty.record.len() == 1 && self.faulty.is_of_votes();
-        is_one && (has_one_of(MESSAGES, text) || text.starts_with('<'))
-    }
-
-    /// What stands between a voter and a vote that are one field, if it is neither `;` nor a tab.
-    fn joined_vote(&self) -> Option<&str> {
-        let is_other = |c: char| c == ';' || c == '\t';
-        let sign = self.faulty.joined_vote(self.text, &self.known.witness.ids)?;
-        (!sign.contains(is_other)).then_some(sign)
-    }
-
     /// Puts that a row has more fields than there are column names, and what to do.
     fn put_split(&self, out: &mut WordsWriter) {
+        if (0..self.faulty.record.len()).any(|place| is_cut_code(self.faulty.at(place))) {
+            return out.put(CUT_CODE);
+        }
         let (fields, names) = (
             self.faulty.record.len() as u64,
             self.faulty.seen.columns as u64,
@@ -369,25 +348,4 @@ fn put_never_closed<R: Files>(
     let _ = put_unclosed(out, span);
     out.put(CLOSE_IT);
     true
-}
-
-/// Words by which programs say that they failed.
-const MESSAGES: &str = "error|exception|warning|notice|fatal|traceback|timeout|timed|ora|deadlock";
-
-/// Puts what stands between a voter and a vote in place of `;`, and what to do.
-fn put_joined_vote(out: &mut WordsWriter, sign: &str) {
-    if sign.is_empty() {
-        return out.put(
-            "If a `;` is missing between the voter's id and the vote, write it there, and leave the commas. If the row is a voter's id alone, and the voter chose nothing, write `;` behind it.\n",
-        );
-    }
-    let alike = if sign.is_ascii() {
-        ""
-    } else {
-        " (another character, though it may look alike)"
-    };
-    out.fill(
-        "If a vote stands behind the voter's id, with {}{} in place of `;`, write `;` there, and leave the commas. If the row is a voter's id alone, and the voter chose nothing, write `;` behind it.\n",
-        &[Quoted(sign), Own(alike)],
-    )
 }

@@ -9,6 +9,10 @@ use pb_witness::known::Repeat;
 const BY_PROJECT: &str =
     "Each row names one project, and ids repeat. Look at a ballot before you change anything. If each voter has a row for each project, `pb_clean {} -o NEW.pb --repeated-voters merge` makes one ballot of a voter's rows. If each row is a person (two lists put together; a ward, or a part of the id, in place of the id), `distinct` makes different voters.\n";
 
+/// What to do about copies of voters' rows.
+const COPIES: &str =
+    "Such a row is the same as the earlier one. Count the ballots on paper. If one ballot came in twice, delete the copy. If these are different people (a flat, initials), give each an id. If the copy stands in place of another row, get that row.\n";
+
 /// What to do about ids that a spreadsheet did not show.
 const NARROW: &str =
     "A spreadsheet writes this where a column is too narrow. Get the ids again, from a wider column.\n";
@@ -42,12 +46,26 @@ impl<R: Files> Case<'_, R> {
 
     /// Whether voters' ids repeat in other rows than copies.
     fn repeats_otherwise(&self) -> bool {
-        let reasons = [Repeat::Unknown, Repeat::Times, Repeat::Log];
+        let reasons = [Repeat::Unknown, Repeat::Times];
         let is_voter = self.faulty.kind() == ReadKind::RepeatedVoter;
         let mut counts = reasons
             .iter()
             .map(|reason| self.known.repeated_for(self.text, *reason).count);
         is_voter && counts.any(|count| count > 0)
+    }
+
+    /// Puts between which ids copies stand in place of others, if they seem to.
+    fn put_pasted_over(&self, out: &mut WordsWriter) {
+        if let Some((above, below)) = self.known.pasted_over(self.text, self.faulty) {
+            let place = self.faulty.places().0;
+            out.fill(
+                "Copies stand between {} and {}, where the ids between these should stand: rows may have been pasted over others. If so, get the lost rows from the ballots.\n",
+                &[
+                    Quoted(text_at(&above, place)),
+                    Quoted(text_at(&below, place)),
+                ],
+            )
+        }
     }
 
     /// Puts why rows with one project each are probably no rows of one voter, or not all of them votes.
@@ -82,20 +100,22 @@ impl<R: Files> Case<'_, R> {
             Repeat::Copy if self.repeats_otherwise() => out.put(
                 "The rows are the same, but other ids repeat with other votes. What is true of those rows is probably true of these.\n",
             ),
-            Repeat::Copy if is_voter && self.known.repeated_for(self.text, repeat).count > 1 => {
-                out.put(
-                    "Each of these rows is a copy of an earlier one. Count the ballots on paper: if the rows came in twice, delete the copies; if they are other people's, give them ids of their own; if they stand in place of other rows, get those.\n",
-                )
+            Repeat::Copy if is_voter => {
+                self.put_pasted_over(out);
+                out.put(COPIES)
             }
+            Repeat::Unknown if is_voter && self.faulty.value().is_empty() => return out.put(
+                "The later row has no vote: it may take the vote back, and then neither row counts. Ask whoever made the file. If it has no meaning, delete it.\n",
+            ),
             Repeat::Unknown => out.put(words_of(kind).1),
             _ => out.fill(remedy_of(repeat, is_voter), &[Name(self.text.path)]),
         }
         match repeat {
-            Repeat::OtherPeople | Repeat::OneId | Repeat::TimeId => {
+            Repeat::OtherPeople | Repeat::OneId => {
                 put_clean(out, self.text, " --repeated-voters distinct")
             }
             Repeat::Unknown if is_voter => out.fill(
-                "`pb_clean {} -o NEW.pb --repeated-voters merge` makes one ballot of the rows, `distinct` makes different voters, `first` or `last` keeps one row.\n",
+                "`pb_clean {} -o NEW.pb --repeated-voters WORD` does one of these, once you know which: `merge` makes one ballot of the rows, `distinct` makes different voters, `first` or `last` keeps the row that stands first or last in the file.\n",
                 &[Name(self.text.path)],
             ),
             _ => {}
@@ -119,16 +139,10 @@ fn remedy_of(repeat: Repeat, is_voter: bool) -> &'static str {
             "META counts all rows (`num_votes`), so these may be different people whose ids were used twice. If they are, give each of them an id of its own.\n",
         Repeat::OneId =>
             "These rows have the same id. If they are different people, give each of them an id of its own.\n",
-        Repeat::TimeId =>
-            "The id looks like a time, at which several people may vote. If the rows are one person's, find out which is valid. If they are different people, give each of them an id of its own.\n",
-        Repeat::Log =>
-            "The rows seem to be a log, which says what was done to each vote. Get the votes as they are at its end: a row may take a vote away.\n",
         Repeat::Times =>
-            "The rows have different times. If a later vote replaces an earlier one, keep the later row. If not, find out whether they are one ballot, or those of different people.\n`pb_clean {} -o NEW.pb --repeated-voters last` keeps the row of each voter that stands last in the file, `merge` makes one ballot of the rows, `distinct` makes different voters.\n",
-        Repeat::Copy if is_voter =>
-            "The two rows are the same. If they are one person's, delete one of them. If they are two people's, give one of them another id.\n",
+            "The rows have different times. If a later vote replaces an earlier one, keep the later row. If not, find out whether they are one ballot, or those of different people.\n`pb_clean {} -o NEW.pb --repeated-voters WORD` does one of these, once you know which: `last` keeps the row of each voter that stands last in the file (see whether it is the later one), `merge` makes one ballot of the rows, `distinct` makes different voters.\n",
         Repeat::Copy =>
-            "The two rows are the same. If no other project is missing, delete one of them.\n",
+            "The two rows are the same. Compare PROJECTS with the office's list. If a project is missing, write it in place of one of them. If none is, delete one.\n",
         Repeat::Apart | Repeat::Unknown => "",
     }
 }

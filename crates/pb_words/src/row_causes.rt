@@ -6,14 +6,18 @@ use pb_core::money::Money;
 use pb_witness::cause::Cause;
 use pb_witness::faulty_record::FaultyRecord;
 
+/// What to do about a row that a code of a web page has cut.
+pub(crate) const CUT_CODE: &str =
+    "A code of a web page, such as `&amp;`, stands in the row, and its `;` has cut it. Get the file again, as text.\n";
+
 impl<R: Files> Case<'_, R> {
     /// Puts what the row of a vote shows of why its ids are unknown, and what to do; answers whether it shows
     /// something.
     pub(crate) fn put_row_cause(&self, out: &mut WordsWriter) -> bool {
         if is_cut_code(self.faulty.piece()) {
-            out.put(
-                "This ends in a code of a web page, such as `&amp;`, whose `;` has cut the row. Get the file again, as text.\n",
-            )
+            out.put(CUT_CODE)
+        } else if let Some((place, is_of_votes)) = self.known.again.elsewhere {
+            self.put_elsewhere(out, place, is_of_votes)
         } else if self.faulty.has_titles() {
             out.put(
                 "If this row has titles or types of the columns, and is no vote, delete it; also a line of dashes below their names. If not, ask whoever made the file what is meant.\n",
@@ -32,11 +36,6 @@ impl<R: Files> Case<'_, R> {
             )
         } else if let Some((moved, place)) = self.moved_of() {
             self.put_moved(out, moved, place)
-        } else if let Some(mark) = self.joined_project(self.faulty.piece()) {
-            out.fill(
-                "The row on line {} has too many fields, and one of them ends with this id: two rows may stand on one line. If so, begin a new line before the id.\n",
-                &[Number(line_of(self.text, mark))],
-            )
         } else if let Some(mark) = self.broken_project() {
             out.fill(
                 "The row of PROJECTS on line {} has a fault, and may be this project's. Correct that line first.\n",
@@ -46,6 +45,22 @@ impl<R: Files> Case<'_, R> {
             return false;
         }
         true
+    }
+
+    /// Puts which column, the one at this place of VOTES or of PROJECTS, has all unknown ids.
+    fn put_elsewhere(&self, out: &mut WordsWriter, place: usize, is_of_votes: bool) {
+        let seen = &self.faulty.seen;
+        let names = if is_of_votes {
+            seen.names
+        } else {
+            seen.project_names
+        };
+        if let Some(names) = self.text.row_at(names) {
+            out.fill(
+                "All ids that no project has stand in column {}. Compare some votes with the ballots. If they differ, get the votes again. If the ballots have the ids of that column, call it `project_id`, and the other one `comment`.\n",
+                &[Quoted(text_at(&names, place))],
+            )
+        }
     }
 
     /// Where a row of VOTES was refused that seems to be the project with this id.
@@ -61,24 +76,6 @@ impl<R: Files> Case<'_, R> {
         let has_it = |it: &FaultyRecord| (0..it.record.len()).any(|place| it.at(place) == id);
         let found = refused.find(|it| it.is_of_projects() && has_it(it))?;
         Some(found.mark)
-    }
-
-    /// Where a row of PROJECTS, or its column names, has more fields than the row below, and one that ends
-    /// with this id.
-    fn joined_project(&self, id: &str) -> Option<Mark> {
-        let names = self.text.row_at(self.faulty.seen.project_names)?;
-        let is_end = |field: &str| field.len() > id.len() && field.ends_with(id);
-        let ends = |row: &ByteRecord| (1..row.len()).any(|place| is_end(text_at(row, place)));
-        let columns = names.len();
-        let is_long = |row: &ByteRecord| row.len() > columns && ends(row);
-        let (row, mark) = if ends(&names) {
-            (names, self.faulty.seen.project_names)
-        } else {
-            self.text.find(self.faulty.seen.project_names, is_long)?
-        };
-        let below = self.text.row_behind(mark)?;
-        let is_before = mark.at < self.faulty.seen.names.at;
-        (is_before && below.len() < row.len()).then_some(mark)
     }
 
     /// Where a row of PROJECTS was refused whose id is missing, an amount, or this one and more, if no other

@@ -70,7 +70,7 @@ pub(crate) fn wrong_head(stage: &Stage, head: &str) -> (&'static str, &'static s
         _ => (
             ": {} begins a section that the file has already.\n",
             if head.eq_ignore_ascii_case("META") {
-                "Each section may come only once. If PROJECTS below is the same, these are more votes of one election: move them below the votes above, and delete the rest. If the file has two elections, put each into a file of its own.\n"
+                "Each section may come only once. If PROJECTS below is the same, these are more votes of one election: move them below the votes above, in the order of the columns there, and delete the rest. If the file has two elections, put each into a file of its own.\n"
             } else {
                 "Each section may come only once. If these rows belong to this election, move them below the section's first rows, in the order of the columns there, without the heading and the column names. If they belong to another, put that into a file of its own.\n"
             },

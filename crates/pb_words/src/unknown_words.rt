@@ -13,6 +13,8 @@ use pb_witness::unknown::Votes;
 pub(crate) const LATE_PROJECT: &str =
     "This row looks like a project. If it is one, move it above the heading VOTES. If not, ask whoever made the file.\n";
 
+pub(crate) const NAMES_AGAIN: &str = "If this line has the column names again, delete it.\n";
+
 /// What to do about rows of VOTES whose ids are those of projects.
 const LISTED: &str =
     "This row and one beside it have ids of projects in place of voters: they may be a list or a tally, and no votes. If so, delete all of its rows. If not, ask whoever made the file what is meant.\n";
@@ -68,14 +70,12 @@ fn remedy_of(cause: Cause) -> &'static str {
         Cause::Date =>
             "A spreadsheet may have made a date of the id. Get the votes again, as text.\n",
         Cause::Nothing =>
-            "Programs write this where a value is missing. Look at the ballot. If the voter approves no project, leave the field empty.\n",
+            "Programs write this where a value is missing. Look for the ballot. If there is none, as in a list of all voters, the row is no vote: take it out. If the voter approves no project, leave the field empty.\n",
         Cause::Beside =>
             "Programs write this where a value is missing: to fill up a vote, or for a name that they did not find. Look at the ballot. If no id is missing there, take it out of the vote.\n",
         Cause::Places =>
             "This is beside other ids. Look at the ballot. If the votes name places in the list of projects, counted from 0, or this is the rest of a longer id, get them again, with the ids of the projects. If 0 fills up a vote for fewer projects, take it out.\n",
         Cause::Columns => BY_COLUMN,
-        Cause::Tick =>
-            "This says yes or no, but not of which project. Get the ids that the voter approves.\n",
         Cause::Alike(difference, is_project) => alike_remedy(difference, is_project),
         Cause::Name =>
             "This is the name of project {} on line {}. If it is meant, write its id in the vote.\n",
@@ -89,7 +89,7 @@ fn remedy_of(cause: Cause) -> &'static str {
         Cause::Several =>
             "Several projects have almost this id, or this name. Ask whoever made the file which of them is meant.\n",
         Cause::Begun =>
-            "The id {} on line {} begins with this one, and others may. Ask whoever made the file which project is meant.\n",
+            "The id {} on line {} has this one in it, and others may. Ask whoever made the file which project is meant.\n",
         Cause::Unknown | Cause::Near => words_of(ReadKind::UnknownProject).1,
         cause => list_remedy(cause),
     }
@@ -102,37 +102,28 @@ fn list_remedy(cause: Cause) -> &'static str {
             "This seems to be a word in place of ids. Ask whoever made the file what it means.\n",
         Cause::OtherElection =>
             "No vote of the file names a project. PROJECTS and VOTES may be of two elections, or the ids of one of them were changed. Get the whole file again.\n",
-        Cause::Coded =>
-            "No vote of the file names a project, and some end with `=`: the votes may be coded, as in base64. Get them again, with the ids of the projects.\n",
         Cause::Range =>
             "This may be a range of ids, several ids, one in place of another, or an id with points, which this program can't count. Look at the voter's ballot, and write all ids that are meant, with `,` between them.\n",
         Cause::Joined =>
             "A word stands between the ids. It may say `and`, `or`, `to` or `not`. Look at the voter's ballot, or ask whoever made the file.\n",
-        Cause::Php =>
-            "This looks like a list as PHP writes it. Get the votes again, with the ids of the projects.\n",
         Cause::CutOff =>
             "This seems to be cut off, as programs show long texts, and what is left may be a part of an id. Get the votes again, whole.\n",
         Cause::Kept =>
             "The project {} on line {} differs only by zeros before a number, but other votes have these zeros, so a program may have made this id out of another one. Look at a ballot, or get the votes again, as text. If it is meant, write its id in the vote.\n",
-        Cause::Signs =>
-            "This may be a range of ids. Or it has one sign for each project, in the order of PROJECTS: its id where the voter approves it, another sign where not. Look at the voter's ballot. If it has such signs, write only these ids, with `,` between them. If not, write all ids that are meant.\n",
-        Cause::Run =>
-            "If these are several ids whose commas are lost, get the votes again, as text. If it is the id of a project that was withdrawn, take it out of the votes. If neither, ask whoever made the file which project is meant.\n",
-        Cause::Percent =>
-            "Codes such as `%2C` stand for other characters here (this one for a comma), as in the address of a web page. Decode all of them, or get the votes again.\n",
-        Cause::Mail =>
-            "This ends with `=`, as e-mail programs break long lines. Get the file again, as an attachment.\n",
-        Cause::NamesAgain => "If this line has the column names again, delete it.\n",
+        Cause::NamesAgain => NAMES_AGAIN,
         Cause::OnLines => "The ids are on lines of their own: write `,` between them.\n",
         Cause::TwoLines =>
             "A line end stands in the vote. It may part two ballots, or an old vote and a new one, or break an id, or begin a note. Look at the voter's ballot, and write all ids that are meant, with `,` between them. If a note says that the vote is not valid, delete the row.\n",
         Cause::Blanks =>
             "The vote has spaces between the ids. Look at a ballot: if these are several ids, write `,` between them; if the space is within one id, take it out.\n",
-        Cause::Bars => "The vote has `|` between the ids: write `,` instead.\n",
-        Cause::Marks => "The vote has another character between the ids: write `,` instead.\n",
+        Cause::Bars =>
+            "The vote has `|` between the ids. Look at a ballot: if these are several ids that the voter approves, write `,` between them. Points, ranks and substitutes are no approvals.\n",
+        Cause::Marks =>
+            "The vote has another character between the ids. Look at a ballot: if these are several ids that the voter approves, write `,` between them. Points, ranks and substitutes are no approvals.\n",
         Cause::Together =>
-            "This seems to be ids of projects without commas between them. A spreadsheet may have taken these away: then get the votes again, as text. Or one id was struck out for another: look at the voter's ballot.\n",
-        Cause::Quotes => "Delete all quotation marks in the vote.\n",
+            "If these are several ids whose commas are lost, get the votes again, as text. If one id was struck out for another, look at the voter's ballot. If it is the id of a project that was withdrawn, take it out of the votes. If none of this, ask whoever made the file which project is meant.\n",
+        Cause::Quotes =>
+            "If only some votes of several ids have quotation marks, look at these ballots first: somebody may have marked them. If not, delete all quotation marks in the vote.\n",
         cause => bracket_remedy(cause),
     }
 }
@@ -140,14 +131,12 @@ fn list_remedy(cause: Cause) -> &'static str {
 /// What to do about decimals, ids that are shifted, and brackets around ids.
 fn bracket_remedy(cause: Cause) -> &'static str {
     match cause {
-        Cause::CommaZeros =>
-            "`,00` may be the decimals of a number: `5,00` for 5. If the votes name one project each, write its id without them. If not, look at the voter's ballot.\n",
         Cause::Shifted =>
-            "The votes may have other ids than PROJECTS: rows or places of a list (then each vote is wrong), a series that a spreadsheet continued, sums of ids, as a pivot table makes them, or ids that were joined where a text between them was replaced. Compare some votes with the ballots, also those of known ids. If they differ, get the votes again. If they agree, and the project was withdrawn, take its id out of the votes.\n",
+            "The votes may have other ids than PROJECTS: rows or places of a list (then each vote is wrong), a series that a spreadsheet continued, sums of ids, as a pivot table makes them, or ids that were joined where a text between them was replaced. Compare some votes with the ballots, also those of known ids. If they differ, get the votes again. If they agree, and the project was withdrawn, take its id out of the votes. If it was not, ask whoever made the file.\n",
         Cause::Brackets =>
             "Brackets are around the ids, as programs write lists. Write only the ids, with `,` between them.\n",
         Cause::SomeInBrackets =>
-            "Brackets are around the vote, but not around all votes of several ids, so they may mean that it does not count. Look at the ballot, or ask whoever made the file. If it counts, write only the ids. If not, delete the row.\n",
+            "Brackets are around the vote, but not around all votes, so they may mean that it does not count. Look at the ballot, and ask whoever made the file what they mean.\n",
         Cause::OneInBrackets =>
             "Brackets are around an id, but not around the whole vote. Ask whoever made the file whether the voter approves the project.\n",
         _ => "",
@@ -188,7 +177,7 @@ fn clean_of(place: &UnknownPiece) -> Option<&'static str> {
     let (vote, project) = (place.id, place.project);
     match place.cause {
         Cause::LeftOut => None,
-        Cause::Nothing | Cause::Beside | Cause::Unknown => Some(DROP_UNKNOWN),
+        Cause::Beside | Cause::Unknown => Some(DROP_UNKNOWN),
         Cause::Alike(Hidden, false) => (without_hidden(vote) == project).then_some(""),
         Cause::Alike(Hidden, true) => (without_hidden(project) == vote).then_some(""),
         cause => is_mended(cause).then_some(""),
@@ -247,8 +236,7 @@ impl<R: Files> Case<'_, R> {
                     | Cause::Nothing
                     | Cause::Shifted
                     | Cause::Alike(Difference::Front, _)
-            )
-            || (found.cause == Cause::Signs && self.faulty.has_titles());
+            );
         let may_be = is_open || found.cause == Cause::Name;
         if may_be && self.faulty.is_listed(self.text, self.known.witness) {
             return out.put(LISTED);
@@ -282,7 +270,7 @@ impl<R: Files> Case<'_, R> {
             Cause::Unknown | Cause::Near | Cause::OtherForm | Cause::Word
                 if found.votes.count == 1 && self.text.is_last(self.faulty.mark) => {
                 out.put(
-                    "This is the last row of the file. If the file is cut off, get the whole file again. If the row is a total or a note, and no vote, delete it. If not:\n",
+                    "This is the last row of the file. If the file is cut off, get the whole file again. If the row is a total or a note, do what it says of other rows before you delete it. If not:\n",
                 );
                 return out.put(remedy);
             }
@@ -435,7 +423,7 @@ impl<R: Files> Case<'_, R> {
         let votes = &found.votes;
         if votes.count > 1 {
             let reason = match found.cause {
-                Cause::NoProjects | Cause::OtherElection | Cause::Coded | Cause::Columns => "this",
+                Cause::NoProjects | Cause::OtherElection | Cause::Columns => "this",
                 cause if cause.is_shared() && cause != Cause::ChangedProject => "ids like this",
                 _ => "this",
             };

@@ -18,21 +18,21 @@ If the voter chose these projects, write their ids into the column `vote`.";
 const TOO_COSTLY: &str =
     "the projects of the vote {value} cost {sum} together, and `max_sum_cost` allows {most}
 the projects of the vote cost more together than `max_sum_cost` allows
-This ballot is counted. Check this key and the costs. If your rules do not allow the ballot, delete the row.";
+This ballot is counted. Check this key and the costs. If your rules do not allow the ballot, do with it what they say.";
 
 const TOO_CHEAP: &str =
     "the projects of the vote {value} cost {sum} together, and `min_sum_cost` asks for {most}
 the projects of the vote cost less together than `min_sum_cost` asks for
-This ballot is counted. Check this key and the costs. If your rules do not allow the ballot, delete the row.";
+This ballot is counted. Check this key and the costs. If your rules do not allow the ballot, do with it what they say.";
 
 const TOO_LONG: &str = "the vote {value} names {projects}, and `max_length` allows {limit}
 the vote names {projects}, and `max_length` allows {limit}
 This ballot is counted. Look at it, and at that of the row below: they may be two voters' ballots in one field. If your \
-    rules do not allow the ballot, delete the row.";
+    rules do not allow the ballot, do with it what they say.";
 
 const TOO_SHORT: &str = "the vote {value} names {projects}, and `min_length` asks for {limit}
 the vote names {projects}, and `min_length` asks for {limit}
-This ballot is counted. If your rules do not allow it, delete the row.";
+This ballot is counted. Look at it. If the row is right, and your rules do not allow it, do with it what they say.";
 
 /// How many kinds come first in `Oddity`.
 const FIRST_KINDS: usize = 14;
@@ -45,17 +45,13 @@ META's number of votes is wrong: the number of vote rows in the file is {number}
 If rows are missing, get the whole file again. Correct the number only if you know that every row is here.",
         "{value} is wrong: the number of vote rows in the file is {number}
 META's number of votes is wrong: the number of vote rows in the file is {number}
-If some of them are totals or notes, delete these. Otherwise correct the number.",
+Find out which rows are too many: totals, notes, copies, rows of another year or of a test, ballots that are not valid, projects that were withdrawn. Correct the number only if you know that each row counts.",
         "{value} is not a whole number in digits; the number of vote rows in the file is {number}
 META's number of votes is wrong: the number of vote rows in the file is {number}
 Write the number in digits.",
         "only this last vote ends behind a comma, so the file may be cut off
 only the last vote ends behind a comma, so the file may be cut off
 If it is, get the whole file again. If not, delete the comma.",
-        "the vote {value} has nothing before one of its ids but a comma. This concerns {rows}
-a vote has nothing before one of its ids but a comma. This concerns {rows}
-An id may be lost there, as where a name was not found. Look at the voter's ballot. If one is lost, write it. If not, \
-    delete the comma.",
     ],
     &[
         "{value} is wrong: the number of project rows in the file is {number}
@@ -63,7 +59,7 @@ META's number of projects is wrong: the number of project rows in the file is {n
 If rows are missing, get the whole file again. Correct the number only if you know that every row is here.",
         "{value} is wrong: the number of project rows in the file is {number}
 META's number of projects is wrong: the number of project rows in the file is {number}
-If some of them are totals or notes, delete these. Otherwise correct the number.",
+Find out which rows are too many: totals, notes, copies, rows of another year or of a test, ballots that are not valid, projects that were withdrawn. Correct the number only if you know that each row counts.",
         "{value} is not a whole number in digits; the number of project rows in the file is {number}
 META's number of projects is wrong: the number of project rows in the file is {number}
 Write the number in digits.",
@@ -119,7 +115,7 @@ If the point or comma separates thousands, delete it in all amounts, or run `pb_
     &[
         "this value, {value}, is used, and the one on line {line} is ignored
 a key is repeated; only the last row of a key counts
-The last row of a key counts. Delete the wrong row. If both are parts of one budget, write their sum.",
+The last row of a key counts. Find out which is right, and delete the other. If both are parts of one budget, write their sum.",
         "its id differs from that on line {line} only by zeros, points, spaces or capital letters; cost and name are the same
 two projects have ids that differ only by zeros, points, spaces or capital letters, with the same cost and name
 If they are one project, delete one row, and write the id of the other in all votes. If not, give them different \
@@ -127,20 +123,21 @@ If they are one project, delete one row, and write the id of the other in all vo
         "the key is ignored. It may be `max_length` or `min_length`, misspelled
 a key of META is ignored. It may be `max_length` or `min_length`, misspelled
 If so, correct the key. If not, give it another name.",
-        "only votes for several projects name it. A spreadsheet turns its id, where it stands alone, into {short}, another project's
-only votes for several projects name a project. A spreadsheet turns its id, where it stands alone, into another project's
-Look at ballots for that project alone: this one may be meant. If so, get the votes again, with their ids as text.",
+        "no vote names it, and it has the name of the project on line {line}
+no vote names a project, and it has the name of another one
+A lookup by name finds only one of the two. Compare votes for the other one with the ballots. If they differ, get the votes \
+    again. If not, write in both names how the projects differ.",
     ],
     &[
         "its cost, {value}, is the sum of all costs above
-the cost in the last row of PROJECTS is the sum of all costs above
-It is counted as a project. If it is a total, delete the row.",
+a cost is the sum of all costs above
+It is counted as a project. If it is one, compare its cost with the office's list. If it is a total, and no vote names it, delete the row.",
         "this last row is the only one with an empty vote
 the last row is the only one with an empty vote
 It is counted as a voter. If it says that rows are left out or not valid, or what signs or amounts mean, ask first. If it is a total or a note, delete the row.",
         "its cost, {value}, is the sum of all other costs
 the cost in the first row of PROJECTS is the sum of all other costs
-It is counted as a project. If it is a total, delete the row.",
+It is counted as a project. If it is one, compare its cost with the office's list. If it is a total, and no vote names it, delete the row.",
         "the id of this last row looks like a total or a note, but its vote names a project
 the id of the last row looks like a total or a note, but its vote names a project
 It is counted as a voter. If it says that rows are left out or not valid, or what signs or amounts mean, ask first. If it \
@@ -190,7 +187,7 @@ They are counted as voters. If they say that rows are left out or not valid, or 
         "the vote is empty, and the id looks like a note. This concerns {rows}
 It is counted as a voter. If it says that rows are left out or not valid, or what signs or amounts mean, ask first. If it is a heading, a total or a note, delete the row.",
         "the id begins with a sign by which programs leave rows out. This concerns {rows}
-It is counted as a voter. If it should be left out, delete the row. If not, write the id without the sign.",
+It is counted as a voter. Ask what the sign means. If the row should be left out, delete it. If not, write the id without the sign.",
         "the ids of the last {number} rows are those of all projects
 They are counted as voters. If these rows are a list of the projects or a tally, delete them.",
     ],
@@ -207,8 +204,8 @@ a later column names a project too, but is not counted. This concerns {rows}
 Look at some ballots first. If these are numbers of another list, find out which projects they mean. If the voters \
     chose these projects too, write all ids of a voter into the column `vote`, with `,` between them. If these are corrected \
     votes, or `vote` says how many projects the voter chose, write them in its place. If `vote` says yes \
-    or no of this project, write the id there where it says yes, and nothing where not. If none of this, give the column \
-    the name `comment`.",
+    or no of this project, write the id there where it says yes, and nothing where not. If they are \
+    another voter's, write a row for that voter. Only if the column holds no votes, call it `comment`.",
         "the vote is empty, but {value} stands in column {column}. This concerns {rows}
 the vote is empty, but another field of the row names projects. This concerns {rows}
 If the voter chose these projects, write their ids into the column `vote`. If not, and it is not the column `voter_id`, give it the name `comment`.",
@@ -226,12 +223,19 @@ If the others have values that should count, write them into the first (ids with
         "{number} columns have this name, and only the first is read
 {number} columns have the same name, and only the first is read
 If each row has several voters side by side, write a row for each of them.",
-        "it has the same ids as `project_id`, in another order, and is not read
-a column of PROJECTS has the same ids as `project_id`, in another order, and is not read
-Ask which of the two the votes mean. Call that column `project_id`, and the other one `comment`.",
         "it has another cost than `cost` in {rows}, and is not read
 a column of PROJECTS has other costs than `cost`, and is not read
 Ask which of the two has the costs that count. Call that column `cost`, and the other one `comment`.",
+        "each vote ends with what this column has in its row
+each vote ends with what a column of VOTES has in its row
+A formula may have joined one column too many. Compare some votes with the ballots. If they differ, get all votes again.",
+        "it has each id that votes name, and no vote names {projects}
+a column of PROJECTS has each id that votes name, and no vote names {projects}
+Compare some votes with the ballots. If the ballots have the values of this column, call it `project_id`, and the other \
+    one `comment`. If not, a lookup may have taken the wrong column: get all votes again.",
+        "it has the same ids as `project_id`, in another order, and is not read
+a column of PROJECTS has the same ids as `project_id`, in another order, and is not read
+Ask which of the two the votes mean. Call that column `project_id`, and the other one `comment`.",
     ],
     &[
         "points are ignored: every project named in a vote counts the same
@@ -247,10 +251,7 @@ a column says which projects are valid. The column is ignored: every project is 
 If it says that projects were withdrawn, take their rows out, and their ids out of the votes.",
         "{value} differs from line {line} in column {column}. The column is ignored: every row is counted
 a column says which rows are valid. The column is ignored: every row is counted
-If it says that votes are not valid, take their rows out.",
-        "{value} stands in column {column}. The column is ignored: the row is counted
-a column has a remark that votes are not valid. The column is ignored: every row is counted
-If the vote is not valid, take the row out. If it is valid, take out this text.",
+If it says that rows do not count, take these out. Of two copies of one ballot one stays.",
         "{value} differs from line {line} in column {column}. The column is ignored: all costs are read as one currency
 a column has different currencies. The column is ignored: all costs are read as one currency
 If the costs are in different currencies, write all of them in that of the budget. If not, write the same in all rows \
@@ -261,20 +262,16 @@ If the project was withdrawn, take its row out, and its id out of the votes. If 
         "{value} differs from line {line} in column {column}. The column is ignored: every row is counted
 a column says of which round a vote is. The column is ignored: every row is counted
 If these are votes of several rounds, make a file for each round.",
-        "{value}, in column {column}, names another project. The column is ignored: both can win
-a column of PROJECTS names other projects. The column is ignored: all of them can win
-If only one of the two may win, or one needs the other, this program can't count the file by your rules. If not, \
-    give the column the name `comment`.",
-        "{value}, in column {column}, names another row. The column is ignored: both rows are counted
-a column of VOTES names other rows. The column is ignored: all rows are counted
-If one row replaces the other, delete the row that is replaced. If it only cancels the other, delete both. If neither, \
-    give the column the name `comment`.",
     ],
     &[
         "{value} is not counted: all projects share the amount of the key `budget`
 a budget beside the key `budget` is not counted: all projects share the amount of that key
 If each district or category has a budget of its own, make a file for each: its budget, its projects, and of \
     each vote the ids of its projects.",
+        "the different amounts in column {column} are together the budget, and are not read
+the different amounts of a column of PROJECTS are together the budget, and are not read
+If they are budgets of districts or categories, make a file for each: its budget, its projects, and of each vote the \
+    ids of its projects.",
     ],
     &[
         "the row has {fields} fields, but the number of column names is {number}
@@ -290,37 +287,22 @@ If it is a vote, move it below VOTES.",
         "this id begins or ends with an invisible character. Without it, the id is another row's, so the voter is counted twice
 a voter's id begins or ends with an invisible character. Without it, the id is another row's, so the voter is counted twice
 Delete it, or type the id anew.",
-        "this id ends in `.0`, as programs write numbers. Without it, the id is another row's, so the voter may be counted twice
-a voter's id ends in `.0`, as programs write numbers. Without it, the id is another row's, so the voter may be counted twice
-If it is the same voter, keep the row that your rules count. If not, give the voter another id.",
-        "this id has a line end in it, so it may be the ids of several voters, and they are counted as one
-a voter's id has a line end in it, so it may be the ids of several voters, and they are counted as one
-If so, look at the ballots, and write a row for each voter. If not, delete the line end.",
-        "this id looks like several ids, from one to another, and the row is counted as one voter. This concerns {rows}
-the id of a row looks like several ids, from one to another, and the row is counted as one voter. This concerns {rows}
-If the row stands for several ballots, write a row for each of them. If not, give the voter another id.",
     ],
     &[
         "all projects together cost {sum}, which is less than a hundredth of it
 all projects together cost less than a hundredth of the budget
 Check whether the costs are in another unit than the budget (thousands, for example).",
-        "the cost {value} is the most that some columns of databases can hold, and {projects} have a cost like this
-several projects have a cost that is the most that some columns of databases can hold
-Check whether larger costs were cut. If so, get the costs again.",
         "all projects together cost {sum}, which is less than a tenth of it
 all projects together cost less than a tenth of the budget
 Check whether the budget is in cents, and the costs are not. If so, write it in the unit of the costs.",
+        "{value} is just what all projects cost together
+the budget is just what all projects cost together
+It may be their sum, and not the budget. Compare it with the decision on the budget.",
     ],
     &[
         "its numbers are ignored: every row is counted as one ballot
 VOTES has numbers of ballots, which are ignored: every row is counted as one ballot
 If a row stands for several ballots, write a row for each of them, with an id of its own.",
-        "{value} stands in column {column} of an earlier row too. This concerns {rows}
-a column of numbers such as that of a card has one more than once. This concerns {rows}
-Check whether one person is counted twice. If so, keep the ballot that your rules count. If not, correct the number.",
-        "each row names another project, and its ids are lists: rows may be the voters of a project, and no ballots
-each row names another project, and the ids of voters are lists: rows may be the voters of a project, and no ballots
-If so, write a row for each voter, with all projects of this voter. If not, write the ids without commas.",
     ],
 ];
 

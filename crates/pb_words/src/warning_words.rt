@@ -18,6 +18,10 @@ const NO_RULE: &str = "unknown|-";
 /// What META writes that names no other rule than that of any count by equal shares.
 const NO_OTHER_RULE: &str = "unknown|-|mes|method of equal shares";
 
+/// What is said, beside the remedy for one vote, where several name a project twice.
+const MANY_TWICE: &str =
+    " Several votes are so: compare others with the ballots too. If these differ, get all votes again.\n";
+
 /// What is said of a row that is odd: what, with what is known of the row; the same where the row is not
 /// known; and what to do.
 fn said_of(odd: &Odd) -> (&'static str, &'static str, &'static str) {
@@ -104,6 +108,9 @@ A desk can open on this file. If it should have votes, get the whole file again.
             put_more(out, oddity, more, oddities.is_of_check());
         }
     }
+    for odd in &oddities.unread {
+        put_unread(out, text, odd);
+    }
 }
 
 /// Puts how many more there are of a kind, which a check does not list, or a count does not tell.
@@ -168,8 +175,34 @@ fn put_odd_remedy<R: Files>(out: &mut WordsWriter, text: &Text<R>, odd: &Odd, od
         (None, Oddity::ThousandsMark) if oddities.has_decimals => out.put(BESIDE_DECIMALS),
         _ => {
             put_text(out, text, odd, (said_of(odd).2, None));
-            out.put("\n");
+            let are_many = odd.oddity == Oddity::TwiceInVote && oddities.count(odd.oddity) > 2;
+            out.put(if are_many { MANY_TWICE } else { "\n" });
         }
+    }
+}
+
+/// Puts what is said of a text that no count reads.
+fn put_unread<R: Files>(out: &mut WordsWriter, text: &Text<R>, odd: &Odd) {
+    let row = text.row_at(odd.mark);
+    match row {
+        Some(_) => drop(put_mark(out, text, odd.mark)),
+        None => put_record_number(out, text, odd.mark.at),
+    }
+    let value = row.as_ref().map_or("", |row| text_at(row, odd.value_place));
+    let key = row.as_ref().map_or("", |row| text_at(row, odd.id_place));
+    match odd.limit {
+        Some(rows) => {
+            out.put(", column ");
+            put_column_name(out, text, odd);
+            out.fill(
+                ": the program does not read the text in {} of {}, such as {}.\nLook whether it says that a row does not count, or something else that the count needs.\n",
+                &[Number(odd.number), Count(rows, "row"), Quoted(value)],
+            )
+        }
+        None => out.fill(
+            ", key {}: {} names a project or a voter, and the program does not read it.\nLook whether it says that something does not count.\n",
+            &[Quoted(key), Quoted(value)],
+        ),
     }
 }
 

@@ -4,7 +4,7 @@ use Rattle.pb_command_line.specs.declared.task.PageRun.{PageRun}
 use Rattle.pb_core.specs.Election.{ElectionView}
 use Rattle.pb_page.specs.Page.{IsPage}
 use Rattle.pb_page.specs.declared.facts.Facts.{Facts}
-use Rattle.pb_reasons.specs.CountedElection.{CountedElectionView, IsCountedElection}
+use Rattle.pb_reasons.specs.CountedElection.{CountedElectionView, IsCountIn, IsCountedElection}
 use Rattle.pb_rounds.specs.declared.rule.Rule.{Rule}
 use Rattle.pb_streams.specs.declared.run_refusal.RunRefusal.{RunRefusal}
 use Rattle.pb_streams.specs.declared.run_refusal.RunRefusal.TheVariants.{Told}
@@ -16,10 +16,13 @@ abbrev pub AreAsked : PageRun → Facts → Type 0
 AreAsked run facts = IfSome run.title (λ title. facts.title ≡ title)
     × (facts.files ≡ run.files) × (facts.recount ≡ run.recount) × (facts.compares ≡ run.compares)
 
--- the text is the page of a count of the election by this rule, with facts that are as the run asks
+-- the text is the page of this count, with facts that are as the run asks
+abbrev pub IsPageOf : PageRun → CountedElectionView → List ℕ → Type 0
+IsPageOf run x text = IsCountedElection x × (facts : Facts) × AreAsked run facts × IsPage x facts text
+
+-- the text is such a page of a count of the election by this rule
 abbrev pub IsPageBy : PageRun → Rule → ElectionView → List ℕ → Type 0
-IsPageBy run rule e text = (x : CountedElectionView) × IsCountedElection x × (x.rule ≡ rule) × (x.election ≡ e)
-    × (facts : Facts) × AreAsked run facts × IsPage x facts text
+IsPageBy run rule e text = (x : CountedElectionView) × IsCountIn rule e x × IsPageOf run x text
 
 -- two texts are alike in so many bytes, and differ in the next one
 pub record FirstDiffers (made published : List ℕ) (at : ℕ) : Type 0 where

@@ -1,13 +1,13 @@
 -- Why the count of a shut desk is refused.
 use Rattle.std.specs.Prelude.{◌≡◌, ⊤, true}
 use Rattle.pb_desk.specs.Desk.{DeskView, closed_election, standing_of}
-use Rattle.pb_rounds.specs.Counted.{IsCountFault}
+use Rattle.pb_reasons.specs.CountedElection.{IsFaultIn}
 use Rattle.pb_rounds.specs.declared.count_fault.CountFault.{CountFault}
 use Rattle.pb_rounds.specs.declared.count_fault.CountFault.TheVariants.{NoMemory}
-use Rattle.pb_rounds.specs.declared.options.CountOptions.{CountOptions}
+use Rattle.pb_rounds.specs.declared.rule.Rule.{Rule}
 
 -- the desk is shut, and the count of the ballots that its journal leaves is refused; or memory is
-abbrev pub IsRefusedDesk : DeskView → CountOptions → CountFault → Type 0
-IsRefusedDesk d options NoMemory = ⊤
-IsRefusedDesk d options fault =
-    ((standing_of d).is_shut ≡ true) × IsCountFault (closed_election d) options fault
+abbrev pub IsRefusedDesk : DeskView → Rule → CountFault → Type 0
+IsRefusedDesk d rule NoMemory = ⊤
+IsRefusedDesk d rule fault =
+    ((standing_of d).is_shut ≡ true) × IsFaultIn rule (closed_election d) fault

@@ -1,5 +1,5 @@
 -- Parts of what is asked of an election, and of its file's rows; private contracts speak of them.
-use Rattle.std.specs.Prelude.{◌==◌, ◌||◌, ℕ, Bool, true, false, List, [], ◌∷◌, ◌++◌, Option, codes, decimal, filter}
+use Rattle.std.specs.Prelude.{◌==◌, ◌||◌, ℕ, Bool, true, false, List, [], ◌∷◌, ◌++◌, Option, codes, decimal, filter, length}
 use Rattle.std.specs.Prelude.{if◌then◌else◌, is_some, map, nat_le, slice_index, slice_index_or}
 use Rattle.std.specs.List.{enumerate_from, join_with_byte, list_any}
 use Rattle.std.specs.Option.{option_map_or, option_to_list}
@@ -46,6 +46,17 @@ abbrev pub terms_rows : Terms → List Fields
 terms_rows terms =
     (key_text Budget ∷ amount_text terms.budget ∷ []) ∷ (key_text VoteType ∷ codes "approval" ∷ [])
     ∷ map (λ most. key_text MaxLength ∷ decimal most ∷ []) (option_to_list terms.max_length)
+
+-- META, row by row
+abbrev pub meta_parts : ElectionView → (rule comment : List ℕ) → List KeyView → List Fields
+meta_parts e rule comment keys =
+    ((codes "META" ∷ []) ∷ (codes "key" ∷ codes "value" ∷ []) ∷ (key_text Budget ∷ amount_text e.budget ∷ [])
+    ∷ (key_text VoteType ∷ codes "approval" ∷ [])
+    ∷ map (λ most. key_text MaxLength ∷ decimal most ∷ []) (option_to_list e.max_length))
+    ++ (codes "num_projects" ∷ decimal (length e.projects) ∷ [])
+    ∷ (codes "num_votes" ∷ decimal (length e.voters) ∷ []) ∷ (codes "rule" ∷ rule ∷ [])
+    ∷ (codes "comment" ∷ comment ∷ [])
+    ∷ key_rows keys
 
 -- the row of a project that has this many votes, is elected or not, and has these further fields
 abbrev pub project_row : ProjectView → ℕ → Bool → Fields → Fields

@@ -1,6 +1,6 @@
 -- The sections of a page as they are put, and the links to them.
-use Rattle.std.specs.Prelude.{◌==◌, ℕ, Bool, false, true, List, [], ◌++◌, codes, flat_map, if◌then◌else◌, is_some, length, not}
-use Rattle.pb_page.specs.Content.{Part, attribute, block, element, item, own, said, section, text}
+use Rattle.std.specs.Prelude.{◌==◌, ℕ, Bool, false, true, List, [], ◌∷◌, ◌++◌, codes, flat_map, if◌then◌else◌, is_some, length, not}
+use Rattle.pb_page.specs.Content.{Part, fill, said, section, text}
 use Rattle.pb_page.specs.Inner.Counted.{voters_told}
 use Rattle.pb_page.specs.Page.{added_apart, besides, budget, categories, check, others, rule, winners}
 use Rattle.pb_page.specs.declared.facts.Facts.{Facts}
@@ -16,8 +16,8 @@ has_added x = if no_shares x.rule.options.completion then false else not (length
 
 -- a link to the section of this name, by its heading, where the page has it; and all of them
 abbrev pub link_to : Language → (is_there : Bool) → (name : List ℕ) → (heading : ℕ) → List Part
-link_to l is_there name heading = if is_there then item (element (codes "a")
-    (attribute (codes "href") (own (codes "#") ++ text name)) (said l heading)) else []
+link_to l is_there name heading =
+    if is_there then fill (codes "<li><a href='#~'>~</a></li>\n") (text name ∷ said l heading ∷ []) else []
 
 abbrev pub links_to : Facts → CountedElectionView → List Part
 links_to facts x = let l = facts.language in link_to l true (codes "budget") key.BUDGET_HEADING
@@ -27,8 +27,8 @@ links_to facts x = let l = facts.language in link_to l true (codes "budget") key
     ++ (link_to l true (codes "rule") key.RULE_HEADING ++ link_to l true (codes "check") key.CHECK_HEADING)))))))
 
 unfoldable pub contents : Facts → CountedElectionView → List Part
-contents facts x = let l = facts.language in
-    block (codes "nav") (attribute (codes "aria-label") (said l key.CONTENTS)) (block (codes "ul") [] (links_to facts x))
+contents facts x = fill (codes "<nav aria-label='~'>\n<ul>\n~</ul>\n</nav>\n")
+    (said facts.language key.CONTENTS ∷ links_to facts x ∷ [])
 
 -- the sections, one after the other
 abbrev pub sections : Facts → CountedElectionView → RaiseEnd → List Part

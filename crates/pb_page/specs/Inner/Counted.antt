@@ -1,17 +1,17 @@
 -- Words of private contracts on what is counted.
 use Rattle.std.specs.Prelude.{ℕ, ◌<◌, ◌-◌, ◌==◌, List, [], ◌∷◌, ◌++◌, All, ⊤, codes, decimal, filter}
-use Rattle.std.specs.Prelude.{Option, count_by, flat_map, if◌then◌else◌, length, map, sum_by, Bool, None, Some, nat_le, nat_lt}
+use Rattle.std.specs.Prelude.{Option, count_by, flat_map, if◌then◌else◌, length, map, slice_index, sum_by, Bool, None, Some, nat_le, nat_lt}
 use Rattle.std.specs.Borrow.{Bor}
 use Rattle.std.specs.List.{range_with_len}
 use Rattle.std.specs.Option.{option_map_or}
 use Rattle.pb_core.specs.Election.{ElectionView, ProjectView}
 use Rattle.pb_core.specs.MoneyText.{money_text}
 use Rattle.pb_page.specs.Amount.{grouped, shown}
-use Rattle.pb_page.specs.Content.{Headed, Part, amount, attribute, digits, element, figure, item, listed, nameless, noun_at, number, own, paragraph, said, say, section, table, text, under}
-use Rattle.pb_page.specs.Page.{ballots_row, beside, by_raises, category_of, compared_row, entry, linked, links, row_at, source}
-use Rattle.pb_page.specs.Inner.Value.{files_link}
+use Rattle.pb_page.specs.Content.{Headed, Part, amount, digits, figure, fill, item, listed, noun_at, number, paragraph, said, say, section, table, text, under}
+use Rattle.pb_page.specs.Page.{ballots_row, beside, by_raises, category_of, compared_row, entry, linked, links, row_at, source, tie}
+use Rattle.pb_page.specs.Inner.Value.{code, files_link, nameless}
 use Rattle.pb_page.specs.Page.{money_told, raises_ended, voters, width}
-use Rattle.pb_page.specs.Inner.Filling.{cut}
+use Rattle.pb_page.specs.Inner.Filling.{cut, own}
 use Rattle.pb_page.specs.Words.{sentence}
 use Rattle.pb_page.specs.declared.categories.Categories.{Categories}
 use Rattle.pb_page.specs.declared.facts.Facts.{Facts}
@@ -28,6 +28,7 @@ use Rattle.pb_reasons.specs.Counted.{winners_of}
 use Rattle.pb_reasons.specs.CountedElection.{CountedElectionView}
 use Rattle.pb_reasons.specs.Reasons.{voter_reason}
 use Rattle.pb_reasons.specs.Money.{MoneyView, money_of, paid_together}
+use Rattle.pb_reasons.specs.Ties.{ties_of}
 use Rattle.pb_reasons.specs.Totals.{totals_of}
 use Rattle.pb_reasons.specs.declared.payment.Payment.{Payment}
 use Rattle.pb_reasons.specs.declared.project_reason.Ending.{Ending}
@@ -37,7 +38,7 @@ use Rattle.pb_reasons.specs.declared.raise_end.RaiseEnd.{RaiseEnd}
 use Rattle.pb_reasons.specs.declared.raise_end.RaiseEnd.TheVariants.{Plain, Exhausted, Over}
 use Rattle.pb_rounds.specs.Count.{no_shares}
 use Rattle.pb_rounds.specs.MostVotes.{is_taken}
-use Rattle.pb_rounds.specs.RuleNames.{by_completion, by_measure, completion_name, measure_name}
+use Rattle.pb_rounds.specs.RuleNames.{by_completion, by_measure, by_ties, completion_name, measure_name, ties_name}
 use Rattle.pb_rounds.specs.declared.rule.Rule.{Rule}
 
 -- the numbers of the whole
@@ -87,14 +88,24 @@ abbrev pub rounds_said : Language → CountedElectionView → RaiseEnd → List 
 rounds_said l x end = let r = x.rule in let o = r.options in let raised = x.counted.outcome.raised in
     let raises = if raised == 0 then key.UNRAISED else key.RAISED in
     share_said l (by_raises r key.SHARE_UNRAISED key.SHARE) o.step x.counted.outcome.share raised
-    ++ (items_said l (key.SUPPORTERS ∷ by_measure o.measure key.BY_VOTES key.BY_COST
-    ∷ by_completion o.completion r.fill_up key.PLAIN raises key.FILLED_UP raises ∷ []) ++ raises_ended l x end)
+    ++ (items_said l (key.SUPPORTERS ∷ by_measure o.measure (by_ties r.ties key.BY_VOTES key.BY_VOTES_TIED)
+    (by_ties r.ties key.BY_COST key.BY_COST_TIED) ∷ by_completion o.completion r.fill_up key.PLAIN raises
+    (by_ties r.ties key.FILLED_UP key.FILLED_UP_TIED) raises ∷ []) ++ raises_ended l x end)
 
 abbrev pub rounds_told : Language → CountedElectionView → RaiseEnd → List Part
 rounds_told l x end = if length x.election.voters == 0 then [] else rounds_said l x end
 
 abbrev pub filled_up : Language → Rule → List Part
-filled_up l r = flat_map (λ k. item (said l k)) (by_completion r.options.completion r.fill_up [] [] [] (key.FILLED_UP ∷ []))
+filled_up l r = flat_map (λ k. item (said l k)) (by_completion r.options.completion r.fill_up [] [] []
+    (by_ties r.ties key.FILLED_UP key.FILLED_UP_TIED ∷ []))
+
+-- by which rule equal projects come, where that is not the order of the file alone; and the ties
+abbrev pub equals : Language → Rule → List Part
+equals l r = by_ties r.ties [] (item (say l key.EQUALS (code (ties_name r.ties) ∷ [])))
+
+abbrev pub ties_listed : Language → CountedElectionView → List Part
+ties_listed l x = listed l (by_ties x.rule.ties key.TIES key.TIES_TIED) (own (codes " class='ties'"))
+    (flat_map (tie l x) (ties_of x.rule.options.measure x.election x.counted))
 
 abbrev pub works_said : Language → (k budget voters opening : ℕ) → List Part
 works_said l k budget voters opening = paragraph (say l k (amount l.costs (codes "budget") budget
@@ -109,7 +120,7 @@ files_said l files = option_map_or (λ address. paragraph (say l key.FILES (file
 
 abbrev pub recount_said : Language → List ℕ → List Part
 recount_said l address = paragraph (say l key.RECOUNT
-    (element (codes "a") (attribute (codes "href") (text address)) (said l key.LINK) ∷ []))
+    (fill (codes "<a href='~'>~</a>") (text address ∷ said l key.LINK ∷ []) ∷ []))
 
 abbrev pub link_said : Language → Option (Bor (List ℕ)) → List Part
 link_said l recount = option_map_or (λ address. recount_said l address.now ++ paragraph (said l key.PROGRAM_TOO))
@@ -131,26 +142,32 @@ options_said l r = let o = r.options in options_put l (by_raises r key.OPTIONS_U
 
 -- the options of the command, and in words
 abbrev pub chosen : Rule → List Part
-chosen r = let o = r.options in text (by_measure o.measure [] (codes " --measure cost")) ++ (text (by_completion o.completion r.fill_up
-    (codes " --plain") [] (codes " --completion utilitarian") (codes " --completion add1u"))
-    ++ (own (codes " --step ") ++ (text (decimal o.step) ++ (own (codes " --raises ") ++ text (decimal o.max_raises)))))
+chosen r = let o = r.options in fill (codes "~~ --step ~ --raises ~") (map text (by_measure o.measure [] (codes " --measure cost")
+    ∷ by_completion o.completion r.fill_up (codes " --plain") [] (codes " --completion utilitarian") (codes " --completion add1u")
+    ∷ decimal o.step ∷ decimal o.max_raises ∷ []))
+
+abbrev pub ties_option : Rule → List Part
+ties_option r = by_ties r.ties [] (fill (codes " --ties ~") (text (ties_name r.ties) ∷ []))
+
+abbrev pub method_given : Rule → List Part
+method_given r = if no_shares r.options.completion then own (codes " --rule most-votes") else chosen r
 
 abbrev pub options_given : Rule → List Part
-options_given r = if no_shares r.options.completion then own (codes " --rule most-votes") else chosen r
+options_given r = method_given r ++ ties_option r
 
 abbrev pub options_told : Language → Rule → List Part
 options_told l r = if no_shares r.options.completion then [] else options_said l r
 
 abbrev pub name_said : Language → List ℕ → List Part
-name_said l name = paragraph (say l key.RULE_NAME (element (codes "code") [] (text name) ∷ []))
+name_said l name = paragraph (say l key.RULE_NAME (code name ∷ []))
 
 abbrev pub made_by : Language → List ℕ → List Part
 made_by l program = paragraph (say l key.MADE_BY (text program ∷ []))
 
 -- the comparison, where it is asked for
 unfoldable pub both_only : Language → CountedElectionView → List Part
-both_only l x = let e = x.election in let own = winners_of x.counted in let other = elected_by_votes e in
-    links l e key.ONLY_BY_SHARES (beside other own) ++ links l e key.ONLY_BY_VOTES (beside own other)
+both_only l x = let own = winners_of x.counted in let other = elected_by_votes x.election in
+    links l x key.ONLY_BY_SHARES (beside other own) ++ links l x key.ONLY_BY_VOTES (beside own other)
 
 unfoldable pub compared : Language → CountedElectionView → List Part
 compared l x = let rules = beside_votes x.election x.counted in
@@ -160,8 +177,8 @@ compared l x = let rules = beside_votes x.election x.counted in
     ++ both_only l x))
 
 -- the projects at these places, below what is said of them
-abbrev pub those_said : Language → ElectionView → (k : ℕ) → (places : List ℕ) → List Part
-those_said l e k places = listed l k [] (flat_map (entry l e) places)
+abbrev pub those_said : Language → CountedElectionView → (k : ℕ) → (places : List ℕ) → List Part
+those_said l x k places = listed l k [] (flat_map (entry l x) places)
 
 -- on how many ballots so many choices won, and so many or more; and what the voters got
 abbrev pub exactly : ℕ → List ℕ → ℕ
@@ -194,11 +211,11 @@ told_of x place votes (ending.Added a) = None
 told_of x place votes (ending.Lost lost) =
     if nat_lt votes 5 then None else Some (money_of (paid_together x.election x.counted.outcome place))
 
-abbrev pub went_as : Language → ElectionView → Option MoneyView → (left : ℕ) → List Part
-went_as l e paid left = option_map_or (money_told l e left) paid []
+abbrev pub went_as : Language → CountedElectionView → Option MoneyView → (left : ℕ) → List Part
+went_as l x paid left = option_map_or (money_told l x left) paid []
 
-abbrev pub payment_told : Language → ElectionView → Payment → List Part
-payment_told l e p = item (say l key.PAID (amount l.amounts (codes "paid_for") p.amount ∷ linked e p.place ∷ []))
+abbrev pub payment_told : Language → CountedElectionView → Payment → List Part
+payment_told l x p = item (say l key.PAID (amount l.amounts (codes "paid_for") p.amount ∷ linked x p.place ∷ []))
 
 abbrev pub more_told : Language → ℕ → List Part
 more_told l others = if others == 0 then [] else item (say l key.PAID_MORE (amount l.amounts (codes "paid_more") others ∷ []))
@@ -221,13 +238,13 @@ KnowsPlaces e (Over next) = All (λ place. place < length e.projects) next.only_
     × All (λ place. place < length e.projects) next.no_more.items
 
 -- which of these winners are of a category, and what it has of them
-abbrev pub winners_in : Categories → List ℕ → ℕ → List ℕ
-winners_in g winners k = filter (λ place. category_of g place == k) winners
+abbrev pub winners_in : CountedElectionView → Categories → List ℕ → ℕ → List ℕ
+winners_in x g winners k = filter (λ place. category_of g (slice_index x.order place) == k) winners
 
-abbrev pub in_category : ElectionView → Categories → List ℕ → ℕ → InCategory
-in_category e g winners k =
-    let those = winners_in g winners k in
-    record { winners = length those; cost = sum_by (cost_at (support_of e)) those }
+abbrev pub in_category : CountedElectionView → Categories → List ℕ → ℕ → InCategory
+in_category x g winners k =
+    let those = winners_in x g winners k in
+    record { winners = length those; cost = sum_by (cost_at (support_of x.election)) those }
 
 -- the cells of a loser behind its head: its cost and votes, what its supporters have left, and what is missing
 abbrev pub lacking : Language → (short : ℕ) → ProjectView → (votes : ℕ) → Lost → List Part

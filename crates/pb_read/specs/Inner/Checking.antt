@@ -1,10 +1,11 @@
 -- How far a check of a whole file has come; private contracts speak of it.
 use Rattle.std.specs.Prelude.{◌≡◌, ◌≢◌, ◌≤◌, ◌<◌, ◌+◌, ◌-◌, ◌==◌, ℕ, Bool, true, false, List, [], ◌∷◌, ◌++◌, length}
-use Rattle.std.specs.Prelude.{remove, take, MatchOption, Option, Some, None, Result, Ok, Err, IfSome, if◌then◌else◌, ⊤}
+use Rattle.std.specs.Prelude.{All, remove, take, MatchOption, Option, Some, None, Result, Ok, Err, IfSome, if◌then◌else◌, ⊤}
 use Rattle.csv.specs.Records.{AllText}
 use Rattle.pb_core.specs.Election.{ElectionView}
 use Rattle.pb_rows.specs.Reading.{Fields, IsNext}
 use Rattle.pb_rows.specs.declared.fault.RecordsFault.{RecordsFault}
+use Rattle.pb_rows.specs.declared.fault.RecordsFault.TheVariants as stop
 use Rattle.pb_read.specs.FirstFault.{IsFaultAt}
 use Rattle.pb_read.specs.Listed.{AreListed, IsLeftOut, leaves_out}
 use Rattle.pb_read.specs.Inner.Machine.{Position, advance, lowest_kind, row_fault}
@@ -124,6 +125,10 @@ abbrev pub Blames : Verdict → Option RecordsFault → Type 0
 Blames (LeavesOut kind) stopped = BlamesReader kind stopped
 Blames (Ends kind) stopped = BlamesReader kind stopped
 Blames verdict stopped = Unit {0}
+
+-- and for one of these faults
+abbrev pub AreBlamed : Option RecordsFault → List ReadFault → Type 0
+AreBlamed stopped faults = All (λ fault. fault.kind ≡ ReadFailed → stopped ≡ Some stop.ReadFailed) faults
 
 -- what it means that reading stops at a fault that is the next after these: where it is left out, and not the
 -- last of as many as are listed, reading can go on

@@ -1,10 +1,10 @@
 -- What the parts of a search know.
 use Rattle.std.specs.Prelude.{◌≡◌, ◌≢◌, ℕ, ◌+◌, ◌<◌, ◌≤◌, Bool, true, false, Some, length, map, take}
 use Rattle.pb_core.specs.Election.{ElectionView}
-use Rattle.pb_reasons.specs.Counted.{counted, is_selected}
+use Rattle.pb_core.specs.Order.{position_in}
+use Rattle.pb_reasons.specs.Counted.{is_selected}
+use Rattle.pb_reasons.specs.CountedElection.{CountedElectionView, IsCountIn}
 use Rattle.pb_rounds.specs.CountFault.{refusal_of}
-use Rattle.pb_rounds.specs.Counted.{IsCountOf}
-use Rattle.pb_rounds.specs.Outcome.{OutcomeView}
 use Rattle.pb_rounds.specs.declared.count_fault.CountFault.{CountFault}
 use Rattle.pb_rounds.specs.declared.count_fault.CountFault.TheVariants.{NoMemory, RaisesSpent}
 use Rattle.pb_reasons.specs.Inner.Numbered.{AreNumbered}
@@ -18,7 +18,8 @@ use Rattle.pb_reasons.specs.declared.changes.question.Question.{Question}
 
 -- whether the count of an election elects or adds the project that is asked about
 abbrev pub HasWon : ElectionView → Question → Bool → Type 0
-HasWon e q won = (o : OutcomeView) × IsCountOf e q.rule.options o × (is_selected (counted e q.rule.fill_up o) q.place ≡ won)
+HasWon e q won =
+    (x : CountedElectionView) × IsCountIn q.rule e x × (is_selected x.counted (position_in x.order q.place) ≡ won)
 
 -- how many further voters a change has
 abbrev pub further_of : Change → ℕ → ℕ

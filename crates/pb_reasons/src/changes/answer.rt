@@ -5,8 +5,8 @@ ghost use Rattle.pb_core.specs.Election.{most_voters};
 ghost use Rattle.pb_core.specs.Money.{largest_money};
 ghost use Rattle.pb_price.specs.Supporters.{cost_at, support_of};
 ghost use Rattle.pb_rounds.specs.CountFault.{refusal_of};
-ghost use Rattle.pb_rounds.specs.Counted.{IsCountFault};
 ghost use Rattle.pb_rounds.specs.declared.count_fault.CountFault.TheVariants.{NoMemory};
+ghost use Rattle.pb_reasons.specs.CountedElection.{IsFaultIn};
 ghost use Rattle.pb_reasons.specs.declared.changes.change.Change.TheVariants.{Cost, Voters};
 ghost use Rattle.pb_reasons.specs.declared.changes.change.Verdict.TheVariants.{Lost, Won};
 ghost use Rattle.pb_reasons.specs.WhatIf.{CanBe, IsFound, IsTrue, IsWhatIf, seen};
@@ -39,10 +39,11 @@ pub fn what_if<T: Threads + Sync, G: Gate>(
     ensures found { IfOk result (IsWhatIf election recount.now.question
         (cost_at (support_of election) recount.now.question.place)) }
     ensures fault { IfErr result (λ fault. fault ≢ NoMemory
-        → IsCountFault election recount.now.question.rule.options fault) }
+        → IsFaultIn recount.now.question.rule election fault) }
 {
+    let mut election = election;
     let cost = election.projects()[recount.question.place as usize].cost();
-    match has_won(recount, &election) {
+    match has_won(recount, &mut election) {
         Ok(won) => searched(recount, election, cost, won),
         Err(fault) => {
             drop(election);

@@ -36,12 +36,14 @@ pub(crate) struct Changing {
 impl Model for Changing {
     ghost use Rattle.std.specs.Prelude.{◌≡◌, [], length, map};
     ghost use Rattle.pb_reasons.specs.WhatIf.{Seen};
+    ghost use Rattle.pb_core.specs.Election.{project_ids};
     ghost use Rattle.pb_reasons.specs.Inner.Numbered.{AreNumbered};
 
     ghost Value = { Seen };
 
     ghost view = { λ c. record {
       budget = c.frame.budget;
+      ids = project_ids c.frame;
       costs = map (λ p. p.cost) c.frame.projects;
       ballots = map (λ v. v.ballot) c.voters.items;
     } };
@@ -103,13 +105,17 @@ impl Changing {
     {
         let (alloc, place) = (recount.alloc, recount.question.place);
         let own = self.voters.len();
-        let changed = self.lend(alloc, change, place, value)?;
-        let verdict = verdict_of(recount, &changed);
-        self.take_back(alloc, changed, own);
-        Ok(Row {
-            value,
-            verdict: verdict?,
-        })
+        let mut changed = self.lend(alloc, change, place, value)?;
+        match verdict_of(recount, &mut changed) {
+            Ok(verdict) => {
+                self.take_back(alloc, changed, own);
+                Ok(Row { value, verdict })
+            }
+            Err(fault) => {
+                drop(changed);
+                Err(fault)
+            }
+        }
     }
 
     /// The election so changed, to which it lends its voters.

@@ -1,6 +1,7 @@
 //! The budget and the projects of a changed election.
 
 ghost use Rattle.std.specs.Prelude.{◌≡◌, ◌<◌, ◌≤◌, [], IfOk, OnOk, length, map, slice_set};
+ghost use Rattle.pb_core.specs.Election.{project_ids};
 ghost use Rattle.pb_core.specs.Money.{largest_money};
 ghost use Rattle.pb_reasons.specs.WhatIf.{CanBe, changed, seen};
 
@@ -23,6 +24,7 @@ pub(crate) fn changed_frame(
     requires can_be { CanBe (seen frame.now) change value }
     ensures budget { IfOk result (λ own. own.budget ≡ frame.now.budget) }
     ensures voters { IfOk result (λ own. own.voters ≡ []) }
+    ensures ids { IfOk result (λ own. project_ids own ≡ project_ids frame.now) }
     ensures costs { IfOk result (λ own. map (λ p. p.cost) own.projects
         ≡ (changed change place value (seen frame.now)).costs) }
 {
@@ -47,6 +49,7 @@ fn copy_projects(
     requires no_voter_yet { own.old.voters ≡ [] }
     requires costs { 0 < cost }
     requires affordable { cost ≤ largest_money }
+    ensures ids { OnOk result (project_ids own.new ≡ project_ids frame.now) }
     ensures kept { OnOk result (own.new ≡ record own.old { projects = own.new.projects }) }
     ensures costs { OnOk result (map (λ p. p.cost) own.new.projects
         ≡ slice_set (map (λ p. p.cost) frame.now.projects) place cost) }

@@ -3,7 +3,9 @@
 ghost use Rattle.std.specs.Prelude.{◌≡◌, ◌≢◌, ◌++◌, ◌∷◌, [], All, ◌<◌, IfErr, IfOk, OnOk, length, map, slice_index};
 ghost use Rattle.pb_price.specs.Supporters.{cost_at, support_of};
 ghost use Rattle.pb_rounds.specs.Counted.{IsCountFault, IsCountOf};
+ghost use Rattle.pb_rounds.specs.Outcome.{OutcomeView};
 ghost use Rattle.pb_reasons.specs.Counted.{counted};
+ghost use Rattle.pb_reasons.specs.CountedElection.{IsFaultIn};
 ghost use Rattle.pb_reasons.specs.Losers.{AreFound};
 ghost use Rattle.pb_reasons.specs.WhatIf.{IsWhatIf};
 ghost use Rattle.pb_reasons.specs.Inner.Losers.{AreAnswers, AreAsked, AreFirst, HasLost, IsAnswer, IsLoser};
@@ -15,15 +17,16 @@ use crate::changes::changing::Changing;
 use crate::changes::loser::Loser;
 use crate::changes::project_gate::ProjectGate;
 use crate::changes::ranked::first_losers;
+use crate::changes::recount::put_back;
 use crate::changes::recounts::Recounts;
 use crate::counted::Counted;
 use pb_core::election::Election;
 use pb_core::gate::Gate;
 use pb_core::no_memory::NoMemory;
+use pb_core::order::ProjectOrder;
 use pb_rounds::count::count_watched;
 use pb_rounds::count_fault::CountFault;
-use pb_rounds::outcome::Outcome;
-use pb_rounds::rule::Rule;
+use pb_rounds::tie_order::put_in_tie_order;
 use std::alloc::Global;
 use std::thread::{self, Threads};
 
@@ -39,9 +42,12 @@ pub fn what_if_losers<T: Threads + Sync, G: Gate + ProjectGate>(
 ) -> Result<Vec<Loser>, CountFault>
     ensures found { IfOk result (λ found. AreFound election recounts.now.rule first found.items) }
     ensures fault { IfErr result (λ fault. fault ≢ CountFault.NoMemory
-        → IsCountFault election recounts.now.rule.options fault) }
+        → IsFaultIn recounts.now.rule election fault) }
 {
-    match asked(recounts, &election, first) {
+    let mut election = election;
+    // What is true of every election holds of this one.
+    let _projects = election.projects();
+    match asked(recounts, &mut election, first) {
         Ok(places) => {
             let found = searched(recounts, election, places.as_slice());
             drop(places);
@@ -57,35 +63,45 @@ pub fn what_if_losers<T: Threads + Sync, G: Gate + ProjectGate>(
 /// The losers that are asked about, by place: the election is counted as it is.
 fn asked<T: Threads + Sync, G: Gate>(
     recounts: &Recounts<T, G>,
-    election: &Election,
+    election: &mut Election,
     first: usize,
 ) -> Result<Vec<u32>, CountFault>
-    ensures asked { IfOk result (λ places. AreAsked election.now recounts.now.rule first places.items) }
+    ensures asked { IfOk result (λ places. AreAsked election.old recounts.now.rule first places.items) }
+    ensures kept { IfOk result (λ _. election.new ≡ election.old) }
+    ensures fault { IfErr result (λ fault. fault ≢ CountFault.NoMemory
+        → IsFaultIn recounts.now.rule election.old fault) }
+{
+    let alloc = recounts.alloc;
+    // What is true of every election holds of this one.
+    let _projects = election.projects();
+    let order = put_in_tie_order(alloc, election, &recounts.rule.ties)?;
+    let losers = losers_in(recounts, election, &order, first);
+    let back = put_back(alloc, election, &order, &recounts.rule.ties);
+    drop(order);
+    back?;
+    losers
+}
+
+/// The same, of an election whose projects stand in this order of ties.
+fn losers_in<T: Threads + Sync, G: Gate>(
+    recounts: &Recounts<T, G>,
+    election: &Election,
+    order: &ProjectOrder,
+    first: usize,
+) -> Result<Vec<u32>, CountFault>
+    requires { length order.now ≡ length election.now.projects }
+    ensures ok { IfOk result (λ places. (o : OutcomeView) × IsCountOf election.now recounts.now.rule.options o
+        × AreFirst election.now (counted election.now recounts.now.rule.fill_up o) order.now first places.items) }
     ensures fault { IfErr result (IsCountFault election.now recounts.now.rule.options) }
 {
     let (rt, alloc, rule) = (recounts.rt, recounts.alloc, recounts.rule);
     let outcome = count_watched(rt, alloc, election, &rule.options, recounts.gate)?;
     // What is true of every election holds of its projects.
     let _projects = election.projects();
-    Ok(losers_by(alloc, election, outcome, &rule, first)?)
-}
-
-/// The first so many losers of an outcome, and of what is added to it.
-fn losers_by(
-    alloc: Global,
-    election: &Election,
-    outcome: Outcome,
-    rule: &Rule,
-    first: usize,
-) -> Result<Vec<u32>, NoMemory>
-    requires { IsCountOf election.now rule.now.options outcome }
-    ensures { IfOk result (λ places. AreFirst election.now (counted election.now rule.now.fill_up outcome)
-        first places.items) }
-{
     let counted = Counted::of(alloc, election, outcome, rule.fill_up)?;
-    let places = first_losers(alloc, election, &counted, first);
+    let places = first_losers(alloc, election, &counted, order, first);
     drop(counted);
-    places
+    Ok(places?)
 }
 
 /// Searches what would have made each of these losers win.

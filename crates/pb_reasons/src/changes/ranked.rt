@@ -7,6 +7,7 @@ use crate::counted::Counted;
 use crate::winners::flags_of;
 use pb_core::election::Election;
 use pb_core::no_memory::NoMemory;
+use pb_core::order::ProjectOrder;
 use pb_price::supporters::Supporters;
 use std::alloc::Global;
 use std::cmp::Reverse;
@@ -21,27 +22,37 @@ pub(crate) struct Ranked {
     pub place: u32,
 }
 
-/// The first so many losers of what a count comes to, by place: those with most votes, equal ones in the order
-/// of the file.
+/// The first so many losers of what a count comes to, by their places in the file: those with most votes, equal
+/// ones in the order of the file. The projects of the election stand in this order of their places.
 pub(crate) fn first_losers(
     alloc: Global,
     election: &Election,
     counted: &Counted,
+    order: &ProjectOrder,
     first: usize,
 ) -> Result<Vec<u32>, NoMemory>
-    ensures { IfOk result (λ places. AreFirst election.now counted.now first places.items) }
+    requires { length order.now ≡ length election.now.projects }
+    ensures { IfOk result (λ places. AreFirst election.now counted.now order.now first places.items) }
 {
+    // What is true of every order is true of this one.
+    let _places = order.places();
     let winners = counted.winners(alloc)?;
     let supporters = Supporters::build(alloc, election)?;
-    let mut losers = others(alloc, &supporters, winners.as_slice())?;
+    let mut losers = others(alloc, &supporters, winners.as_slice(), order)?;
     losers.sort_unstable();
     first_places(alloc, losers.as_slice(), first)
 }
 
-/// The projects that are not among these winners, in the order of the file.
-fn others(alloc: Global, supporters: &Supporters, winners: &[u32]) -> Result<Vec<Ranked>, NoMemory>
+/// The projects that are not among these winners, in the order of the election.
+fn others(
+    alloc: Global,
+    supporters: &Supporters,
+    winners: &[u32],
+    order: &ProjectOrder,
+) -> Result<Vec<Ranked>, NoMemory>
+    requires { length order.now ≡ length supporters.now.costs }
     ensures { IfOk result (λ losers. losers.items
-        ≡ map (ranked_of supporters.now) (others_of supporters.now winners.now)) }
+        ≡ map (ranked_of supporters.now order.now) (others_of supporters.now winners.now)) }
 {
     let projects = supporters.projects();
     let has_won = flags_of(alloc, winners, projects as usize)?;
@@ -49,6 +60,7 @@ fn others(alloc: Global, supporters: &Supporters, winners: &[u32]) -> Result<Vec
     for place in 0..projects {
         if !has_won[place as usize] {
             let votes = Reverse(supporters.of(place).len());
+            let place = order.places()[place as usize];
             losers.push(Ranked { votes, place })?;
         }
     }

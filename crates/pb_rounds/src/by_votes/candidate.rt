@@ -13,14 +13,14 @@ use std::alloc::Allocator;
 use std::cmp::Reverse;
 
 /// A project that may be added. The one with more votes comes first, among equals the cheaper, among equals
-/// the one that stands first in the file.
+/// the one that stands first.
 #[derive(Clone, Copy, PartialEq, Eq, PartialOrd, Ord)]
 pub(crate) struct Candidate {
     /// How many ballots approve it: at least 1.
     pub votes: Reverse<usize>,
     /// What it costs, in hundredths.
     pub cost: Money,
-    /// Its place in the file, from 0.
+    /// Its place in the election, from 0.
     pub place: u32,
 }
 

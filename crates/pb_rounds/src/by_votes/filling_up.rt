@@ -12,7 +12,7 @@ use std::alloc::Allocator;
 
 /// The projects that most votes first adds to those that are taken already, by place, in the order in which
 /// they are added: while a project fits, the one with the most supporters is added, among equals the cheaper,
-/// among equals the one that stands first in the file. A project fits where it has a supporter, is not taken,
+/// among equals the one that stands first. A project fits where it has a supporter, is not taken,
 /// and costs at most what is left, in hundredths; what an added one costs is no longer left.
 ///
 /// With nothing taken and the whole budget left it is the whole rule. The order in which `taken` names places

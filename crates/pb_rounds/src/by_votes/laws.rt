@@ -9,7 +9,7 @@ ghost use Rattle.pb_rounds.specs.MostVotes.{most_votes_first, votes_at};
 
 /// What the tests of the rule say. A project fits if it has a supporter, is not taken, and costs no more than is
 /// left. One comes first with more votes, or with as many and a lower cost, or with these too and an earlier
-/// place in the file.
+/// place.
 pub fn tests_of_most_votes_are_their_words()
     ensures taken { (taken : List ℕ) (place : ℕ) → (is_taken taken place ≡ true) ↔ Contains taken place }
     ensures fits { (s : SupportView) (taken : List ℕ) (left place : ℕ) → (fits s taken left place ≡ true)

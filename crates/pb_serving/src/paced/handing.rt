@@ -1,12 +1,12 @@
 //! How a row at a time is handed out.
 
 ghost use Rattle.std.specs.Prelude.{◌≡◌, ◌<◌, ◌≤◌, ◌++◌, [], Option, ℕ, List, length, take, IfOk, IfSome};
-ghost use Rattle.std.specs.Prelude.{IsSome, IsTrue};
+ghost use Rattle.std.specs.Prelude.{◌-◌, IsSome, IsTrue, drop};
+ghost use Rattle.std.specs.Io.KnownBytes.{prepend_known};
 ghost use Rattle.csv.specs.Machine.{is_end, step};
 ghost use Rattle.pb_durable.specs.RowPosition.{state_at};
 ghost use Rattle.pb_rows.specs.Reading.{pb_config};
 ghost use Rattle.pb_serving.specs.Inner.Rows.{first_row, state_after};
-ghost use Rattle.pb_serving.specs.Paced.{left_by};
 ghost use Rattle.pb_serving.specs.Inner.AtHand.{read_ahead};
 
 use crate::paced::{AtHand, Paced};
@@ -64,7 +64,7 @@ impl<'a, P: Read + Drop> Paced<'a, P> {
         reader: P,
         at_hand: &'a AtHand,
     ) -> std::result::Result<Paced<'a, P>, AllocError>
-        ensures { IfOk result (λ paced. left_by P.remaining paced ≡ P.remaining reader) }
+        ensures { IfOk result (λ paced. (paced.start ≡ paced.end) × (paced.reader ≡ reader)) }
     {
         let mut chunk = Vec::new(alloc);
         chunk.resize(CHUNK, 0)?;
@@ -124,7 +124,8 @@ impl<'a, P: Read + Drop> Paced<'a, P> {
 }
 
 impl<P: Read + Drop> Read for Paced<'_, P> {
-    ghost remaining = { λ paced. left_by P.remaining paced };
+    ghost remaining = { λ paced. prepend_known
+        (take (paced.end - paced.start) (drop paced.start paced.chunk.items)) (P.remaining paced.reader) };
 
     fn read(&mut self, buf: &mut [u8]) -> Result<usize> {
         if self.start >= self.end {

@@ -44,11 +44,11 @@ returns-in-Ok-clause-is_other g c =
 pub returns-in-Ok-clause-ends : goal.returns-in-Ok-clause-ends
 returns-in-Ok-clause-ends g c =
     let rule = c.args.counting.now.rule.now in
-    said_so (Gives (IsPageBy c.args.maker.now.run.now rule)) (CountRefuses rule.options) (g.P.Read.remaining c.args.inputs.file) (known g.J.Read.remaining c.args.inputs.journal) _
+    said_so (Gives (IsPageBy c.args.maker.now.run.now rule)) (CountRefuses rule) (g.P.Read.remaining c.args.inputs.file) (known g.J.Read.remaining c.args.inputs.journal) _
     c.first_difference-found.result c.in-Ok.ensures.runs.ends
 
 pub returns-in-Err-clause-ends : goal.returns-in-Err-clause-ends
 returns-in-Err-clause-ends g c =
     let rule = c.args.counting.now.rule.now in
-    refused_so (Gives (IsPageBy c.args.maker.now.run.now rule)) (CountRefuses rule.options) (g.P.Read.remaining c.args.inputs.file) (known g.J.Read.remaining c.args.inputs.journal) _
+    refused_so (Gives (IsPageBy c.args.maker.now.run.now rule)) (CountRefuses rule) (g.P.Read.remaining c.args.inputs.file) (known g.J.Read.remaining c.args.inputs.journal) _
     c.in-Err.fault c.of_memory.result c.of_memory.ensures.write c.of_memory.ensures.other c.in-Err.ensures.runs.ends

@@ -1,6 +1,7 @@
-use Rattle.std.proofs.Common.{◌≡◌, ◌++◌, ◌&&◌, not}
+use Rattle.std.proofs.Common.{◌≡◌, ◌++◌, ◌&&◌, map, not}
 use Rattle.std.specs.Prelude.{filter, nat_lt}
 use Rattle.std.specs.List.{range_with_len}
+use Rattle.pb_core.specs.Order.{position_in}
 use Rattle.pb_price.specs.Supporters.{support_of}
 use Rattle.pb_reasons.specs.Counted.{winners_of}
 use Rattle.pb_rounds.specs.MostVotes.{is_taken, votes_at}
@@ -12,4 +13,4 @@ use Rattle.pb_commands.proofs.fairness_table.put_fairness.Given as goal
 abbrev pub invariant-loop-position : goal.invariant-loop-position
 invariant-loop-position l = l.rows.text ≡ l.fn.rows.text ++ table_text (columns_of Fairness l.count)
     (filter (λ place. nat_lt 0 (votes_at (support_of l.count.election) place) && not (is_taken (winners_of l.count.counted) place))
-    (range_with_len 0 l.position))
+    (map (position_in l.count.order) (range_with_len 0 l.position)))

@@ -13,7 +13,7 @@ returns c =
     let project = c.index-projects-place.result in
     let projects = c.projects.ensures.projects ∙ ap (λ e. e.projects) c.election.ensures.election in
     let votes = c.number-2.ensures ∙ ap (λ (r : ProjectReason). Number r.votes) c.project-reason.ensures in
-    let row = project_row_read k c.args.place project c.requires.known (rw projects at c.index-projects-place.is) c.number.result c.amount.result c.number-2.result c.number.ensures
+    let row = project_row_read k c.args.place project c.requires.known (rw projects at c.index-projects-place.is) c.number.result c.amount.result c.number-2.result (c.number.ensures ∙ ap Number c.place.ensures.place)
     (c.amount.ensures ∙ ap Amount c.cost.ensures.cost) votes c.id.result.now c.name.result.now c.id.ensures.id c.name.ensures _
     (c.said_of-said.ensures k c.args.place (ap (λ (r : ProjectReason). r.ending) c.project-reason.ensures)) c.args.width c.requires.width in
     c.in_ok-put_fields.ensures.text ∙ ap (λ fields. c.args.rows.now.text ++ text_of_row fields) (sym (take-map field_text c.args.width _) ∙ row)

@@ -1,11 +1,13 @@
-use Rattle.std.proofs.Common.{◌≡◌, ◌++◌, ◌∙◌, ap, arith, length, sym}
+use Rattle.std.proofs.Common.{◌≡◌, ◌++◌, ◌∙◌, ap, arith, length, map, sym}
 use Rattle.std.proofs.lemmas.List.{take-map}
 use Rattle.std.specs.List.{range_with_len}
+use Rattle.pb_core.specs.Order.{position_in}
 use Rattle.pb_reasons.specs.Counted.{CountedView}
 use Rattle.pb_rounds.specs.declared.rule.Rule.{Rule}
 use Rattle.pb_rows.specs.Tables.{table_text}
 use Rattle.pb_rows.specs.Writing.{text_of_row}
-use Rattle.pb_commands.proofs.TableColumns.{head_put, names_taken, place_put}
+use Rattle.pb_commands.proofs.TableColumns.{file_place_put, head_put, names_taken}
+use Rattle.pb_commands.specs.Inner.Tables.{row_of}
 use Rattle.pb_commands.specs.Tables.{columns_of, table_of}
 use Rattle.pb_commands.specs.declared.table.Table.TheVariants.{Projects}
 use Rattle.pb_commands.proofs.projects_table.put_projects.Goals as goal
@@ -27,8 +29,8 @@ put_project-requires-clause-width c =
 pub loop-place-preserved : goal.loop-place-preserved
 loop-place-preserved c =
     let k = c.args.count.now in
-    place_put (columns_of Projects k) c.loop-place.place c.args.rows.now.text c.loop-place.rows.text c.put_project.new.rows.text c.loop-place.invariant
-    c.in_ok-put_project.ensures
+    file_place_put (columns_of Projects k) (position_in k.order) c.loop-place.place c.args.rows.now.text c.loop-place.rows.text c.put_project.new.rows.text c.loop-place.invariant
+    (c.in_ok-put_project.ensures ∙ ap (λ p. c.loop-place.rows.text ++ text_of_row (row_of (columns_of Projects k) p)) c.position.ensures.position)
 
 pub returns : goal.returns
 unfolding table_of
@@ -36,4 +38,4 @@ returns c =
     let k = c.args.count.now in
     let projects = ap length (c.projects-projects.ensures.projects ∙ ap (λ e. e.projects) c.election.ensures.election) in
     let all : c.loop-place.place ≡ length k.election.projects = omega (arith, projects, c.loop-place.auto.place-end, c.loop-place-test.false) in
-    c.loop-place.invariant ∙ ap (λ n. c.args.rows.now.text ++ table_text (columns_of Projects k) (range_with_len 0 n)) all
+    c.loop-place.invariant ∙ ap (λ n. c.args.rows.now.text ++ table_text (columns_of Projects k) (map (position_in k.order) (range_with_len 0 n))) all

@@ -1,5 +1,6 @@
-use Rattle.std.proofs.Common.{◌≡◌, ◌++◌}
+use Rattle.std.proofs.Common.{◌≡◌, ◌++◌, map}
 use Rattle.std.specs.List.{range_with_len}
+use Rattle.pb_core.specs.Order.{position_in}
 use Rattle.pb_rows.specs.Tables.{table_text}
 use Rattle.pb_commands.specs.Tables.{columns_of}
 use Rattle.pb_commands.specs.declared.table.Table.TheVariants.{RuledProjects}
@@ -7,4 +8,4 @@ use Rattle.pb_commands.proofs.ruled_projects_table.put_ruled_projects.Given as g
 
 abbrev pub invariant-loop-place : goal.invariant-loop-place
 invariant-loop-place l =
-    l.rows.text ≡ l.fn.rows.text ++ table_text (columns_of RuledProjects l.count) (range_with_len 0 l.place)
+    l.rows.text ≡ l.fn.rows.text ++ table_text (columns_of RuledProjects l.count) (map (position_in l.count.order) (range_with_len 0 l.place))

@@ -1,13 +1,12 @@
 use Rattle.pb_commands.proofs.Closings.{report_follows, row_alone}
-use Rattle.pb_commands.proofs.RunEnds.{is_count_by}
 use Rattle.pb_commands.proofs.run_audit.put_desk.Goals as goal
 
 pub returns-in-Ok-put-clause-ok : goal.returns-in-Ok-put-clause-ok
 returns-in-Ok-put-clause-ok g c =
     let rule = c.args.counting.now.rule.now in
     let shut = rw c.in-Ok-Some.field-0-is at c.in-Ok-Some.ensures.shut in
-    report_follows rule c.args.desk c.in-Ok-Some.count.election c.in-Ok-Some.count.counted c.args.rows.now.text
-    c.put_entries.new.rows.text c.put_report-put.new.rows.text shut.0 shut.1 (is_count_by c.in-Ok-Some.count rule shut.2 shut.3) c.in-Ok.ensures c.in-Ok-put.ensures
+    report_follows rule c.args.desk c.in-Ok-Some.count c.args.rows.now.text c.put_entries.new.rows.text c.put_report-put.new.rows.text shut.0 shut.2 c.in-Ok.ensures
+    c.in-Ok-put.ensures
 
 pub returns-in-Ok-None-clause-ok : goal.returns-in-Ok-None-clause-ok
 returns-in-Ok-None-clause-ok g c =

@@ -1,8 +1,11 @@
-use Rattle.std.proofs.Common.{Some, None}
-use Rattle.pb_commands.proofs.Endings.{run_ended, run_given, run_written}
+use Rattle.std.proofs.Common.{◌≡◌, Some, None}
+use Rattle.std.proofs.lemmas.Result.{on_ok_weaker}
+use Rattle.pb_commands.proofs.Endings.{known_map, run_ended, run_given, run_written}
 use Rattle.pb_commands.proofs.RunEnds.{audit_known, audits_pass, of_any, open_audit, refused_audit, written_of_any}
-use Rattle.pb_commands.specs.Audited.{AuditWrites}
+use Rattle.pb_commands.specs.Audited.{AuditWrites, IsDeskOf}
 use Rattle.pb_commands.specs.Closed.{CountRefuses}
+use Rattle.pb_desk.specs.Desk.{DeskView}
+use Rattle.pb_script.specs.EntryCounts.{counts_of}
 use Rattle.pb_faults.specs.Fault.{merged}
 use Rattle.pb_faults.specs.declared.fault.AppFault.TheVariants.{Count, OpenDesk}
 use Rattle.pb_commands.proofs.run_audit.run_audit_watched.Goals as goal
@@ -13,7 +16,7 @@ returns-in-Err-clause-runs g c =
     let rule = c.args.counting.now.rule.now in
     let files = g.P.Read.remaining c.args.inputs.file in
     let journals = g.J.Read.remaining c.args.inputs.journal in
-    run_ended (AuditWrites demand rule) (λ bytes rows. CountRefuses rule.options bytes (Some rows)) files journals _ g.W.Write.contents _ c.in-Err.fault
+    run_ended (AuditWrites demand rule) (λ bytes rows. CountRefuses rule bytes (Some rows)) files journals _ g.W.Write.contents _ c.in-Err.fault
     (audits_pass demand rule files journals _ c.in-Err.fault c.in-Err.ensures.reads c.in-Err.ensures.ends)
 
 pub returns-then-is_refused-clause-runs : goal.returns-then-is_refused-clause-runs
@@ -24,7 +27,7 @@ returns-then-is_refused-clause-runs g c =
     let journals = g.J.Read.remaining c.args.inputs.journal in
     let file = c.in-Ok.ensures.ends.judges in
     let refused = c.is_refused.ensures.refused c.if-is_refused.true in
-    run_ended (AuditWrites demand rule) (λ bytes rows. CountRefuses rule.options bytes (Some rows)) files journals _ g.W.Write.contents _ OpenDesk
+    run_ended (AuditWrites demand rule) (λ bytes rows. CountRefuses rule bytes (Some rows)) files journals _ g.W.Write.contents _ OpenDesk
     (open_audit demand rule files journals _ c.in-Ok.desk refused.0 refused.1 c.in-Ok.ensures.ok file.1 file.0)
 
 pub returns-in_err-text-clause-runs : goal.returns-in_err-text-clause-runs
@@ -35,7 +38,7 @@ returns-in_err-text-clause-runs g c =
     let journals = g.J.Read.remaining c.args.inputs.journal in
     let file = c.in-Ok.ensures.ends.judges in
     let fault = c.in_err-text.field-0.0 in
-    run_given (AuditWrites demand rule) (λ bytes rows. CountRefuses rule.options bytes (Some rows)) files journals _ g.W.Write.contents _ _ (merged (Count fault))
+    run_given (AuditWrites demand rule) (λ bytes rows. CountRefuses rule bytes (Some rows)) files journals _ g.W.Write.contents _ _ (merged (Count fault))
     c.from_residual.ensures.1 (refused_audit demand rule files journals _ c.in-Ok.desk c.in-Ok.ensures.ok fault c.in_err-text.ensures.fault file.1 file.0)
 
 pub returns-clause-runs : goal.returns-clause-runs
@@ -46,8 +49,8 @@ returns-clause-runs g c =
     let journals = g.J.Read.remaining c.args.inputs.journal in
     let file = c.in-Ok.ensures.ends.judges in
     let text = c.in_ok-text.text.items in
-    run_written (AuditWrites demand rule) (λ bytes rows. CountRefuses rule.options bytes (Some rows)) files journals _ g.W.Write.contents _ _ text _
-    (rw c.as_slice.ensures.value at c.write_out.ensures.ok) c.write_out.ensures.fault file.1 file.0
+    run_written (AuditWrites demand rule) (λ bytes rows. CountRefuses rule bytes (Some rows)) files journals _ g.W.Write.contents _ _ text _
+    (rw c.as_slice.ensures.value at c.write_out.ensures.ok) c.write_out.ensures.fault (rw c.as_slice.ensures.value at c.write_out.ensures.front) file.1 file.0
     (audit_known demand rule files journals None c.in-Ok.desk c.in-Ok.ensures.ok (c.is_refused.ensures.passed c.if-is_refused.false) text c.in_ok-text.ensures.ok)
 
 pub returns-in-Err-clause-demanded : goal.returns-in-Err-clause-demanded
@@ -61,3 +64,10 @@ returns-in_err-text-clause-demanded g c = of_any _ _ c.in_err-text.field-0.0 c.f
 
 pub returns-clause-demanded : goal.returns-clause-demanded
 returns-clause-demanded g c = written_of_any _ _ c.write_out.ensures.fault
+
+pub returns-clause-counts : goal.returns-clause-counts
+returns-clause-counts g c =
+    let desk = c.in-Ok.desk in
+    let counts = c.of.result.counts in
+    on_ok_weaker c.write_out.result (λ said. known_map (λ bytes journal. IsDeskOf bytes journal desk) (λ bytes journal. (d : DeskView) × IsDeskOf bytes journal d × (counts ≡ counts_of d.journal))
+    (g.P.Read.remaining c.args.inputs.file) (g.J.Read.remaining c.args.inputs.journal) (λ bytes journal is. (desk, is, c.of.ensures)) c.in-Ok.ensures.ok) c.write_out.ensures.ok

@@ -7,7 +7,7 @@ pub returns-clause-compared : goal.returns-clause-compared
 returns-clause-compared g c = on_ok_weaker c.put_rows-put.result (λ _. c.in_ok-warnings.ensures.compared) c.put_rows-put.ensures.ok
 
 pub returns-clause-fault : goal.returns-clause-fault
-returns-clause-fault g c = outside_refused _ c.args.counting.now.rule.now.options c.put_rows-put.result c.put_rows-put.ensures.fault
+returns-clause-fault g c = outside_refused _ c.args.counting.now.rule.now c.put_rows-put.result c.put_rows-put.ensures.fault
 
 pub returns-clause-written : goal.returns-clause-written
 returns-clause-written g c =

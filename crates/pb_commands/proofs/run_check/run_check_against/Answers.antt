@@ -1,19 +1,21 @@
-use Rattle.std.proofs.Common.{refl}
+use Rattle.std.proofs.Common.{map, refl}
+use Rattle.std.specs.Prelude.{slice_index}
 use Rattle.std.proofs.lemmas.Option.{IfSome_then}
-use Rattle.pb_reasons.specs.Counted.{IsCountBy, winners_of}
+use Rattle.pb_reasons.specs.Counted.{winners_of}
+use Rattle.pb_reasons.specs.CountedElection.{IsCountIn}
 use Rattle.pb_commands.proofs.CheckedAgainst.{known_fails, known_has, memory_refused}
 use Rattle.pb_commands.proofs.run_check.run_check_against.Goals as goal
 
 pub returns-in_err-checked-clause-fault : goal.returns-in_err-checked-clause-fault
-returns-in_err-checked-clause-fault g c = memory_refused _ c.args.counting.now.rule.now.options _ c.from_residual.ensures.1
+returns-in_err-checked-clause-fault g c = memory_refused _ c.args.counting.now.rule.now _ c.from_residual.ensures.1
 
 pub returns-in-Err-clause-fault : goal.returns-in-Err-clause-fault
 returns-in-Err-clause-fault g c =
-    known_fails _ c.in_ok-checked.checked.faults.items c.in_ok-checked.checked.election c.args.counting.now.rule.now.options c.in-Err.fault c.in_ok-checked.ensures.election c.in-Err.ensures.fault
+    known_fails _ c.in_ok-checked.checked.faults.items c.in_ok-checked.checked.election c.args.counting.now.rule.now c.in-Err.fault c.in_ok-checked.ensures.election c.in-Err.ensures.fault
 
 pub returns-in-Ok-clause-compared : goal.returns-in-Ok-clause-compared
 returns-in-Ok-clause-compared g c =
-    known_has (IsCountBy c.args.counting.now.rule.now) (λ e x. g.N.Compare.has_compared c.put_checked.new.notes (winners_of x)) _ c.in_ok-checked.checked.faults.items _ c.in_ok-checked.checked.election c.in_ok-checked.ensures.election c.in-Ok.ensures.compared refl
+    known_has (IsCountIn c.args.counting.now.rule.now) (λ e x. g.N.Compare.has_compared c.put_checked.new.notes (map (slice_index x.order) (winners_of x.counted))) _ c.in_ok-checked.checked.faults.items _ c.in_ok-checked.checked.election c.in_ok-checked.ensures.election c.in-Ok.ensures.compared refl
 
 pub returns-in-Err-clause-faults : goal.returns-in-Err-clause-faults
 returns-in-Err-clause-faults g c = IfSome_then (g.R.Read.remaining c.args.reader) c.in_ok-checked.ensures.faults (λ bytes listed. tt)

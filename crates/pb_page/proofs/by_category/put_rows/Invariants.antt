@@ -6,4 +6,4 @@ use Rattle.pb_page.proofs.by_category.put_rows.Given as goal
 
 abbrev pub invariant-loop-number : goal.invariant-loop-number
 invariant-loop-number l = Grows l.fn.page.items l.page.items
-    (flat_map (category_row l.language l.election l.winners l.categories) (range_with_len 0 l.number))
+    (flat_map (category_row l.language l.count l.categories) (range_with_len 0 l.number))

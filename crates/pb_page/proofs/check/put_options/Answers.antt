@@ -1,8 +1,8 @@
-use Rattle.std.proofs.Common.{◌∙◌, sym}
+use Rattle.std.proofs.Common.{refl}
+use Rattle.pb_page.specs.Inner.Counted.{options_given}
+use Rattle.pb_page.proofs.Grown.{alike_put, then_put}
 use Rattle.pb_page.proofs.check.put_options.Goals as goal
 
-pub returns-then-has_no_shares : goal.returns-then-has_no_shares
-returns-then-has_no_shares c = rw (sym c.has_no_shares.ensures ∙ c.if-has_no_shares.true) c.put_own.ensures
-
 pub returns : goal.returns
-returns c = rw (sym c.has_no_shares.ensures ∙ c.if-has_no_shares.false) c.put_chosen.ensures
+returns c =
+    alike_put _ _ (options_given c.args.rule.now) _ _ (then_put _ _ _ _ _ _ c.in_ok-put_method.ensures c.put_ties_option.ensures) (λ rest. refl)

@@ -3,4 +3,4 @@ use Rattle.pb_page.proofs.elected_only.put_only.Goals as goal
 
 pub put_links-put-requires : goal.put_links-put-requires
 put_links-put-requires c =
-    rw (c.as_slice.ensures.value, c.in_ok-places.ensures) (beside_are_known c.args.election.now _ _ c.requires)
+    rw (c.as_slice.ensures.value, c.in_ok-places.ensures) (beside_are_known c.args.count.now.election _ _ c.requires)

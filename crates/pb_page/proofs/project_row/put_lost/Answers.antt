@@ -8,7 +8,7 @@ use Rattle.pb_page.proofs.project_row.put_lost.Goals as goal
 pub returns-in_ok-put_went-in-Some : goal.returns-in_ok-put_went-in-Some
 returns-in_ok-put_went-in-Some c =
     let l = c.args.language.now in let r = c.args.row.now in let lost = c.args.lost.now in
-    let told = went_as l r.election.now c.args.paid.now in
+    let told = went_as l r.count.now c.args.paid.now in
     alike_put _ _ (ended_row l r.short r.budget (project_of r) r.votes told (Lost lost)) _ _ (then_put _ _ _ _ _ _ c.in_ok-put-in-Some.ensures
     (then_put _ _ _ _ _ _ c.in_ok-put_went-in-Some.ensures
     c.put_lacking.ensures))
@@ -17,6 +17,6 @@ returns-in_ok-put_went-in-Some c =
 pub returns-in-None : goal.returns-in-None
 returns-in-None c =
     let l = c.args.language.now in let r = c.args.row.now in let lost = c.args.lost.now in
-    let told = went_as l r.election.now c.args.paid.now in
+    let told = went_as l r.count.now c.args.paid.now in
     alike_put _ _ (ended_row l r.short r.budget (project_of r) r.votes told (Lost lost)) _ _ c.put_passed_over.ensures
     (passed_is l r.short r.budget (project_of r) r.votes lost told c.in-None.is)

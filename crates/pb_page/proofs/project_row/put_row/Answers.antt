@@ -19,7 +19,7 @@ returns c =
     (then_put _ _ _ _ _ _ c.in_ok-put_ended.ensures
     (then_put _ _ _ _ _ _ c.in_ok-put_category.ensures
     c.put_own.ensures)))
-    (row_is c.args.facts.now x c.args.place p _ _ _ _ _ _ _ _ _ c.election-election.ensures.election
+    (row_is c.args.facts.now x c.args.place _ _ p _ _ _ _ _ _ _ _ c.place.ensures.place c.place-2.ensures.place
     (c.in_ok-paid.ensures ∙ ap (λ (m : CountedElectionView). told_of m c.args.place c.project-reason.result.votes c.project-reason.result.ending) c.requires.same) project c.id.ensures.id c.name.ensures c.cost.ensures.cost
     c.short_key.ensures
     (c.budget.ensures.budget ∙ ap (λ (e : ElectionView). e.budget) c.election-election.ensures.election)

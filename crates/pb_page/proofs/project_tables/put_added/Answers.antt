@@ -23,5 +23,6 @@ returns c =
     (then_put _ _ _ _ _ _ c.in_ok-put_own.ensures
     (then_put _ _ _ _ _ _ (subst Rows places c.in_ok-put_added_rows.ensures)
     c.put_own-2.ensures))))
-    (added_are c.args.facts.now c.args.count.now
-    (sym (rw c.rule.ensures at c.has_no_shares.ensures) ∙ c.if-has_no_shares.false) (ap (λ (all : List ℕ). length all == 0) (sym places) ∙ sym c.is_empty.ensures ∙ c.if-is_empty.false))
+    (added_are c.args.facts.now c.args.count.now _
+    (sym (rw c.rule.ensures at c.has_no_shares.ensures) ∙ c.if-has_no_shares.false) (ap (λ (all : List ℕ). length all == 0) (sym places) ∙ sym c.is_empty.ensures ∙ c.if-is_empty.false)
+    (rw c.rule-2.ensures at c.by_ties-caption.ensures))

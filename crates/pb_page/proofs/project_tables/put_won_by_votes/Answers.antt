@@ -23,7 +23,8 @@ returns c =
     (then_put _ _ _ _ _ _ c.in_ok-put_own.ensures
     (then_put _ _ _ _ _ _ (subst Rows places c.in_ok-put_added_rows.ensures)
     c.put_own-2.ensures))))
-    (voted_are c.args.facts.now c.args.count.now c.requires.alone (ap (λ (all : List ℕ). length all == 0) (sym places) ∙ sym c.is_empty.ensures ∙ c.if-is_empty.false))
+    (voted_are c.args.facts.now c.args.count.now _ c.requires.alone (ap (λ (all : List ℕ). length all == 0) (sym places) ∙ sym c.is_empty.ensures ∙ c.if-is_empty.false)
+    (rw c.rule.ensures at c.by_ties-caption.ensures))
 
 pub returns-then-is_empty : goal.returns-then-is_empty
 returns-then-is_empty c =

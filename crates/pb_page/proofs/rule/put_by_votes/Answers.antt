@@ -6,9 +6,10 @@ use Rattle.pb_page.proofs.rule.put_by_votes.Goals as goal
 
 pub returns : goal.returns
 returns c end =
-    alike_put _ _ (section c.args.language.now (rule c.args.language.now c.args.count.now end)) _ _ (then_put _ _ _ _ _ _ c.in_ok-put.ensures
+    let x = c.args.count.now in let l = c.args.language.now in
+    alike_put _ _ (section l (rule l x end)) _ _ (then_put _ _ _ _ _ _ c.in_ok-put.ensures
     (then_put _ _ _ _ _ _ c.in_ok-put_own.ensures
     (then_put _ _ _ _ _ _ c.in_ok-put_item.ensures
     (then_put _ _ _ _ _ _ c.in_ok-put_ties.ensures
     c.put_own-2.ensures))))
-    (votes_rule_is c.args.language.now c.args.count.now end c.requires)
+    (votes_rule_is l x end _ c.requires (rw c.rule-rule.ensures at c.by_ties-said.ensures))

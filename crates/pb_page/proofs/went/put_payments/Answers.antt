@@ -8,7 +8,7 @@ loop-payment-init c = none c.args.page.now.items
 
 pub loop-payment-preserved : goal.loop-payment-preserved
 loop-payment-preserved c =
-    row_more (payment_told c.args.language.now c.args.election.now) c.args.payments.now c.loop-payment.payment-index _ _ _ _
+    row_more (payment_told c.args.language.now c.args.count.now) c.args.payments.now c.loop-payment.payment-index _ _ _ _
     c.loop-payment-test.true c.payment-item.is c.loop-payment.invariant c.in_ok-put_payment.ensures
 
 pub returns : goal.returns

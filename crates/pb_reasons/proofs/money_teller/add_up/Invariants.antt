@@ -1,4 +1,4 @@
-use Rattle.std.proofs.Common.{◌≡◌, ◌+◌, ◌<◌, ℕ, length, take}
+use Rattle.std.proofs.Common.{◌≡◌, ◌+◌, ℕ, length, take}
 use Rattle.std.specs.Prelude.{slice_index}
 use Rattle.pb_reasons.specs.Inner.Money.{paid_to}
 use Rattle.pb_reasons.proofs.money_teller.add_up.Given as goal

@@ -1,4 +1,4 @@
-use Rattle.std.proofs.Common.{◌≡◌, ◌∙◌, ◌++◌, ◌+◌, ◌≤◌, ℕ, length, List, [], Err, IsErrAnd, inl, arith, refl, ap, sym, subst}
+use Rattle.std.proofs.Common.{◌≡◌, ◌∙◌, ◌++◌, ◌+◌, ◌≤◌, ℕ, length, List, [], Err, inl, arith, refl, ap, sym, subst}
 use Rattle.pb_durable.proofs.Openings.{if_err}
 use Rattle.pb_durable.specs.declared.durable_fault.DurableFault.{DurableFault}
 use Rattle.pb_durable.proofs.Durable.{stays}
@@ -9,12 +9,12 @@ use Rattle.pb_faults.specs.declared.fault.AppFault.{AppFault}
 use Rattle.pb_faults.specs.declared.fault.AppFault.TheVariants.{Serving, Write}
 use Rattle.pb_faults.specs.declared.serving_fault.ServingFault.TheVariants.{Output}
 use Rattle.pb_serving.specs.Answered.{IsBehind}
-use Rattle.pb_faults.specs.Durable.{of_durable}
-use Rattle.pb_serving.proofs.Causes.{behind_durable, cause_of, err_is, not_durable, not_output, told_is}
+use Rattle.pb_serving.specs.Inner.Durable.{of_durable}
+use Rattle.pb_serving.proofs.Causes.{behind_durable, cause_of, failed_is, not_durable, not_output, told_is}
 use Rattle.std.specs.Io.KnownBytes.{Appends}
 use Rattle.pb_desk.specs.declared.version.Version.TheVariants.{One}
 use Rattle.pb_durable.specs.Inner.Entries.{entries_of}
-use Rattle.pb_serving.proofs.Apart.{ok_not_err, output_not_read}
+use Rattle.pb_serving.proofs.Apart.{ok_not_err, output_not_read, same_err}
 use Rattle.pb_serving.proofs.Answering.{nothing_said, said_rows}
 use Rattle.pb_durable.specs.declared.clerk_request.ClerkRequest.{ClerkRequest}
 use Rattle.std.proofs.lemmas.List.{append-nil, nil_from_length}
@@ -26,10 +26,10 @@ use Rattle.pb_serving.proofs.run_serve.answer.Goals as goal
 pub returns-clause-said : goal.returns-clause-said
 returns-clause-said g c =
     let old = c.args.desk.now.desk.journal in
-    let recorded = c.in_ok-answers.field-0 in
+    let recorded = c.in-Ok.recorded in
     let answers = recorded.answers.items in
-    let answered = c.in_ok-answers.ensures.answered in
-    let rows = said_rows old c.serve_all.new.self.desk.journal (entries_of c.args.asks.items answers) recorded.rows.items answered.1 (c.in_ok-answers.ensures.rows One) in (
+    let answered = c.in-Ok.ensures.answered in
+    let rows = said_rows old c.serve_all.new.self.desk.journal (entries_of c.args.asks.items answers) recorded.rows.items answered.1 (c.in-Ok.ensures.rows One) in (
       answers,
       answered.0,
       answered.1,
@@ -48,48 +48,47 @@ returns-then-is_empty-clause-said g c =
       subst (λ (a : List ClerkRequest). Appends w w (text_of_rows (rows_from (length old + 1) (entries_of a [])))) (sym none) (nothing_said w (length old + 1)),
     )
 
-pub returns-in_err-answers-clause-other : goal.returns-in_err-answers-clause-other
-returns-in_err-answers-clause-other g c =
-    let why = c.in_err-answers.field-0.0 in
-    if_err c.from_residual.result (of_durable why) (λ (fault : AppFault). (answered served unserved : ℕ) → served + unserved ≤ 4097 → (fault ≡ Serving Output → unserved ≡ 0) → IsBehind fault answered served unserved)
-    c.from_residual.ensures.1 (λ answered served unserved few none. behind_durable why answered served unserved few)
+pub returns-in-Err-clause-other : goal.returns-in-Err-clause-other
+returns-in-Err-clause-other g c =
+    let why = c.in-Err.fault in
+    subst (λ (fault : AppFault). (answered served unserved : ℕ) → served + unserved ≤ 4097 → (fault ≡ Serving Output → unserved ≡ 0) → IsBehind fault answered served unserved)
+    (sym c.unanswered.ensures) (λ answered served unserved few none. behind_durable why answered served unserved few)
 
 pub returns-in_err-write_out-clause-other : goal.returns-in_err-write_out-clause-other
 returns-in_err-write_out-clause-other g c =
     let why = c.in_err-write_out.field-0.0 in
     let is : why ≡ Serving Output = c.in_err-write_out.ensures.fault in
-    if_err c.from_residual-in_err-write_out.result why (λ (fault : AppFault). (answered served unserved : ℕ) → served + unserved ≤ 4097 → (fault ≡ Serving Output → unserved ≡ 0) → IsBehind fault answered served unserved)
-    c.from_residual-in_err-write_out.ensures.1 (subst (λ (fault : AppFault). (answered served unserved : ℕ) → served + unserved ≤ 4097 → (fault ≡ Serving Output → unserved ≡ 0) → IsBehind fault answered served unserved) (sym is)
+    if_err c.from_residual.result why (λ (fault : AppFault). (answered served unserved : ℕ) → served + unserved ≤ 4097 → (fault ≡ Serving Output → unserved ≡ 0) → IsBehind fault answered served unserved)
+    c.from_residual.ensures.1 (subst (λ (fault : AppFault). (answered served unserved : ℕ) → served + unserved ≤ 4097 → (fault ≡ Serving Output → unserved ≡ 0) → IsBehind fault answered served unserved) (sym is)
     (λ answered served unserved few none. (omega (arith, few), none refl)))
 
-pub returns-in_err-answers-clause-asked : goal.returns-in_err-answers-clause-asked
-returns-in_err-answers-clause-asked g c =
-    let why = c.in_err-answers.field-0.0 in
+pub returns-in-Err-clause-asked : goal.returns-in-Err-clause-asked
+returns-in-Err-clause-asked g c =
+    let why = c.in-Err.fault in
     let asked = c.serve_all.ensures.asked in
-    (asked.0, asked.1, λ said. absurd (not_output why (subst (λ r. IsErrAnd r (λ x. x ≡ of_durable why)) said c.from_residual.ensures.1)))
+    (asked.0, asked.1, λ said. absurd (not_output why (sym (same_err refl said) ∙ c.unanswered.ensures)))
 
 pub returns-in_err-write_out-clause-asked : goal.returns-in_err-write_out-clause-asked
 returns-in_err-write_out-clause-asked g c =
-    let answered = c.in_ok-answers.ensures.answered in
-    (c.in_ok-answers.field-0.answers.items, answered.1, λ said. answered.0)
+    let answered = c.in-Ok.ensures.answered in
+    (c.in-Ok.recorded.answers.items, answered.1, λ said. answered.0)
 
-pub returns-in_err-answers-clause-not_read : goal.returns-in_err-answers-clause-not_read
-returns-in_err-answers-clause-not_read g c = λ i said.
-    let why = c.in_err-answers.field-0.0 in
-    not_durable why i (subst (λ r. IsErrAnd r (λ x. x ≡ of_durable why)) said c.from_residual.ensures.1)
+pub returns-in-Err-clause-not_read : goal.returns-in-Err-clause-not_read
+returns-in-Err-clause-not_read g c = λ i said.
+    let why = c.in-Err.fault in
+    not_durable why i (sym (same_err refl said) ∙ c.unanswered.ensures)
 
-pub returns-in_err-answers-clause-told : goal.returns-in_err-answers-clause-told
-returns-in_err-answers-clause-told g c = λ tells failed.
-    let why = c.in_err-answers.field-0.0 in
-    let said = sym c.in_err-answers.was ∙ c.serve_all.ensures.told tells failed in
-    err_is c.from_residual.result (of_durable why) Write c.from_residual.ensures.1 (cc said)
+pub returns-in-Err-clause-told : goal.returns-in-Err-clause-told
+returns-in-Err-clause-told g c = λ tells failed.
+    let why = c.in-Err.fault in
+    ap Err (c.unanswered.ensures ∙ failed_is why c.in-Err.is (c.serve_all.ensures.told tells failed))
 
-pub returns-in_err-answers-clause-write : goal.returns-in_err-answers-clause-write
-returns-in_err-answers-clause-write g c = λ tells said.
-    let why = c.in_err-answers.field-0.0 in
-    let is : Write ≡ of_durable why = subst (λ r. IsErrAnd r (λ x. x ≡ of_durable why)) said c.from_residual.ensures.1 in
-    cause_of why _ _ _ is (λ at. c.serve_all.ensures.failed tells (c.in_err-answers.was ∙ ap (λ (f : DurableFault). Err f) at)) (λ at. c.serve_all.ensures.journal_full (c.in_err-answers.was ∙ ap (λ (f : DurableFault). Err f) at))
-    (λ at. c.serve_all.ensures.full tells (c.in_err-answers.was ∙ ap (λ (f : DurableFault). Err f) at))
+pub returns-in-Err-clause-write : goal.returns-in-Err-clause-write
+returns-in-Err-clause-write g c = λ tells said.
+    let why = c.in-Err.fault in
+    let is : Write ≡ of_durable why = sym (same_err refl said) ∙ c.unanswered.ensures in
+    cause_of why _ _ _ is (λ at. c.serve_all.ensures.failed tells (c.in-Err.is ∙ ap (λ (f : DurableFault). Err f) at)) (λ at. c.serve_all.ensures.journal_full (c.in-Err.is ∙ ap (λ (f : DurableFault). Err f) at))
+    (λ at. c.serve_all.ensures.full tells (c.in-Err.is ∙ ap (λ (f : DurableFault). Err f) at))
 
 pub returns-clause-output : goal.returns-clause-output
 returns-clause-output g c = λ tells said. absurd (ok_not_err said)
@@ -114,17 +113,17 @@ returns-clause-steady g c = λ tells. c.serve_all.ensures.steady tells
 
 pub returns-clause-asked : goal.returns-clause-asked
 returns-clause-asked g c =
-    let answered = c.in_ok-answers.ensures.answered in
-    (c.in_ok-answers.field-0.answers.items, answered.1, λ said. answered.0)
+    let answered = c.in-Ok.ensures.answered in
+    (c.in-Ok.recorded.answers.items, answered.1, λ said. answered.0)
 
 pub returns-clause-told : goal.returns-clause-told
-returns-clause-told g c = λ tells failed. absurd (ok_not_err (sym c.in_ok-answers.was ∙ c.serve_all.ensures.told tells failed))
+returns-clause-told g c = λ tells failed. absurd (ok_not_err (sym c.in-Ok.is ∙ c.serve_all.ensures.told tells failed))
 
 pub serve_all-requires-clause-clerks : goal.serve_all-requires-clause-clerks
 serve_all-requires-clause-clerks g c = c.requires.clerks
 
 pub returns-in_err-write_out-clause-output : goal.returns-in_err-write_out-clause-output
-returns-in_err-write_out-clause-output g c = λ tells said. c.in_ok-answers.ensures.durable tells
+returns-in_err-write_out-clause-output g c = λ tells said. c.in-Ok.ensures.durable tells
 
 pub returns-then-is_empty-clause-any_moment : goal.returns-then-is_empty-clause-any_moment
 returns-then-is_empty-clause-any_moment g c = λ tells.
@@ -168,29 +167,29 @@ returns-in_err-write_out-clause-any_moment g c = λ tells. c.serve_all.ensures.a
 pub returns-in_err-write_out-clause-steady : goal.returns-in_err-write_out-clause-steady
 returns-in_err-write_out-clause-steady g c = λ tells. c.serve_all.ensures.steady tells
 
-pub returns-in_err-answers-clause-opening : goal.returns-in_err-answers-clause-opening
-returns-in_err-answers-clause-opening g c = c.serve_all.ensures.opening
+pub returns-in-Err-clause-opening : goal.returns-in-Err-clause-opening
+returns-in-Err-clause-opening g c = c.serve_all.ensures.opening
 
-pub returns-in_err-answers-clause-room : goal.returns-in_err-answers-clause-room
-returns-in_err-answers-clause-room g c = c.serve_all.ensures.room
+pub returns-in-Err-clause-room : goal.returns-in-Err-clause-room
+returns-in-Err-clause-room g c = c.serve_all.ensures.room
 
-pub returns-in_err-answers-clause-legal : goal.returns-in_err-answers-clause-legal
-returns-in_err-answers-clause-legal g c = c.serve_all.ensures.legal
+pub returns-in-Err-clause-legal : goal.returns-in-Err-clause-legal
+returns-in-Err-clause-legal g c = c.serve_all.ensures.legal
 
-pub returns-in_err-answers-clause-any_moment : goal.returns-in_err-answers-clause-any_moment
-returns-in_err-answers-clause-any_moment g c = λ tells. c.serve_all.ensures.any_moment tells
+pub returns-in-Err-clause-any_moment : goal.returns-in-Err-clause-any_moment
+returns-in-Err-clause-any_moment g c = λ tells. c.serve_all.ensures.any_moment tells
 
-pub returns-in_err-answers-clause-steady : goal.returns-in_err-answers-clause-steady
-returns-in_err-answers-clause-steady g c = λ tells. c.serve_all.ensures.steady tells
+pub returns-in-Err-clause-steady : goal.returns-in-Err-clause-steady
+returns-in-Err-clause-steady g c = λ tells. c.serve_all.ensures.steady tells
 
 pub returns-clause-durable : goal.returns-clause-durable
-returns-clause-durable g c = λ tells. c.in_ok-answers.ensures.durable tells
+returns-clause-durable g c = λ tells. c.in-Ok.ensures.durable tells
 
 pub returns-in_err-write_out-clause-not_read : goal.returns-in_err-write_out-clause-not_read
-returns-in_err-write_out-clause-not_read g c = λ i said. output_not_read c.in_err-write_out.ensures.fault (told_is c.from_residual-in_err-write_out.ensures.1 said)
+returns-in_err-write_out-clause-not_read g c = λ i said. output_not_read c.in_err-write_out.ensures.fault (told_is c.from_residual.ensures.1 said)
 
 pub returns-in_err-write_out-clause-told : goal.returns-in_err-write_out-clause-told
-returns-in_err-write_out-clause-told g c = λ tells failed. absurd (ok_not_err (sym c.in_ok-answers.was ∙ c.serve_all.ensures.told tells failed))
+returns-in_err-write_out-clause-told g c = λ tells failed. absurd (ok_not_err (sym c.in-Ok.is ∙ c.serve_all.ensures.told tells failed))
 
-pub returns-in_err-answers-clause-output : goal.returns-in_err-answers-clause-output
-returns-in_err-answers-clause-output g c = λ tells said. absurd (not_output c.in_err-answers.field-0.0 (sym (told_is c.from_residual.ensures.1 said)))
+pub returns-in-Err-clause-output : goal.returns-in-Err-clause-output
+returns-in-Err-clause-output g c = λ tells said. absurd (not_output c.in-Err.fault (sym (same_err refl said) ∙ c.unanswered.ensures))

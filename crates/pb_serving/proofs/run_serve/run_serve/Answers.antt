@@ -1,4 +1,4 @@
-use Rattle.std.proofs.Common.{◌≡◌, ◌∙◌, ◌++◌, inl, inr, [], Err, IsErrAnd, refl, ap, sym, subst, arith}
+use Rattle.std.proofs.Common.{◌≡◌, ◌∙◌, ◌++◌, ℕ, drop, length, inl, inr, [], Err, IsErrAnd, refl, ap, sym, subst, arith}
 use Rattle.std.specs.Io.KnownBytes.{Appends}
 use Rattle.std.proofs.KnownBytes.{Appends-trans}
 use Rattle.pb_desk.specs.Desk.{DeskView}
@@ -7,7 +7,8 @@ use Rattle.pb_desk.specs.Rows.{journal_text}
 use Rattle.pb_durable.specs.declared.durable_fault.DurableFault.TheVariants as durable
 use Rattle.pb_durable.specs.Device.{LeavesOnly}
 use Rattle.pb_serving.specs.Answered.{heading, Halts, StandsWithin}
-use Rattle.pb_faults.specs.Durable.{of_device}
+use Rattle.pb_script.specs.EntryCounts.{counts_of}
+use Rattle.pb_serving.specs.Inner.Durable.{of_device}
 use Rattle.pb_faults.specs.declared.fault.AppFault.{AppFault}
 use Rattle.pb_faults.specs.declared.fault.AppFault.TheVariants.{Memory, Serving, Write}
 use Rattle.pb_faults.specs.declared.serving_fault.ServingFault.TheVariants.{Output}
@@ -184,7 +185,7 @@ pub returns-in_err-write_out-clause-write : goal.returns-in_err-write_out-clause
 returns-in_err-write_out-clause-write g c = λ tells said. absurd (output_not_write c.in_err-write_out.ensures.fault (told_is c.from_residual-in_err-write_out.ensures.1 said))
 
 pub serve_rows-requires-clause-legal : goal.serve_rows-requires-clause-legal
-serve_rows-requires-clause-legal g c = subst (λ (d : DeskView). IsLegal d.opening d.journal) c.desk.ensures c.entries-entries.ensures.legal
+serve_rows-requires-clause-legal g c = subst (λ (d : DeskView). IsLegal d.opening d.journal) c.desk.ensures c.entries-before.ensures.legal
 
 pub returns-in_err-refused-clause-opening : goal.returns-in_err-refused-clause-opening
 returns-in_err-refused-clause-opening g c = c.serve_rows.ensures.opening
@@ -202,7 +203,13 @@ pub returns-in_err-opened-clause-output : goal.returns-in_err-opened-clause-outp
 returns-in_err-opened-clause-output g c = λ tells said. c.requires tells
 
 pub returns-in_err-write_out-clause-legal : goal.returns-in_err-write_out-clause-legal
-returns-in_err-write_out-clause-legal g c = subst (λ (d : DeskView). IsLegal d.opening d.journal) c.desk.ensures c.entries-entries.ensures.legal
+returns-in_err-write_out-clause-legal g c = subst (λ (d : DeskView). IsLegal d.opening d.journal) c.desk.ensures c.entries-before.ensures.legal
 
 pub returns-in_err-write_out-clause-blame : goal.returns-in_err-write_out-clause-blame
 returns-in_err-write_out-clause-blame g c = λ i said. absurd (output_not_read c.in_err-write_out.ensures.fault (told_is c.from_residual-in_err-write_out.ensures.1 said))
+
+pub returns-clause-counts : goal.returns-clause-counts
+returns-clause-counts g c =
+    let old = c.args.desk.now.desk.journal in
+    let before : c.entries-before.result ≡ length old = c.entries-before.ensures.entries ∙ ap (λ (d : DeskView). length d.journal) c.desk.ensures in
+    c.of.ensures ∙ ap (λ (n : ℕ). counts_of (drop n c.desk-3.result.now.journal)) before ∙ ap (λ (d : DeskView). counts_of (drop (length old) d.journal)) c.desk-3.ensures

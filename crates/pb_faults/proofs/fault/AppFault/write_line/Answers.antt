@@ -3,7 +3,7 @@ use Rattle.std.specs.Prelude.{Result}
 use Rattle.std.specs.Io.KnownBytes.{Appends}
 use Rattle.pb_faults.specs.Fault.{line, told}
 use Rattle.pb_faults.specs.declared.fault.AppFault.{AppFault}
-use Rattle.pb_faults.specs.declared.fault.AppFault.TheVariants.{Read, ClerkCount, OpenDesk, Count, Open}
+use Rattle.pb_faults.specs.declared.fault.AppFault.TheVariants.{Read, ClerkCount, OpenDesk, Count, TooManyRuns, Open}
 use Rattle.pb_faults.proofs.fault.AppFault.write_line.Goals as goal
 
 -- the line of a fault is written where that of its fields is
@@ -30,3 +30,6 @@ returns-in-Open g c = of_fields c.write_of_text.result _ _ _ (Open c.in-Open.tex
 
 pub returns-in-OpenDesk : goal.returns-in-OpenDesk
 returns-in-OpenDesk g c = of_fields c.write_fields-in-OpenDesk.result _ _ _ OpenDesk _ (sym c.merged.ensures ∙ c.in-OpenDesk.is) refl c.write_fields-in-OpenDesk.ensures
+
+pub returns-in-TooManyRuns : goal.returns-in-TooManyRuns
+returns-in-TooManyRuns g c = of_fields c.write_fields-in-TooManyRuns.result _ _ _ TooManyRuns _ (sym c.merged.ensures ∙ c.in-TooManyRuns.is) refl c.write_fields-in-TooManyRuns.ensures

@@ -1,7 +1,8 @@
-use Rattle.std.proofs.Common.{◌∙◌, [], ap, length, sym, subst, arith}
+use Rattle.std.proofs.Common.{◌∙◌, [], None, ap, length, sym, subst, arith}
+use Rattle.std.proofs.lemmas.List.Elements.{All-nil}
 use Rattle.pb_read.proofs.Checks.{going_start, handed_done}
 use Rattle.pb_read.proofs.Showing.{shows_start}
-use Rattle.pb_read.specs.Inner.Checking.{IsGoing}
+use Rattle.pb_read.specs.Inner.Checking.{AreBlamed, IsGoing}
 use Rattle.pb_read.specs.Inner.Progresses.{place_of}
 use Rattle.pb_read.specs.Inner.Showing.{Shows}
 use Rattle.pb_read.proofs.check.Check.list.Goals as goal
@@ -17,6 +18,8 @@ loop-left_out-init g c =
       count = none;
       few = omega arith;
       shows = subst (λ fs. Shows all all 0 fs (place_of c.args.self.now.progress) (g.W.Watch.shown c.args.watch.now) (g.W.Watch.shown c.args.watch.now)) (sym c.requires.none) (subst (λ p. Shows all all 0 [] p (g.W.Watch.shown c.args.watch.now) (g.W.Watch.shown c.args.watch.now)) (sym c.requires.at_start) (shows_start all (g.W.Watch.shown c.args.watch.now)));
+      runs = λ runs. runs;
+      blamed = λ runs. subst (AreBlamed None) (sym c.requires.none) (All-nil _);
     }
 
 pub returns-in-Ok-clause-election : goal.returns-in-Ok-clause-election

@@ -68,3 +68,8 @@ returns-clause-costs c =
     let end : length projects ≤ c.loop-number.number = search rules in
     c.loop-number.invariant.costs
     ∙ take_all c.loop-number.number costs (omega (arith, end, length-set (map (λ (r : ProjectView). r.cost) projects) c.args.place c.args.cost, length-map projects (λ (r : ProjectView). r.cost)))
+
+pub returns-clause-ids : goal.returns-clause-ids
+returns-clause-ids c =
+    let end : length c.args.frame.now.projects ≤ c.loop-number.number = search rules in
+    c.loop-number.invariant.ids ∙ ap (map (λ (p : ProjectView). p.id)) (take_all c.loop-number.number c.args.frame.now.projects end)

@@ -7,4 +7,4 @@ use Rattle.pb_reasons.proofs.changes.ranked.others.Given as goal
 
 abbrev pub invariant-loop-place : goal.invariant-loop-place
 invariant-loop-place l =
-    l.losers.items ≡ map (ranked_of l.supporters) (filter (λ place. not (is_taken l.winners place)) (range_with_len 0 l.place))
+    l.losers.items ≡ map (ranked_of l.supporters l.order) (filter (λ place. not (is_taken l.winners place)) (range_with_len 0 l.place))

@@ -34,12 +34,13 @@ returns-clause-lent c =
     ∙ ap (λ (l : List (List ℕ)). l ++ more) cast in
     let same : t.costs ≡ s.costs = search rules in
     let budget : (seen o).budget ≡ s.budget = search rules in
+    let ids : (seen o).ids ≡ s.ids = search rules in
     let costs : (seen o).costs ≡ (changed c.args.change c.args.place c.args.value t).costs = search rules in
     let many : length own ≡ length s.ballots = sym (length-map own (λ (v : VoterView). v.ballot)) ∙ ap length cast in
     let first : take (length s.ballots) o.voters ≡ own = ap (take (length s.ballots)) voters ∙ take_at own grown.0 (length s.ballots) many in
     let projects : length c.self.inside.frame.projects ≡ length s.costs = sym (length-map c.self.inside.frame.projects (λ (p : ProjectView). p.cost)) ∙ ap length same in
     record {
-      so_changed = changed_seen c.args.change c.args.place c.args.value s t (seen o) more same budget costs ballots (search rules);
+      so_changed = changed_seen c.args.change c.args.place c.args.value s t (seen o) more same budget ids costs ballots (search rules);
       numbered = subst (AreNumbered (length s.costs)) (sym first) (subst (λ (n : ℕ). AreNumbered n own) projects c.self.invariant.1);
       ballots = ap (map (λ (v : VoterView). v.ballot)) first ∙ cast;
     }

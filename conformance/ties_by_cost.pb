@@ -1,0 +1,13 @@
+META
+key;value
+budget;12
+vote_type;approval
+PROJECTS
+project_id;cost
+p;8
+q;4
+r;4
+VOTES
+voter_id;vote
+v1;p,q,r
+v2;p,q,r

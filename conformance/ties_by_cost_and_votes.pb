@@ -1,0 +1,17 @@
+META
+key;value
+budget;16
+vote_type;approval
+PROJECTS
+project_id;cost
+p;6
+q;6
+r;1.50
+s;1.50
+t;1
+VOTES
+voter_id;vote
+v1;p,q
+v2;p
+v3;q,r,s,t
+v4;q

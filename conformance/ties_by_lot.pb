@@ -1,0 +1,16 @@
+META
+key;value
+budget;20
+vote_type;approval
+PROJECTS
+project_id;cost
+q;11
+r;11
+p;6
+s;6
+VOTES
+voter_id;vote
+v1;q,p
+v2;q
+v3;r,s
+v4;r

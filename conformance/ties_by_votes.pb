@@ -1,0 +1,14 @@
+META
+key;value
+budget;12
+vote_type;approval
+PROJECTS
+project_id;cost
+q;4
+p;8
+s;12
+VOTES
+voter_id;vote
+v1;p,s
+v2;q,p,s
+v3;s

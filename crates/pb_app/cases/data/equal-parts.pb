@@ -1,0 +1,12 @@
+META
+key;value
+budget;12
+vote_type;approval
+PROJECTS
+project_id;cost;name
+d;8;Dam
+e;4;Elm
+VOTES
+voter_id;vote
+v1;d,e
+v2;d,e

@@ -1,0 +1,14 @@
+META
+key;value
+budget;12
+vote_type;approval
+PROJECTS
+project_id;cost;votes;name;selected
+q;4;1;Quay;0
+p;8;2;Park;1
+r;8;2;Road;1
+VOTES
+voter_id;vote
+v1;p
+v2;q,p,r
+v3;r

@@ -1,0 +1,14 @@
+META
+key;value
+budget;12
+vote_type;approval
+PROJECTS
+project_id;cost;name
+q;4;Quay
+p;8;Park
+r;8;Road
+VOTES
+voter_id;vote
+v1;p
+v2;q,p,r
+v3;r

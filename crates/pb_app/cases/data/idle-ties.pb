@@ -1,0 +1,16 @@
+META
+key;value
+budget;9
+vote_type;approval
+PROJECTS
+project_id;cost
+a;2
+b;1
+c;4
+d;4
+e;1
+VOTES
+voter_id;vote
+v1;a
+v2;b,c,d,e
+v3;a,b,c

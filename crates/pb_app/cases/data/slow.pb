@@ -1,0 +1,12 @@
+META
+key;value
+budget;100
+vote_type;approval
+PROJECTS
+project_id;cost
+x;100
+y;89.96
+VOTES
+voter_id;vote
+v1;x
+v2;y

@@ -1,0 +1,14 @@
+META
+key;value
+budget;6
+vote_type;approval
+PROJECTS
+project_id;cost
+c;3
+a;3
+b;3
+VOTES
+voter_id;vote
+v1;a,c
+v2;a,b
+v3;b,c

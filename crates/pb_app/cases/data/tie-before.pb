@@ -1,0 +1,15 @@
+META
+key;value
+budget;28
+vote_type;approval
+PROJECTS
+project_id;cost
+a;4
+b;18
+c;28
+d;22
+VOTES
+voter_id;vote
+v1;a,b,c,d
+v2;a,c,d
+v3;b,c

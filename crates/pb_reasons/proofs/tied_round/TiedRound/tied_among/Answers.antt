@@ -1,0 +1,40 @@
+use Rattle.std.proofs.Common.{◌≡◌, ◌<◌, ◌∙◌, ◌++◌, ◌∷◌, [], ◌+◌, List, ℕ, ap, drop, length, slice_index_or, subst, sym, take}
+use Rattle.std.specs.Prelude.{filter}
+use Rattle.std.proofs.lemmas.List.{drop_more, take_more}
+use Rattle.pb_reasons.specs.Inner.TieQueue.{AreQueued}
+use Rattle.pb_reasons.specs.Ties.{is_tied}
+use Rattle.pb_reasons.proofs.Far.{none_kept, one_kept}
+use Rattle.pb_reasons.proofs.TieQueue.{one_put}
+use Rattle.pb_reasons.proofs.TiedRounds.{one_bound}
+use Rattle.pb_reasons.proofs.tied_round.TiedRound.tied_among.Goals as goal
+use Rattle.pb_reasons.proofs.tied_round.TiedRound.tied_among.Goals.{then-look+in_ok-push, else-look}
+
+pub loop-place-init : goal.loop-place-init
+loop-place-init c = record {
+  bounds = c.requires.bounds;
+  queued = c.requires.queued;
+  others = c.new-others.ensures.items;
+}
+
+pub loop-place-preserved : goal.loop-place-preserved
+loop-place-preserved c =
+    let r = c.args.self.now in
+    let s = r.supporters.now in
+    let due = c.args.due.now in
+    let i = c.loop-place.place-index in
+    let place = slice_index_or due i 0 in
+    let known : place < length s.costs = c.requires.known i 0 c.loop-place-test.true in
+    let test = is_tied r.measure s r.elected.now c.args.rests.now r.winner in
+    record {
+      bounds = one_bound s r.elected.now c.args.rests.now c.loop-place.bounds.items c.loop-place.invariant.bounds place known _ c.look-look.ensures.bound;
+      queued = one_put r.measure s (drop (i + 1) due) c.loop-place.bounds.items c.loop-place.queue.keys c.put_bound.new.queue.keys place _
+          (subst (λ (xs : List ℕ). AreQueued r.measure s xs c.loop-place.bounds.items c.loop-place.queue.keys) (drop_more due i 0 c.loop-place-test.true) c.loop-place.invariant.queued)
+          known c.loop-place.invariant.bounds.one_each c.in_ok-put_bound.ensures;
+      others = subst (λ (xs : List ℕ). c.if-look.others.items ≡ filter test xs) (sym (take_more due i 0 c.loop-place-test.true)) (elim c.if-look.branch [
+        | then-look+in_ok-push w ↦
+            rw (w.others-is, w.in_ok-push.ensures.items)
+            (ap (λ (xs : List ℕ). xs ++ place ∷ []) c.loop-place.invariant.others ∙ sym (one_kept test (take i due) place (sym c.look-look.ensures.tied ∙ w.if-look.true)))
+        | else-look w ↦
+            rw w.others-is (c.loop-place.invariant.others ∙ sym (none_kept test (take i due) place (sym c.look-look.ensures.tied ∙ w.if-look.false)))
+      ]);
+    }

@@ -1,0 +1,127 @@
+//! Where in a file something else stands that explains a fault: unknown ids in another column, rows that are
+//! missing between others, amounts that lost a mark.
+
+use crate::cause::order_of;
+use crate::changed::has_thousandths;
+use crate::faulty_record::FaultyRecord;
+use crate::known::Known;
+use crate::prelude::*;
+use crate::records::TextRecords;
+use crate::witness::Witness;
+
+/// The fewest unknown ids that all stand in one column.
+const FEWEST: usize = 2;
+
+/// What an amount is below, in hundredths, that may have lost its thousands.
+const SMALL: u64 = 100_000;
+
+/// The place of a column of PROJECTS, or of the voters' ids, that has all ids that no project has, if they are
+/// several, and whether it is of VOTES.
+pub(crate) fn elsewhere<R: Files>(
+    text: &Text<'_, R>,
+    witness: &Witness,
+) -> Result<Option<(usize, bool)>, AllocError> {
+    if witness.unknown.found.len() < FEWEST {
+        return Ok(None);
+    }
+    let seen = &witness.seen;
+    for (start, end) in [(seen.project_names, seen.names.at), (seen.names, u64::MAX)] {
+        if let Some(mut records) = text.record_at(start) {
+            let is_of_votes = end == u64::MAX;
+            let found = column_with_all(text.alloc, &mut records, (end, is_of_votes), witness);
+            drop(records);
+            if let Some(place) = found? {
+                return Ok(Some((place, is_of_votes)));
+            }
+        }
+    }
+    Ok(None)
+}
+
+/// The place of a column, of VOTES that of the voters' ids, that has all unknown ids in the rows before this one.
+fn column_with_all<F: Read>(
+    alloc: Global,
+    records: &mut TextRecords<F>,
+    (end, is_of_votes): (u64, bool),
+    witness: &Witness,
+) -> Result<Option<usize>, AllocError> {
+    let read = if is_of_votes {
+        Column::Vote
+    } else {
+        Column::ProjectId
+    };
+    let own = column_of(&records.last, read.name()).unwrap_or(0);
+    let voter = column_of(&records.last, Column::VoterId.name());
+    let is_looked_at = |place: usize| place != own && (!is_of_votes || Some(place) == voter);
+    let mut counts = Vec::new(alloc);
+    counts.resize(records.last.len(), 0usize)?;
+    for _ in records.at.saturating_add(1)..end {
+        if !records.advance() {
+            break;
+        }
+        for (place, count) in counts.iter_mut().enumerate() {
+            let is_one = is_looked_at(place)
+                && witness
+                    .unknown
+                    .place(text_at(&records.last, place))
+                    .is_some();
+            *count = count.saturating_add(usize::from(is_one));
+        }
+    }
+    let all = witness.unknown.found.len();
+    let found = counts.iter().position(|count| *count >= all);
+    drop(counts);
+    Ok(found)
+}
+
+/// The first cost below 1000 without three digits behind a mark, and where it stands, as far as PROJECTS can be
+/// read again from a fault of a cost or of META on.
+pub fn small_amount<R: Files>(text: &Text<'_, R>, faulty: &FaultyRecord) -> Option<(String, Mark)> {
+    let (names, start) = if faulty.is_of_projects() {
+        (
+            text.row_at(faulty.seen.project_names)?,
+            faulty.seen.project_names,
+        )
+    } else {
+        text.find(faulty.mark, |_| true)?
+    };
+    let cost = column_of(&names, Column::Cost.name())?;
+    let is_small = |value: &str| {
+        Money::read(value).is_ok_and(|amount| amount.0 < SMALL && amount.0 > 0)
+            && !has_thousandths(value)
+    };
+    let is_head = |row: &ByteRecord| text_at(row, 0).eq_ignore_ascii_case("VOTES");
+    let (row, mark) = text.find(start, |row| is_head(row) || is_small(text_at(row, cost)))?;
+    if is_head(&row) {
+        return None;
+    }
+    Some((
+        String::from_str(text.alloc, text_at(&row, cost)).ok()?,
+        mark,
+    ))
+}
+
+impl Known<'_> {
+    /// The rows above and below this row and those behind it that repeat voters' ids, if just as many ids are missing
+    /// between those of the two.
+    pub fn pasted_over<R: Files>(
+        &self,
+        text: &Text<'_, R>,
+        faulty: &FaultyRecord,
+    ) -> Option<(ByteRecord, ByteRecord)> {
+        let mut last = faulty.mark;
+        for other in self.witness.refused.as_slice() {
+            let is_next = other.mark.at == last.at.saturating_add(1);
+            if is_next && other.kind() == ReadKind::RepeatedVoter {
+                last = other.mark;
+            }
+        }
+        let (above, below) = (text.row_at(faulty.seen.last)?, text.row_behind(last)?);
+        let id = faulty.places().0;
+        let (front, number) = order_of(text_at(&above, id));
+        let (other, next) = order_of(text_at(&below, id));
+        let rows = last.at.saturating_sub(faulty.mark.at).saturating_add(2);
+        let is_gap = front == other && next == number.saturating_add(rows);
+        is_gap.then_some((above, below))
+    }
+}

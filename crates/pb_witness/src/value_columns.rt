@@ -1,0 +1,134 @@
+//! Columns of PROJECTS whose values votes may name in place of the ids.
+
+use crate::changed::{has_one_of, has_word};
+use crate::columns::MOST_COLUMNS;
+use crate::meta_oddities::whole_number;
+use crate::prelude::*;
+
+/// The fewest ids that votes name, and the longest value that may be one, in bytes.
+const FEWEST: usize = 3;
+
+const LONGEST: usize = 20;
+
+/// Words in the name of a column that may have the ids of the projects, and of one that has none.
+const IDS: &str = "id|ids|no|nr|number|code|ballot";
+
+const NO_IDS: &str = "of|related|parent|order|rank|score|vote|votes|page|district";
+
+/// Words in the name of a column that may have a part of the budget for each row.
+const BUDGETS: &str =
+    "budget|budgets|limit|pool|allocation|envelope|amount|fund|funds|quota|share|available";
+
+/// A column of PROJECTS, with its values.
+#[derive(Drop)]
+struct ValueColumn {
+    place: usize,
+    values: IdTable,
+    /// Whether its name may be that of ids, and of those on the ballot paper, which may number the rows.
+    may_be_ids: bool,
+    is_of_ballot: bool,
+    may_be_budgets: bool,
+    /// How many different values it has, in how many rows another than the id, and in how many the row's number.
+    count: usize,
+    other: usize,
+    numbered: usize,
+    /// The first row with an amount, and the sum of different amounts, in hundredths.
+    first: Option<Odd>,
+    sum: u64,
+}
+
+/// The columns of PROJECTS beside the id, the cost and the name.
+#[derive(Drop)]
+pub(crate) struct ValueColumns {
+    alloc: Global,
+    /// Where the row of column names begins.
+    header: Mark,
+    columns: Vec<ValueColumn>,
+}
+
+impl ValueColumns {
+    /// Those with these names, which begin here.
+    pub(crate) fn of(
+        alloc: Global,
+        names: &ByteRecord,
+        header: Mark,
+    ) -> Result<ValueColumns, AllocError> {
+        let read = [Column::ProjectId.name(), Column::Cost.name(), "name"];
+        let mut columns = Vec::new(alloc);
+        for place in 0..names.len().min(MOST_COLUMNS) {
+            let name = text_at(names, place);
+            if !read.iter().any(|read| name.eq_ignore_ascii_case(read)) {
+                let values = IdTable::new(alloc);
+                columns.push(ValueColumn {
+                    place,
+                    values,
+                    may_be_ids: has_one_of(IDS, name) && !has_one_of(NO_IDS, name),
+                    is_of_ballot: has_word(name, "ballot"),
+                    may_be_budgets: has_one_of(BUDGETS, name),
+                    count: 0,
+                    other: 0,
+                    numbered: 0,
+                    first: None,
+                    sum: 0,
+                })?;
+            }
+        }
+        Ok(ValueColumns {
+            alloc,
+            header,
+            columns,
+        })
+    }
+
+    /// Takes a row that is accepted.
+    pub(crate) fn take(&mut self, row: &Row<'_>) -> Result<(), AllocError> {
+        for column in self.columns.iter_mut() {
+            let value = row.at(column.place);
+            let is_new = value.len() <= LONGEST
+                && column.values.insert(self.alloc, value, 0)?.is_none();
+            let is_number = whole_number(value) == Some(row.election.projects().len() as u64);
+            let amount = Money::read(value).ok().filter(|_| is_new);
+            if let Some(amount) = amount {
+                let odd = row
+                    .odd(Oddity::DistrictBudgets)
+                    .in_form(1)
+                    .named_in(self.header);
+                column.first = column.first.or(Some(odd.at(column.place)));
+                column.sum = column.sum.saturating_add(amount.0);
+            }
+            column.count = column.count.saturating_add(usize::from(is_new));
+            column.other = column.other.saturating_add(usize::from(value != row.id()));
+            column.numbered = column.numbered.saturating_add(usize::from(is_number));
+        }
+        Ok(())
+    }
+
+    /// Takes the end of the file, in which so many ballots approve each project. A column is odd that has each id
+    /// that votes name, if nobody approves some projects; or all ids, in another order, and not the rows' numbers;
+    /// or whose different amounts, by its name of budgets, are together the budget.
+    pub(crate) fn end(&self, election: &Election, supporters: &[u64], found: &mut Oddities) {
+        let all = supporters.len();
+        let without = supporters.iter().filter(|count| **count == 0).count();
+        if all.saturating_sub(without) < FEWEST {
+            return;
+        }
+        let budget = election.budget().0;
+        for column in &self.columns {
+            let may_be = column.may_be_budgets && budget > 0;
+            let are_parts = may_be && column.count > 1 && column.count < all;
+            found.take_some(column.first.filter(|_| are_parts && column.sum == budget));
+            let mut rows = election.projects().iter().zip(supporters);
+            let has = |id: &str| column.values.get(id).is_some();
+            let has_all = rows.all(|(project, count)| (without > 0 && *count == 0)
+                || has(project.id()));
+            let is_order = column.may_be_ids && column.count == all && column.other > 0;
+            let is_number = column.numbered == all && !column.is_of_ballot;
+            let odd = Odd::of_column(Oddity::RepeatedColumn, self.header, column.place);
+            if has_all && without > 0 {
+                found.take(odd.in_form(4).by(without as u64));
+            } else if has_all && is_order && !is_number {
+                found.take(odd.in_form(5));
+            }
+        }
+    }
+}
