@@ -46,29 +46,56 @@ COMPUTING_LAWS = {
     ("pb_rounds", "count_is_computed"),
 }
 # Words each of whose values a law pins in the words of a rule, for every input, or for each one that a definition gives them
-# (`last_given`: a voter whose ballot a legal journal leaves; `money_text`: an amount of 64 bits; `totals_of`: a count of an
+# (`last_given`: a voter whose ballot a legal journal leaves; `money_text`: an amount of 64 bits; `in_order`: an election and
+# an order of its projects; `totals_of`, `runs_of`, `in_file`: a count of an election; `voter_payments`: a voter of an
 # election; `count_of`, `outcome_of`: an election, and options in range; `needed`: a project with a supporter): whoever names
 # them, the law says what they are, and nobody has to believe what computes them.
 PINNED = {
     ("pb_core", "Money", "money_of"): ("pb_core", "money_is_what_its_text_names"),
     ("pb_core", "MoneyText", "money_text"): ("pb_core", "money_reads_back"),
+    ("pb_core", "Order", "position_in"): ("pb_core", "orders_are_their_words"),
+    ("pb_core", "Order", "ballot_in"): ("pb_core", "orders_are_their_words"),
+    ("pb_core", "Order", "in_order"): ("pb_core", "orders_are_their_words"),
     ("pb_read", "Lengths", "max_length_of"): ("pb_read", "max_length_is_what_its_text_names"),
+    ("pb_read", "Rows", "head_of"): ("pb_read", "names_say_what_they_name"),
+    ("pb_read", "Columns", "project_columns"): ("pb_read", "names_say_what_they_name"),
+    ("pb_read", "Columns", "vote_columns"): ("pb_read", "names_say_what_they_name"),
+    ("pb_read", "MetaRows", "value_of"): ("pb_read", "names_say_what_they_name"),
+    ("pb_read", "MetaKeys", "key_of"): ("pb_read", "names_say_what_they_name"),
+    ("pb_read", "Faults", "fails_by"): ("pb_read", "names_say_what_they_name"),
     ("pb_read", "Voting", "is_among"): ("pb_read", "a_vote_names_places"),
     ("pb_read", "Voting", "names_only"): ("pb_read", "a_vote_names_places"),
     ("pb_read", "Voting", "ballot_of"): ("pb_read", "a_vote_names_places"),
+    ("pb_price", "Supporters", "supporters_of"): ("pb_price", "supporters_approve"),
     ("pb_price", "Price", "price_at"): ("pb_price", "price_is_least_payment"),
     ("pb_rounds", "Count", "count_of"): ("pb_rounds", "count_is_computed"),
     ("pb_rounds", "Count", "opening_share"): ("pb_rounds", "opening_share_is_largest"),
     ("pb_rounds", "Run", "outcome_of"): ("pb_rounds", "run_is_its_rule"),
+    ("pb_rounds", "Run", "payment_of"): ("pb_rounds", "payments_are_their_words"),
+    ("pb_rounds", "Run", "charged"): ("pb_rounds", "payments_are_their_words"),
+    ("pb_rounds", "Run", "is_elected"): ("pb_rounds", "payments_are_their_words"),
+    ("pb_rounds", "Payments", "paid_in_turn"): ("pb_rounds", "payments_are_their_words"),
     ("pb_rounds", "MostVotes", "most_votes_first"): ("pb_rounds", "most_votes_first_is_its_rule"),
     ("pb_rounds", "MostVotes", "comes_first"): ("pb_rounds", "tests_of_most_votes_are_their_words"),
     ("pb_rounds", "MostVotes", "fits"): ("pb_rounds", "tests_of_most_votes_are_their_words"),
     ("pb_rounds", "MostVotes", "is_taken"): ("pb_rounds", "tests_of_most_votes_are_their_words"),
+    ("pb_desk", "Rows", "rows_from"): ("pb_desk", "rows_are_those_of_entries"),
     ("pb_export", "Export", "is_of_file"): ("pb_export", "files_are_so"),
     ("pb_page", "Amount", "grouped"): ("pb_page", "digits_stand_in_threes"),
     ("pb_page", "Amount", "shown"): ("pb_page", "amounts_stand_by_digits"),
     ("pb_reasons", "Counted", "is_selected"): ("pb_reasons", "winners_share_the_budget"),
     ("pb_reasons", "Totals", "totals_of"): ("pb_reasons", "winners_share_the_budget"),
+    ("pb_reasons", "Money", "money_of"): ("pb_reasons", "largest_payments_are_their_words"),
+    ("pb_reasons", "AllTies", "is_same_pair"): ("pb_reasons", "different_ties_are_their_words"),
+    ("pb_reasons", "AllTies", "different"): ("pb_reasons", "different_ties_are_their_words"),
+    ("pb_reasons", "AllTies", "runs_of"): ("pb_reasons", "ties_are_their_words"),
+    ("pb_reasons", "CountedElection", "in_file"): ("pb_reasons", "ties_are_their_words"),
+    ("pb_reasons", "Ties", "is_tied"): ("pb_reasons", "ties_are_their_words"),
+    ("pb_reasons", "Ties", "ties_in"): ("pb_reasons", "ties_are_their_words"),
+    ("pb_reasons", "Ties", "ties_with_added"): ("pb_reasons", "ties_are_their_words"),
+    ("pb_reasons", "Reasons", "voter_payments"): ("pb_reasons", "payments_of_a_voter_are_their_words"),
+    ("pb_reasons", "Reasons", "paid_for"): ("pb_reasons", "payments_of_a_voter_are_their_words"),
+    ("pb_reasons", "Reasons", "round_of"): ("pb_reasons", "payments_of_a_voter_are_their_words"),
     ("pb_reasons", "Fairness", "losers"): ("pb_reasons", "rows_of_fairness_are_their_words"),
     ("pb_reasons", "Fairness", "needed"): ("pb_reasons", "rows_of_fairness_are_their_words"),
     ("pb_reasons", "Fairness", "spent"): ("pb_reasons", "rows_of_fairness_are_their_words"),
@@ -242,7 +269,7 @@ def check(crates, book):
     for crate in crates:
         section = next((s for s in sections if f"({crate})" in s.splitlines()[0]), "")
         rows = [line for line in section.splitlines() if line.startswith("| `")]
-        computing = [row for row in rows if "computes, proved the same" in row]
+        computing = [row for row in rows if "*computes*" in row]
         believed = [row for row in rows if row not in computing]
         for what, part, listed in (
             ("has to be believed", reached, believed),

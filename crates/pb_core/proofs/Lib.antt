@@ -8,6 +8,7 @@ pub mod MoneyNamed
 pub mod MoneyParts
 pub mod MoneyTexts
 pub mod MoneyWorth
+pub mod OrderWords
 pub mod Orders
 pub mod Rising
 pub mod Trim

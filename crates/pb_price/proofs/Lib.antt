@@ -8,4 +8,5 @@ pub mod Payments
 pub mod PriceSteps
 pub mod RestsFall
 pub mod SupporterLists
+pub mod SupporterWords
 pub mod Workers

@@ -1,14 +1,24 @@
 //! Laws over prices, each as the contract of a function that does nothing.
 
-ghost use Rattle.std.specs.Prelude.{◌≡◌, ◌↔◌, ℕ, ◌+◌, ◌≤◌, List, [], Option, Some, None, slice_index, sum_by};
+ghost use Rattle.std.specs.Prelude.{◌≡◌, ◌↔◌, ℕ, ◌+◌, ◌<◌, ◌≤◌, List, [], Option, Some, None, Contains, length};
+ghost use Rattle.std.specs.Prelude.{slice_index, sum_by};
 ghost use Rattle.std.specs.List.{range_with_len};
+ghost use Rattle.std.specs.List.Sorted.{IsStrictlyIncreasing};
 ghost use mathlib.Core.Option.{some};
 ghost use lib.ListN.{get_elem?};
 ghost use Rattle.atomic_table.specs.Table.{State, keeps, stepped};
+ghost use Rattle.pb_core.specs.Election.{ElectionView};
 ghost use Rattle.pb_price.specs.Claims.{AreClaims};
 ghost use Rattle.pb_price.specs.Price.{price_at, IsPrice};
-ghost use Rattle.pb_price.specs.Supporters.{SupportView};
+ghost use Rattle.pb_price.specs.Supporters.{SupportView, ballot_at, supporters_of};
 ghost use Rattle.pb_price.specs.declared.claims.drawn.Drawn.{Drawn};
+
+/// The supporters of a project are the voters whose ballot approves it, by position, rising.
+pub fn supporters_approve()
+    ensures rise { (e : ElectionView) (place : ℕ) → IsStrictlyIncreasing (supporters_of e place) }
+    ensures approve { (e : ElectionView) (place voter : ℕ) → Contains (supporters_of e place) voter
+        ↔ ((voter < length e.voters) × Contains (ballot_at e voter) place) }
+{}
 
 /// The price that is computed is the one of which the words of its rule hold: the least payment by which the
 /// supporters cover the cost, and none where all that is left to them together is below the cost.

@@ -15,7 +15,7 @@ abbrev lower : List ℕ → List ℕ
 lower text = map to_ascii_lowercase text
 
 -- a field that is one word is not another
-not_both : (word other text : List ℕ) → bytes_eq (lower other) (lower word) ≡ false → is_word word text ≡ true → is_word other text ≡ false
+pub not_both : (word other text : List ℕ) → bytes_eq (lower other) (lower word) ≡ false → is_word word text ≡ true → is_word other text ≡ false
 not_both word other text differ is = subst (λ t. bytes_eq (lower other) t ≡ false) ((bytes_eq-Decides (lower word) (lower text)).0 is) differ
 
 -- what META says with one more row, each key for itself

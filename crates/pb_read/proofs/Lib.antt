@@ -22,3 +22,4 @@ pub mod Checks
 pub mod Showing
 pub mod Blaming
 pub mod InWords
+pub mod NameWords

@@ -49,7 +49,7 @@ option_map_or_cond : {A B : Type 0} (f : A → B) (t : Bool) (x : A) (o : Option
 option_map_or_cond f true x o d = refl
 option_map_or_cond f false x o d = refl
 
-value_of-push : (key : List ℕ) (rows : List Fields) (row : Fields) → value_of key (rows ++ row ∷ []) ≡ cond (is_word key (field row 0)) (Some (field row 1)) (value_of key rows)
+pub value_of-push : (key : List ℕ) (rows : List Fields) (row : Fields) → value_of key (rows ++ row ∷ []) ≡ cond (is_word key (field row 0)) (Some (field row 1)) (value_of key rows)
 value_of-push key rows row =
     ap (λ xs. option_map (λ x. field x 1) (find (λ x. is_word key (field x 0)) xs)) (reverse-append rows (row ∷ []))
     ∙ option_map_cond (λ x. field x 1) (is_word key (field row 0)) row (find (λ x. is_word key (field x 0)) (reverse rows))

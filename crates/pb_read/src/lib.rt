@@ -25,7 +25,10 @@ pub use check::{Checked, MOST_FAULTS, check_pb, check_pb_records};
 pub use column::Column;
 pub use columns::{ProjectColumns, VoteColumns};
 pub use fault::{ReadFault, ReadKind};
-pub use laws::{a_vote_names_places, first_listed, max_length_is_what_its_text_names, one_answer};
+pub use laws::{
+    a_vote_names_places, first_listed, max_length_is_what_its_text_names, names_say_what_they_name,
+    one_answer,
+};
 pub use meta_key::MetaKey;
 pub use progress::Stage;
 pub use project_ids::ProjectIds;

@@ -29,6 +29,9 @@ pub mod Spendings
 mod Moneys
 pub mod FairRows
 pub mod FairWords
+pub mod TieWords
+pub mod DifferentTies
+pub mod LargestPayments
 pub mod Changed
 pub mod ChoicesWon
 pub mod Copies
@@ -49,3 +52,8 @@ pub mod LosersSearched
 pub mod Exchanges
 pub mod Pairs
 pub mod Exchanged
+pub mod Moved
+pub mod MovedAdded
+pub mod NoEquals
+pub mod SameWinners
+pub mod ChosenFirst

@@ -33,7 +33,7 @@ use Rattle.pb_reasons.specs.Inner.Rounds.{is_as_good, is_tied_with_added}
 use Rattle.pb_reasons.specs.Ties.{is_tied, ties_in, ties_of, ties_with_added}
 use Rattle.pb_reasons.specs.declared.tie.Tie.{Tie}
 
-others_from : (elected : List ElectedView) (place : ℕ) → is_elected elected place ≡ false → All (λ w. w.place ≢ place) elected
+pub others_from : (elected : List ElectedView) (place : ℕ) → is_elected elected place ≡ false → All (λ w. w.place ≢ place) elected
 others_from [] place e = All-nil (λ w. w.place ≢ place)
 others_from (w ∷ elected) place e =
     let parts = or_parts (w.place == place) (is_elected elected place) e in
@@ -44,7 +44,7 @@ earlier : (number other place other_place : ℕ) → ComesFirst number other pla
 earlier number other place other_place (inl less) same = absurd (omega (arith, less, same))
 earlier number other place other_place (inr more) same = more.1
 
-as_good_is_later : (m : Measure) (s : SupportView) (w : ElectedView) (place price : ℕ) → IsCheaper m s w.place w.price place price
+pub as_good_is_later : (m : Measure) (s : SupportView) (w : ElectedView) (place price : ℕ) → IsCheaper m s w.place w.price place price
     → is_as_good m s w place price ≡ true → w.place < place
 as_good_is_later Votes s w place price cheaper good =
     let same : price * 1 ≡ w.price * 1 = eqb-true (price * 1) (w.price * 1) good in
@@ -109,7 +109,7 @@ IsBeforeTied s winners place = (other : ℕ) → is_taken winners other ≡ fals
     → cost_at s other ≡ cost_at s place → place < other
 
 module _ (s : SupportView) where
-  first_is_before : (taken : List ℕ) (left place other : ℕ) → FitsFirst s taken left place → is_taken taken other ≡ false → place ≢ other
+  pub first_is_before : (taken : List ℕ) (left place other : ℕ) → FitsFirst s taken left place → is_taken taken other ≡ false → place ≢ other
       → votes_at s other ≡ votes_at s place → cost_at s other ≡ cost_at s place → place < other
   first_is_before taken left place other first free apart votes cost =
       let fit = and_parts (nat_lt 0 (votes_at s place)) _ first.does_fit in

@@ -1,23 +1,36 @@
 //! Laws over what a count comes to, each as the contract of a function that does nothing.
 
-ghost use Rattle.std.specs.Prelude.{◌≡◌, ◌≢◌, [], ◌⊎◌, ◌↔◌, ◌+◌, ◌-◌, ◌*◌, ◌<◌, ◌≤◌, ℕ, All, AllPairs, Contains, false, length, sum_by};
+ghost use Rattle.std.specs.Prelude.{◌≡◌, ◌≢◌, [], ◌⊎◌, ◌↔◌, ◌+◌, ◌-◌, ◌*◌, ◌<◌, ◌≤◌, ℕ, All, AllPairs, Contains};
+ghost use Rattle.std.specs.Prelude.{List, false, length, map, slice_index, sum_by, ◌∷◌, ◌++◌, ◌==◌, None, Some};
+ghost use Rattle.std.specs.Prelude.{filter, replicate, slice_get, take, true};
 ghost use Rattle.std.specs.List.{Any};
 ghost use Rattle.std.specs.List.Sorted.{IsStrictlyIncreasing};
-ghost use Rattle.pb_core.specs.Election.{ElectionView};
-ghost use Rattle.pb_price.specs.Supporters.{SupportView, cost_at, support_of, supporters_at};
+ghost use Rattle.pb_core.specs.Election.{ElectionView, IsElection};
+ghost use Rattle.pb_core.specs.Order.{IsOrder, in_order};
+ghost use Rattle.pb_price.specs.Supporters.{SupportView, cost_at, support_of, supporters_at, ballot_at};
 ghost use Rattle.pb_rounds.specs.Fairness.{paid_within};
 ghost use Rattle.pb_rounds.specs.MostVotes.{fits, is_taken, votes_at};
+ghost use Rattle.pb_reasons.specs.AllTies.{all_ties, runs_of, different, is_same_pair};
 ghost use Rattle.pb_reasons.specs.BesideVotes.{elected_by_votes};
-ghost use Rattle.pb_reasons.specs.Counted.{CountedView, counted, is_selected, winners_of};
-ghost use Rattle.pb_reasons.specs.CountedElection.{CountedElectionView, IsCountedElection};
+ghost use Rattle.pb_reasons.specs.Counted.{CountedView, IsCountBy, counted, is_selected, winners_of};
+ghost use Rattle.pb_reasons.specs.CountedElection.{CountedElectionView, IsCountedElection, in_file};
+ghost use Rattle.pb_price.specs.Price.{price_at};
+ghost use Rattle.pb_rounds.specs.Cheapest.{rests_after};
+ghost use Rattle.pb_rounds.specs.Completed.{IsExhausted};
 ghost use Rattle.pb_reasons.specs.Fairness.{losers, needed, spent};
-ghost use Rattle.pb_reasons.specs.Ties.{ties_of};
+ghost use Rattle.pb_reasons.specs.Money.{money_of};
+ghost use Rattle.pb_reasons.specs.Reasons.{paid_for, round_of, voter_payments};
+ghost use Rattle.pb_reasons.specs.Ties.{is_tied, ties_in, ties_of, ties_with_added};
 ghost use Rattle.pb_reasons.specs.Totals.{totals_of};
+ghost use Rattle.pb_reasons.specs.declared.payment.Payment.{Payment};
 ghost use Rattle.pb_reasons.specs.declared.tie.Tie.{Tie};
-ghost use Rattle.pb_rounds.specs.Counted.{IsCountOf};
+ghost use Rattle.pb_reasons.specs.declared.told_tie.ToldTie.{ToldTie};
+ghost use Rattle.pb_rounds.specs.Counted.{IsCountFault, IsCountOf};
 ghost use Rattle.pb_rounds.specs.Outcome.{OutcomeView};
+ghost use Rattle.pb_rounds.specs.declared.count_fault.CountFault.TheVariants.{RaisesSpent};
+ghost use Rattle.pb_rounds.specs.Run.{ElectedView, is_elected, payment_of, weight_of};
 ghost use Rattle.pb_rounds.specs.declared.measure.Measure.{Measure};
-ghost use Rattle.pb_rounds.specs.declared.options.Completion.TheVariants.{NoShares};
+ghost use Rattle.pb_rounds.specs.declared.options.Completion.TheVariants.{Add1, NoShares};
 ghost use Rattle.pb_rounds.specs.declared.rule.FillUp.TheVariants.{MostVotes};
 ghost use Rattle.pb_rounds.specs.declared.rule.Rule.{Rule};
 
@@ -53,6 +66,108 @@ pub fn most_votes_is_its_rule()
 pub fn ties_are_decided_by_place()
     ensures { (e : ElectionView) (rule : Rule) (o : OutcomeView) → IsCountOf e rule.options o
         → All (λ (t : Tie). t.winner < t.other) (ties_of rule.options.measure e (counted e rule.fill_up o)) }
+{}
+
+/// In each tie of all ties, those of every run and of the added, the chosen project comes before the other one in the
+/// order of ties.
+pub fn chosen_come_first()
+    ensures { (x : CountedElectionView) → IsCountedElection x
+        → All (λ (t : ToldTie). t.tie.winner < t.tie.other) (all_ties x) }
+{}
+
+/// Where there is no tie at all, no order of the projects has others win: a count by the same rule, of the same election
+/// with its projects in any order, has the same winners, in the same order, and none is refused for its raises.
+pub fn without_ties_no_others_win()
+    ensures same { (x : CountedElectionView) (order : List ℕ) (c : CountedView) → IsCountedElection x
+        → all_ties x ≡ [] → IsOrder order → length order ≡ length x.election.projects
+        → IsCountBy x.rule (in_order order x.election) c
+        → map (slice_index order) (winners_of c) ≡ winners_of x.counted }
+    ensures counted { (x : CountedElectionView) (order : List ℕ) → IsCountedElection x → all_ties x ≡ []
+        → IsOrder order → length order ≡ length x.election.projects
+        → ¬ IsCountFault (in_order order x.election) x.rule.options RaisesSpent }
+{}
+
+/// Which ties there are. A project is tied with the winner of a round if it is not elected, and has a price that is as
+/// good: the same, or under measure cost the same for its cost. The ties of a round are those with its winner at the
+/// rests that the rounds before it leave. Those of an added project are with the others that did not win, and have as
+/// many votes and the same cost. Both come in the order of the other projects. A count rests on
+/// one run for each raise up to the answered one, and on one more where that one is not exhausted, so that the next
+/// ended the raises. The projects in the order of the file are those whose places there are 0, 1, 2 and so on.
+pub fn ties_are_their_words()
+    ensures tied { (m : Measure) (s : SupportView) (elected : List ElectedView) (rests : List ℕ)
+        → (w : ElectedView) (place : ℕ) → (is_tied m s elected rests w place ≡ true)
+        ↔ ((is_elected elected place ≡ false) × ((price : ℕ) × (price_at s rests place ≡ Some price)
+        × (price * weight_of m s w.place ≡ w.price * weight_of m s place))) }
+    ensures round { (m : Measure) (s : SupportView) (share : ℕ) (elected : List ElectedView) (round : ℕ) (t : Tie)
+        → Contains (ties_in m s share elected round) t ↔ ((w : ElectedView) × (slice_get elected round ≡ Some w)
+        × ((place : ℕ) × (place < length s.costs)
+        × (is_tied m s elected (rests_after s (replicate s.voters share) (take round elected)) w place ≡ true)
+        × (t ≡ record { round = Some (round + 1); winner = w.place; other = place }))) }
+    ensures round_rises { (m : Measure) (s : SupportView) (share : ℕ) (elected : List ElectedView) (round : ℕ)
+        → IsStrictlyIncreasing (map (λ (t : Tie). t.other) (ties_in m s share elected round)) }
+    ensures added { (s : SupportView) (c : CountedView) (winner : ℕ) (t : Tie)
+        → Contains (ties_with_added s c winner) t ↔ ((place : ℕ) × (place < length s.costs)
+        × (is_taken (winners_of c) place ≡ false) × (votes_at s place ≡ votes_at s winner)
+        × (cost_at s place ≡ cost_at s winner) × (t ≡ record { round = None; winner = winner; other = place })) }
+    ensures added_rises { (s : SupportView) (c : CountedView) (winner : ℕ)
+        → IsStrictlyIncreasing (map (λ (t : Tie). t.other) (ties_with_added s c winner)) }
+    ensures runs { (x : CountedElectionView) → IsCountedElection x → let o = x.counted.outcome in
+        ((x.rule.options.completion ≡ Add1 → IsExhausted (support_of x.election) x.election.budget o.elected)
+        → runs_of x ≡ o.raised + 1)
+        × (x.rule.options.completion ≡ Add1 → (¬ IsExhausted (support_of x.election) x.election.budget o.elected)
+        → runs_of x ≡ o.raised + 2) }
+    ensures in_file { (x : CountedElectionView) → IsCountedElection x
+        → (length (in_file x) ≡ length x.election.projects) × ((place : ℕ) → place < length x.election.projects
+        → slice_index x.order (slice_index (in_file x) place) ≡ place) }
+{}
+
+/// Which ties are different. Two are of the same pair if they have the same winner and the same other project. One tie
+/// more comes last, unless one before it is of the same pair: then it changes nothing.
+pub fn different_ties_are_their_words()
+    ensures pair { (t u : Tie) → (is_same_pair t u ≡ true) ↔ ((t.winner ≡ u.winner) × (t.other ≡ u.other)) }
+    ensures none { different [] ≡ [] }
+    ensures known { (ties : List Tie) (t : Tie) → Any (λ (u : Tie). is_same_pair t u ≡ true) ties
+        → different (ties ++ t ∷ []) ≡ different ties }
+    ensures new { (ties : List Tie) (t : Tie) → All (λ (u : Tie). is_same_pair t u ≡ false) ties
+        → different (ties ++ t ∷ []) ≡ different ties ++ t ∷ [] }
+{}
+
+/// What a voter paid: the payments above 0 for projects of the ballot, places rising. For an elected project it is paid
+/// out of what the rounds before leave, and for any other nothing. The round that elected a project is the first with
+/// its place, from 0; where none did, it is their number.
+pub fn payments_of_a_voter_are_their_words()
+    ensures paid { (e : ElectionView) (o : OutcomeView) (voter : ℕ) (p : Payment)
+        → Contains (voter_payments e o voter) p ↔ (Contains (ballot_at e voter) p.place
+        × (p.amount ≡ paid_for e o p.place voter) × (0 < p.amount)) }
+    ensures rise { (e : ElectionView) (o : OutcomeView) (voter : ℕ) → IsElection e → voter < length e.voters
+        → IsStrictlyIncreasing (map (λ (p : Payment). p.place) (voter_payments e o voter)) }
+    ensures in_round { (e : ElectionView) (o : OutcomeView) (before : List ElectedView) (w : ElectedView)
+        → (later : List ElectedView) → o.elected ≡ before ++ w ∷ later
+        → All (λ (v : ElectedView). v.place ≢ w.place) before → (voter : ℕ) → paid_for e o w.place voter
+        ≡ payment_of (supporters_at (support_of e) w.place) w.price
+        (rests_after (support_of e) (replicate (length e.voters) o.share) before) voter }
+    ensures no_other { (e : ElectionView) (o : OutcomeView) (place : ℕ)
+        → All (λ (v : ElectedView). v.place ≢ place) o.elected → (voter : ℕ) → paid_for e o place voter ≡ 0 }
+    ensures round { (before : List ElectedView) (w : ElectedView) (later : List ElectedView) (place : ℕ)
+        → All (λ (v : ElectedView). v.place ≢ place) before → w.place ≡ place
+        → round_of (before ++ w ∷ later) place ≡ length before }
+    ensures none { (elected : List ElectedView) (place : ℕ) → All (λ (v : ElectedView). v.place ≢ place) elected
+        → round_of elected place ≡ length elected }
+{}
+
+/// Where the money of supporters went. The payments that are told are the first five, or all there are, of those above
+/// 0, from the largest on, equal ones in their order; and the others together are what is left of the sum.
+pub fn largest_payments_are_their_words()
+    ensures most { (paid : List Payment) → (rest : List Payment)
+        × AllPairs (λ (p q : Payment). q.amount ≤ p.amount) ((money_of paid).most ++ rest)
+        × All (λ (p : Payment). 0 < p.amount) ((money_of paid).most ++ rest)
+        × ((amount : ℕ) → 0 < amount
+        → filter (λ (p : Payment). p.amount == amount) ((money_of paid).most ++ rest)
+        ≡ filter (λ (p : Payment). p.amount == amount) paid)
+        × (length (money_of paid).most ≤ 5) × (rest ≢ [] → length (money_of paid).most ≡ 5) }
+    ensures others { (paid : List Payment)
+        → (money_of paid).others + sum_by (λ (p : Payment). p.amount) (money_of paid).most
+        ≡ sum_by (λ (p : Payment). p.amount) paid }
 {}
 
 /// What a table of fairness is made of. Its projects are those with a supporter that did not win, in the order of

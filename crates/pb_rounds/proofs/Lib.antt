@@ -40,5 +40,6 @@ pub mod Computed
 pub mod Filled
 pub mod InOrder
 pub mod PassedOver
+pub mod PaymentWords
 pub mod VotesOrder
 pub mod InWords

@@ -1,21 +1,22 @@
 //! Laws over counts and their rules, each as the contract of a function that does nothing.
 
-ghost use Rattle.std.specs.Prelude.{◌≡◌, ◌≢◌, ◌↔◌, ◌+◌, ◌*◌, ◌<◌, ◌≤◌, ◌==◌, ℕ, List, None, Some, filter};
-ghost use Rattle.std.specs.Prelude.{length, option_map, sum_by};
+ghost use Rattle.std.specs.Prelude.{◌≡◌, ◌≢◌, ◌↔◌, ◌⊎◌, ◌+◌, ◌*◌, ◌<◌, ◌≤◌, ◌==◌, ◌++◌, ◌∷◌, ℕ, List, [], None, Some};
+ghost use Rattle.std.specs.Prelude.{Any, Contains, filter, length, option_map, slice_index, slice_index_or, sum_by, true};
 ghost use Rattle.std.specs.List.{list_any, range_with_len};
 ghost use Rattle.pb_core.specs.Election.{ElectionView, IsElection};
 ghost use Rattle.pb_core.specs.Order.{in_order};
 ghost use Rattle.pb_price.specs.Supporters.{SupportView, support_of, supporters_at};
-ghost use Rattle.pb_rounds.specs.Cheapest.{IsRun};
+ghost use Rattle.pb_rounds.specs.Cheapest.{IsRun, rests_after};
 ghost use Rattle.pb_rounds.specs.Completed.{AreSpent, IsCompleted};
 ghost use Rattle.pb_rounds.specs.Count.{add1_of, count_of, opening_share};
 ghost use Rattle.pb_rounds.specs.CountFault.{largest_step, refusal_of};
 ghost use Rattle.pb_rounds.specs.Counted.{IsCountFault, IsCountOf};
 ghost use Rattle.pb_rounds.specs.Fairness.{OfSomeMember, paid_within};
 ghost use Rattle.pb_rounds.specs.Outcome.{OutcomeView, settled};
+ghost use Rattle.pb_rounds.specs.Payments.{paid_in_turn};
 ghost use Rattle.pb_rounds.specs.RuleNames.{profile_name};
 ghost use Rattle.pb_rounds.specs.TieOrder.{IsTieOrder, by_file};
-ghost use Rattle.pb_rounds.specs.Run.{ElectedView, RunView, outcome_of, weight_of};
+ghost use Rattle.pb_rounds.specs.Run.{ElectedView, RunView, charged, is_elected, outcome_of, payment_of, weight_of};
 ghost use Rattle.pb_rounds.specs.declared.count_fault.CountFault.TheVariants.{RaisesSpent};
 ghost use Rattle.pb_rounds.specs.declared.measure.Measure.{Measure};
 ghost use Rattle.pb_rounds.specs.declared.options.Completion.TheVariants.{Add1, NoShares};
@@ -58,6 +59,31 @@ pub fn count_is_computed()
 pub fn run_is_its_rule()
     ensures { (m : Measure) (e : ElectionView) (share : ℕ) (run : RunView) → IsElection e
         → (run ≡ outcome_of m e share) ↔ IsRun m (support_of e) share run.elected run.rests }
+{}
+
+/// What voters pay. Nobody pays more than the price, or than is left. A supporter pays the one or the other, and nobody
+/// else anything. What is left then, and what was paid, is what was left before. For each of the elected, one after
+/// the other, each voter pays out of what those before it left. A project is elected if one of the elected has its
+/// place.
+pub fn payments_are_their_words()
+    ensures within { (supporters rests : List ℕ) (price v : ℕ) → (payment_of supporters price rests v ≤ price)
+        × (payment_of supporters price rests v ≤ slice_index rests v) }
+    ensures supporter { (supporters rests : List ℕ) (price v : ℕ) → Contains supporters v
+        → (payment_of supporters price rests v ≡ price) ⊎ (payment_of supporters price rests v ≡ slice_index rests v) }
+    ensures other { (supporters rests : List ℕ) (price v : ℕ) → ¬ Contains supporters v
+        → payment_of supporters price rests v ≡ 0 }
+    ensures left { (supporters rests : List ℕ) (price : ℕ) → (length (charged supporters price rests) ≡ length rests)
+        × ((v : ℕ) → slice_index (charged supporters price rests) v + payment_of supporters price rests v
+        ≡ slice_index rests v) }
+    ensures rows { (s : SupportView) (rests : List ℕ) (elected : List ElectedView)
+        → length (paid_in_turn s rests elected) ≡ length elected }
+    ensures in_turn { (s : SupportView) (rests : List ℕ) (before : List ElectedView) (w : ElectedView)
+        → (later : List ElectedView)
+        → (length (slice_index_or (paid_in_turn s rests (before ++ w ∷ later)) (length before) []) ≡ length rests)
+        × ((v : ℕ) → slice_index (slice_index_or (paid_in_turn s rests (before ++ w ∷ later)) (length before) []) v
+        ≡ payment_of (supporters_at s w.place) w.price (rests_after s rests before) v) }
+    ensures elected { (elected : List ElectedView) (place : ℕ) → (is_elected elected place ≡ true)
+        ↔ Any (λ (w : ElectedView). w.place ≡ place) elected }
 {}
 
 /// Every run, and so every outcome of a count, is fair to groups: of voters who all want a project that is
