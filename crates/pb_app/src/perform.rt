@@ -8,10 +8,10 @@ use crate::published::Published;
 use crate::same_page::same_page;
 use crate::serve::serve;
 use crate::system::System;
-use crate::tables::{audit, ballots, check, count, desk, tell, ties};
+use crate::tables::{audit, ballots, check, compare, count, desk, tell, ties};
 use crate::what_if::what_if;
 use crate::words::is_quiet;
-use pb_command_line::{Asked, CompareRun, PageRun, Task, refuses_page};
+use pb_command_line::{Asked, PageRun, Task, refuses_page};
 use pb_commands::{AppFault, Counting, Table};
 use pb_rounds::rule::Rule;
 use pb_streams::{End, Kinship, Output, ProgressLine, RunRefusal, Telling, Typing};
@@ -117,10 +117,7 @@ fn do_task<'a, R: System, W: Write>(
 ) -> Result<(), RunRefusal> {
     let done = match &run.asked.task {
         Task::Count(asked) => count(run, asked, writer, &mut notes.seen),
-        Task::Projects(ballots)
-        | Task::Voters(ballots)
-        | Task::Fairness(ballots)
-        | Task::Compare(CompareRun { ballots, .. }) => {
+        Task::Projects(ballots) | Task::Voters(ballots) | Task::Fairness(ballots) => {
             tell(
                 run,
                 ballots,
@@ -129,6 +126,7 @@ fn do_task<'a, R: System, W: Write>(
                 &mut notes.seen,
             )
         }
+        Task::Compare(asked) => compare(run, asked, writer, &mut notes.seen),
         Task::Ties(ballots) => ties(run, ballots, writer, &mut notes.seen),
         Task::WhatIf(asked) => return what_if(run, asked, writer, &mut notes.seen),
         Task::Page(asked) => {
@@ -168,8 +166,6 @@ fn table_of(task: &Task<'_>) -> Table {
     match task {
         Task::Voters(_) => Table::Voters,
         Task::Fairness(_) => Table::Fairness,
-        Task::Compare(CompareRun { by_project, .. }) if *by_project => Table::RuledProjects,
-        Task::Compare(_) => Table::Rules,
         _ => Table::Projects,
     }
 }

@@ -4,9 +4,10 @@ use crate::admitted::{RowNotice, rules_of};
 use crate::command_run::CommandRun;
 use crate::notes::Notes;
 use crate::system::System;
-use pb_command_line::{AuditRun, Ballots, BallotsRun, CheckRun, CountRun, DeskRun};
+use pb_command_line::{AuditRun, Ballots, BallotsRun, CheckRun, CompareRun, CountRun, DeskRun};
 use pb_commands::run_audit::{AuditInputs, run_audit_watched};
 use pb_commands::run_ballots::run_ballots;
+use pb_commands::run_beside::{OtherRule, run_beside};
 use pb_commands::run_check::{run_check, run_check_against};
 use pb_commands::run_desk::run_admitted_desk;
 use pb_commands::run_history::run_history;
@@ -31,6 +32,27 @@ pub(crate) fn tell<'a, R: System, W: Write>(
 ) -> Result<(), AppFault> {
     let inputs = run.inputs(ballots)?;
     run_table(&run.counting, inputs, seen, writer, table)
+}
+
+/// Counts ballots, and writes how the rule compares with another: the one that is named, or most votes first.
+pub(crate) fn compare<'a, R: System, W: Write>(
+    run: &CommandRun<'a, R>,
+    asked: &CompareRun<'a>,
+    writer: &mut W,
+    seen: &mut Warnings,
+) -> Result<(), AppFault> {
+    let by_project = asked.by_project;
+    let Some(rule) = asked.beside else {
+        let table = if by_project {
+            Table::RuledProjects
+        } else {
+            Table::Rules
+        };
+        return tell(run, &asked.ballots, table, writer, seen);
+    };
+    let inputs = run.inputs(&asked.ballots)?;
+    let beside = OtherRule { rule, by_project };
+    run_beside(&run.counting, inputs, seen, writer, &beside)
 }
 
 /// Counts these ballots, and writes the table of all ties.

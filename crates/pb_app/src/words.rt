@@ -10,13 +10,14 @@ use pb_durable::file_beside::read_file_beside;
 use pb_export::ExportFault;
 use pb_faults::RunText;
 use pb_rounds::count_fault::CountFault;
+use pb_rounds::options::CountOptions;
 use pb_script::ScriptFault;
 use pb_streams::{End, ProgressLine, RunRefusal, behind_link};
 use pb_witness::audited::AuditPaths;
 use pb_witness::text::is_file;
 use pb_witness::warnings::Warnings;
 use pb_words::belonging_words::other_file_words;
-use pb_words::count_words::{count_words, spent_words, too_many_runs_words};
+use pb_words::count_words::{count_words, either_count_words, spent_words, too_many_runs_words};
 use pb_words::export_words::{comma_words, heading_words, lacking_words};
 use pb_words::journal_words::journal_words;
 use pb_words::read_words::{list_words, read_words};
@@ -29,7 +30,7 @@ use pb_words::serve_words::{
 use pb_words::tally_words::{by_rule_words, no_ballot_words, tally_words};
 use pb_words::warning_words::{rule_words, warning_words};
 use pb_words::{Said, mistaken_words, open_words, said, say, say_words, unread_words, write_words};
-use std::alloc::AllocError;
+use std::alloc::{AllocError, Global};
 use std::fs;
 use std::io::Error;
 use std::time::Duration;
@@ -181,7 +182,7 @@ fn words_of<R: System>(
         }
         AppFault::OtherFile => words_of_other_file(rt, first, path),
         AppFault::OpenDesk => open_desk_words(alloc, second),
-        AppFault::Count(fault) => count_words(alloc, counted.path(), fault, &notes.rule.options),
+        AppFault::Count(fault) => words_of_count(alloc, task, fault, &notes.rule.options),
         AppFault::TooManyRuns => too_many_runs_words(alloc, counted.path()),
         AppFault::Export(ExportFault::SectionWord) => heading_words(rt, alloc, first, second),
         AppFault::Export(_) => comma_words(rt, alloc, first, task.journal().is_some()),
@@ -196,6 +197,20 @@ fn words_of<R: System>(
             ServingFault::Locked(_) => locked_words(alloc, path),
             ServingFault::Output => unanswered_words(alloc, failure),
         },
+    }
+}
+
+/// Words for a count by these options that was refused, or where two rules are compared for one of both.
+fn words_of_count(
+    alloc: Global,
+    task: &Task<'_>,
+    fault: CountFault,
+    options: &CountOptions,
+) -> Said {
+    let counted = task.journal().unwrap_or(task.texts().0);
+    match task.beside() {
+        Some(other) => { either_count_words(alloc, counted.path(), fault, options, &other.options) }
+        None => count_words(alloc, counted.path(), fault, options),
     }
 }
 
@@ -286,7 +301,7 @@ pub(crate) fn is_spent(end: End) -> bool {
 }
 
 /// Says what to do where the raises were spent, by a count that took so long. Whether more would decide is
-/// looked for first, after it was said why there is no result.
+/// looked for first, after it was said why there is no result. Where two rules are compared, that said it.
 pub(crate) fn say_spent<R: System>(
     rt: &R,
     asked: &Asked<'_>,
@@ -294,6 +309,9 @@ pub(crate) fn say_spent<R: System>(
     took: Option<Duration>,
     progress: &ProgressLine<'_, R>,
 ) {
+    if asked.task.beside().is_some() {
+        return;
+    }
     let options = &notes.rule.options;
     let found = look_further(rt, &asked.task, &notes.rule, took, progress);
     progress.clear();

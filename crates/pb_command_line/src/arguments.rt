@@ -139,7 +139,7 @@ pub(crate) const MEASURE: Argument = Argument {
 pub(crate) const RULE: Argument = Argument {
     name: "rule",
     takes: Takes::Method,
-    help: "Which rule counts. equal-shares: the Method of Equal Shares; most-votes: projects win in the order of their votes, each if the rest of the budget pays for it. There are no shares with most-votes, so it can't be used with --measure, --completion, --plain, --step or --raises, nor by fairness, compare and page --compare [default: equal-shares]",
+    help: "Which rule counts. equal-shares: the Method of Equal Shares; most-votes: projects win in the order of their votes, each if the rest of the budget pays for it. There are no shares with most-votes, so it can't be used with --measure, --completion, --plain, --step or --raises, nor by fairness, compare without --beside and page --compare [default: equal-shares]",
 };
 
 /// Which of equal projects comes first.
@@ -266,6 +266,13 @@ pub(crate) const BY_PROJECT: Argument = Argument {
     name: "projects",
     takes: Takes::Nothing,
     help: "Prints a row for each project, with a column for each rule: 1 if the project wins by that rule, 0 if not",
+};
+
+/// The rule with which the one that counts is compared.
+pub(crate) const BESIDE: Argument = Argument {
+    name: "beside",
+    takes: Takes::Text("NAME"),
+    help: "Compares with the rule of this name, as for --profile, in place of most votes first; --raises and --workers are for both counts [default: MV, with the same ties]",
 };
 
 /// What a page is about.

@@ -1,6 +1,6 @@
 //! What parsed arguments ask for.
 
-use crate::rule::rule_of;
+use crate::rule::{SaidRules, rule_of};
 use crate::said_rule::SaidRule;
 use crate::task::{
     Admits, Asked, AuditRun, Ballots, BallotsRun, CheckRun, CompareRun, CountRun, DeskRun,
@@ -17,12 +17,12 @@ use pb_rounds::tie_rule::TieRule;
 const FIRST: u32 = 100;
 
 /// What parsed arguments ask for; without a command it is a count of standard input.
-/// The rule is one of which options say this.
-pub(crate) fn asked_by<'a>(matches: &ArgMatches<'a>, said: &SaidRule) -> Asked<'a> {
+/// Options say this of the rules.
+pub(crate) fn asked_by<'a>(matches: &ArgMatches<'a>, rules: &SaidRules) -> Asked<'a> {
     match matches.subcommand() {
         Some((name, given)) => Asked {
-            task: task_of(name, given, said),
-            rule: rule_of(given, said),
+            task: task_of(name, given, rules),
+            rule: rule_of(given, &rules.said),
             output: given.get_str("output"),
             shows: shows_by(given),
             is_strict: given.get_flag("strict"),
@@ -52,9 +52,9 @@ pub(crate) fn asked_by<'a>(matches: &ArgMatches<'a>, said: &SaidRule) -> Asked<'
 }
 
 /// What the arguments of a command ask for.
-fn task_of<'a>(name: &str, given: &ArgMatches<'a>, said: &SaidRule) -> Task<'a> {
+fn task_of<'a>(name: &str, given: &ArgMatches<'a>, rules: &SaidRules) -> Task<'a> {
     let file = source_of(given, "FILE");
-    match count_of(name, given, said, ballots_of(given, file)) {
+    match count_of(name, given, rules, ballots_of(given, file)) {
         Some(task) => task,
         None => desk_of(name, given, file),
     }
@@ -64,7 +64,7 @@ fn task_of<'a>(name: &str, given: &ArgMatches<'a>, said: &SaidRule) -> Task<'a> 
 fn count_of<'a>(
     name: &str,
     given: &ArgMatches<'a>,
-    said: &SaidRule,
+    rules: &SaidRules,
     ballots: Ballots<'a>,
 ) -> Option<Task<'a>> {
     let task = match name {
@@ -77,6 +77,7 @@ fn count_of<'a>(
         "fairness" => Task::Fairness(ballots),
         "compare" => Task::Compare(CompareRun {
             ballots,
+            beside: rules.beside,
             by_project: given.get_flag("projects"),
         }),
         "ties" => Task::Ties(ballots),
@@ -84,7 +85,7 @@ fn count_of<'a>(
             ballots,
             whose: whose_of(given),
         }),
-        "page" => Task::Page(page_of(given, said, ballots)),
+        "page" => Task::Page(page_of(given, &rules.said, ballots)),
         "export" => Task::Export(ballots),
         _ => return None,
     };

@@ -3,11 +3,11 @@
 use crate::argument_group::ArgumentGroup;
 use crate::argument_group::ArgumentGroup::{OfCount, OfResult, Own};
 use crate::arguments::{
-    AGAINST, ALL, BY_ID, BY_PROJECT, CLERKS, COMPARE, COMPLETION, COST, CURRENCY, DIGEST, DIGESTS,
-    DURABLE, ELECTION, FILES, FIRST, HISTORY, JOURNAL, KEEP_FILE, KEEP_VOTERS, LEAST, LEFT_BY,
-    MEASURE, NO_SHUT, OTHER_FILE, OUTPUT, PLAIN, PROFILE, PROGRESS, PROJECT, QUIET, QUIET_BALLOTS,
-    QUIET_DESK, QUIET_SERVE, RECOUNT, REQUIRE_SHUT, ROLL, RULE, SAME_AS, SCRIPT, SERVED, SHUT,
-    STEP, STRICT, TIES, TITLE, VOTER, VOTERS, WORDS,
+    AGAINST, ALL, BESIDE, BY_ID, BY_PROJECT, CLERKS, COMPARE, COMPLETION, COST, CURRENCY, DIGEST,
+    DIGESTS, DURABLE, ELECTION, FILES, FIRST, HISTORY, JOURNAL, KEEP_FILE, KEEP_VOTERS, LEAST,
+    LEFT_BY, MEASURE, NO_SHUT, OTHER_FILE, OUTPUT, PLAIN, PROFILE, PROGRESS, PROJECT, QUIET,
+    QUIET_BALLOTS, QUIET_DESK, QUIET_SERVE, RECOUNT, REQUIRE_SHUT, ROLL, RULE, SAME_AS, SCRIPT,
+    SERVED, SHUT, STEP, STRICT, TIES, TITLE, VOTER, VOTERS, WORDS,
 };
 use crate::helps::{AFTER_BALLOTS, AFTER_SERVE};
 
@@ -100,9 +100,9 @@ fn compare() -> &'static CommandForm {
 const COMPARISON: &CommandForm = &CommandForm {
     name: "compare",
     notes: "Manual pages: man pb_app-election, man 5 pb_app-compare, man pb_app-counting.",
-    about: "Counts a .pb file, and compares the winners with those of another rule: most votes first",
+    about: "Counts a .pb file, and compares the winners with those of another rule, such as most votes first",
     groups: &[
-        Own(&[ELECTION, BY_PROJECT, LEFT_BY, OTHER_FILE]),
+        Own(&[ELECTION, BESIDE, BY_PROJECT, LEFT_BY, OTHER_FILE]),
         OfCount,
         OfResult,
     ],

@@ -38,6 +38,8 @@ pub(crate) enum Flaw<'a> {
     Ties(&'a str),
     /// The rule would be compared with itself.
     OneRule,
+    /// The rule would be compared with itself, as an option names it.
+    BesideItself,
 }
 
 impl<'a> Flaw<'a> {
@@ -113,6 +115,7 @@ impl<'a> Flaw<'a> {
             Flaw::OfShares(option) => return say_of_shares(rt, option),
             Flaw::NoShares => return say_no_shares(rt),
             Flaw::OneRule => return say_one_rule(rt),
+            Flaw::BesideItself => return say_beside_itself(rt),
         };
     }
 }
@@ -153,6 +156,13 @@ fn say_ties<R: Eprint>(rt: &R, text: &str) {
 fn say_one_rule<R: Eprint>(rt: &R) {
     let _ = eprintln!(rt;
         "error: the result is compared with that of most votes first, so it can't be counted by the same rule. Count by equal shares, or omit the comparison."
+    );
+}
+
+/// Says that a rule is not compared with itself.
+fn say_beside_itself<R: Eprint>(rt: &R) {
+    let _ = eprintln!(rt;
+        "error: --beside names the rule that counts, which can't be compared with itself. Name another rule."
     );
 }
 

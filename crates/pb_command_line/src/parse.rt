@@ -8,9 +8,9 @@ use crate::elsewhere::{elsewhere_words, uncounted_words, without_dashes};
 use crate::flaw::Flaw;
 use crate::numbers::{BadNumber, bad_number};
 use crate::rule::{
-    bad_ties, compares, named_rule, refuse_profile, rule_of, said_rule, without_shares,
+    OF_NAMES, SaidRules, are_one, bad_ties, compares, named_rule, refuse_name, rule_of,
+    without_shares,
 };
-use crate::said_rule::SaidRule;
 use crate::task::Asked;
 use clap::error::ErrorKind;
 use clap::{ArgMatches, Error};
@@ -60,7 +60,7 @@ fn parsed_by<'a, R: Print + Eprint>(
     alloc: Global,
     matches: &ArgMatches<'a>,
 ) -> Result<Parsed<'a>, AllocError> {
-    let mut said = SaidRule::nothing();
+    let mut rules = SaidRules::nothing();
     if let Some((name, given)) = matches.subcommand() {
         if let Some(bad) = bad_number(given) {
             return Ok(Parsed::Ends(refuse_number(rt, &bad)));
@@ -68,24 +68,45 @@ fn parsed_by<'a, R: Print + Eprint>(
         if let Some(text) = bad_ties(given) {
             return Ok(refused_by(rt, Flaw::Ties(text)));
         }
-        let named = named_rule(alloc, given)?;
-        if let (Some(profile), None) = (given.get_str("profile"), named) {
-            refuse_profile(rt, alloc, profile)?;
+        if refuses_names(rt, alloc, given)? {
             return Ok(Parsed::Ends(BAD_ARGUMENTS));
         }
-        said = said_rule(given, named);
-        if let Some(flaw) = without_shares(name, compares(name, given), &said) {
+        rules = SaidRules::of(alloc, given)?;
+        if let Some(flaw) = without_shares(name, compares(name, given), &rules.said) {
             return Ok(refused_by(rt, flaw));
         }
+        let rule = rule_of(given, &rules.said);
+        if let Some(other) = &rules.beside {
+            if are_one(alloc, &rule, other)? {
+                return Ok(refused_by(rt, Flaw::BesideItself));
+            }
+        }
         if name == BYLAW.name {
-            return print_bylaw(rt, alloc, &rule_of(given, &said));
+            return print_bylaw(rt, alloc, &rule);
         }
     }
-    let asked = asked_by(matches, &said);
+    let asked = asked_by(matches, &rules);
     if let Some(flaw) = Flaw::of(&asked.task) {
         return Ok(refused_by(rt, flaw));
     }
     Ok(Parsed::Asks(asked))
+}
+
+/// Says of the first option that gives a rule by its name, and gives one that no rule has, that this is so; answers
+/// whether there is one.
+fn refuses_names<R: Eprint>(
+    rt: &R,
+    alloc: Global,
+    given: &ArgMatches<'_>,
+) -> Result<bool, AllocError> {
+    for option in OF_NAMES {
+        let named = named_rule(alloc, given, option.name)?;
+        if let (Some(name), None) = (given.get_str(option.name), named) {
+            refuse_name(rt, alloc, option.name, name)?;
+            return Ok(true);
+        }
+    }
+    Ok(false)
 }
 
 /// Says why arguments are refused, and how the program then ends.

@@ -1,7 +1,9 @@
 //! The options of a count, and the rule that they name.
 
 use crate::argument::Argument;
-use crate::arguments::{COMPARE, COMPLETION, MEASURE, PLAIN, RAISES, RULE, STEP, TIES, of_count};
+use crate::arguments::{
+    BESIDE, COMPARE, COMPLETION, MEASURE, PLAIN, PROFILE, RAISES, RULE, STEP, TIES, of_count,
+};
 use crate::flaw::{Flaw, TIES_ARE};
 use crate::method::Method;
 use crate::said_rule::SaidRule;
@@ -18,6 +20,66 @@ use std::alloc::{AllocError, Global};
 
 /// The options that say a part of how shares are used.
 const OF_SHARES: &[Argument] = &[MEASURE, COMPLETION, PLAIN, STEP, RAISES];
+
+/// The options that give a rule by its name.
+pub(crate) const OF_NAMES: &[Argument] = &[PROFILE, BESIDE];
+
+/// What options say of the rules by which ballots are counted.
+#[derive(Clone, Copy)]
+pub(crate) struct SaidRules {
+    /// The rule of the count, as far as they say it.
+    pub(crate) said: SaidRule,
+    /// The rule with which that one is compared, if one is named.
+    pub(crate) beside: Option<Rule>,
+}
+
+impl SaidRules {
+    /// Nothing is said.
+    pub(crate) fn nothing() -> SaidRules {
+        SaidRules {
+            said: SaidRule::nothing(),
+            beside: None,
+        }
+    }
+
+    /// What these options say.
+    pub(crate) fn of(alloc: Global, given: &ArgMatches<'_>) -> Result<SaidRules, AllocError> {
+        Ok(SaidRules {
+            said: said_rule(given, named_rule(alloc, given, PROFILE.name)?),
+            beside: beside_of(alloc, given)?,
+        })
+    }
+}
+
+/// The rule with which that of a count is compared, if one is named: with the same workers, and as many raises
+/// allowed.
+fn beside_of(alloc: Global, given: &ArgMatches<'_>) -> Result<Option<Rule>, AllocError> {
+    match named_rule(alloc, given, BESIDE.name)? {
+        Some(rule) => {
+            let mut said = SaidRule::named(&rule);
+            said.max_raises = given.get_one("raises");
+            Ok(Some(rule_of(given, &said)))
+        }
+        None => Ok(None),
+    }
+}
+
+/// Whether both rules have one name.
+pub(crate) fn are_one(alloc: Global, rule: &Rule, other: &Rule) -> Result<bool, AllocError> {
+    let Ok(name) = rule.profile(alloc) else {
+        return Err(AllocError);
+    };
+    let are_one = match other.profile(alloc) {
+        Ok(other) => {
+            let are_one = name.as_str() == other.as_str();
+            drop(other);
+            Ok(are_one)
+        }
+        Err(_) => Err(AllocError),
+    };
+    drop(name);
+    are_one
+}
 
 /// Whether an argument of this name is an option of a count.
 pub(crate) fn is_of_count(name: &str) -> bool {
@@ -43,12 +105,13 @@ pub(crate) fn rule_of(given: &ArgMatches<'_>, said: &SaidRule) -> Rule {
     said.rule(given.get_one("workers").unwrap_or(standard.workers))
 }
 
-/// The rule that is given by its name; none where none is given, or no rule has the name.
+/// The rule that this option gives by its name; none where none is given, or no rule has the name.
 pub(crate) fn named_rule(
     alloc: Global,
     given: &ArgMatches<'_>,
+    option: &str,
 ) -> Result<Option<Rule>, AllocError> {
-    match given.get_str("profile") {
+    match given.get_str(option) {
         Some(name) => match profile_named(alloc, whole_name(name)) {
             Ok(named) => Ok(named),
             Err(_) => Err(AllocError),
@@ -63,7 +126,7 @@ fn whole_name(name: &str) -> &str {
 }
 
 /// The rule, as far as options say it; this one is given by its name, if one is.
-pub(crate) fn said_rule(given: &ArgMatches<'_>, named: Option<Rule>) -> SaidRule {
+fn said_rule(given: &ArgMatches<'_>, named: Option<Rule>) -> SaidRule {
     let mut said = match named {
         Some(rule) => SaidRule::named(&rule),
         None => by_options(given),
@@ -113,10 +176,10 @@ pub(crate) fn without_shares<'a>(
     if compares { Some(Flaw::OneRule) } else { None }
 }
 
-/// Whether the arguments of this command ask for a comparison with most votes first.
+/// Whether the arguments of this command ask for a comparison with most votes first, which they don't name.
 pub(crate) fn compares(command: &str, given: &ArgMatches<'_>) -> bool {
     match command {
-        "compare" => true,
+        "compare" => given.get_str(BESIDE.name).is_none(),
         "page" => given.get_flag(COMPARE.name),
         _ => false,
     }
@@ -143,15 +206,17 @@ fn by_options(given: &ArgMatches<'_>) -> SaidRule {
     said
 }
 
-/// Says that no rule has this name: which part of it is no rule for ties, or else which rule's name is the nearest.
-pub(crate) fn refuse_profile<R: Eprint>(
+/// Says that no rule has the name which this option gives: which part of it is no rule for ties, or else which rule's
+/// name is the nearest.
+pub(crate) fn refuse_name<R: Eprint>(
     rt: &R,
     alloc: Global,
+    option: &str,
     name: &str,
 ) -> Result<(), AllocError> {
     if let Some(ties) = no_ties(name) {
         let _ = eprintln!(rt;
-            "option --profile: {name:?} is not the name of a rule: {ties:?} is no rule for ties. {TIES_ARE}"
+            "option --{option}: {name:?} is not the name of a rule: {ties:?} is no rule for ties. {TIES_ARE}"
         );
         return Ok(());
     }
@@ -160,7 +225,7 @@ pub(crate) fn refuse_profile<R: Eprint>(
         Err(_) => return Err(AllocError),
     };
     let _ = eprintln!(rt;
-        "option --profile: {name:?} is not the name of a rule. The nearest one is {nearest}."
+        "option --{option}: {name:?} is not the name of a rule. The nearest one is {nearest}."
     );
     drop(nearest);
     Ok(())

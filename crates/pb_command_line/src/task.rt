@@ -71,10 +71,12 @@ pub struct CountRun<'a> {
     pub digests: bool,
 }
 
-/// A count beside most votes first.
+/// A count beside one by another rule.
 #[derive(Clone, Copy)]
 pub struct CompareRun<'a> {
     pub ballots: Ballots<'a>,
+    /// The other rule, if it is named; else it is most votes first.
+    pub beside: Option<Rule>,
     /// A row for each project, in place of one for each rule.
     pub by_project: bool,
 }
@@ -158,7 +160,7 @@ pub enum Task<'a> {
     Voters(Ballots<'a>),
     /// How fair a count of these ballots is to the supporters of the projects that lost.
     Fairness(Ballots<'a>),
-    /// A count of these ballots beside most votes first.
+    /// A count of these ballots beside one by another rule.
     Compare(CompareRun<'a>),
     /// All ties of a count of these ballots.
     Ties(Ballots<'a>),
@@ -269,6 +271,14 @@ impl<'a> Task<'a> {
     pub fn published(&self) -> Option<TextSource<'a>> {
         match *self {
             Task::Page(PageRun { same_as, .. }) => same_as,
+            _ => None,
+        }
+    }
+
+    /// The rule with which that of the count is compared, if one is named.
+    pub fn beside(&self) -> Option<Rule> {
+        match *self {
+            Task::Compare(CompareRun { beside, .. }) => beside,
             _ => None,
         }
     }

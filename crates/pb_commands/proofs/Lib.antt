@@ -27,3 +27,4 @@ pub mod IdsText
 mod Exports
 pub mod WhatIfRows
 pub mod TiesEnds
+pub mod BesideEnds

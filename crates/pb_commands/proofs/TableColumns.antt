@@ -21,6 +21,7 @@ use Rattle.pb_rounds.specs.MostVotes.{is_taken, votes_at}
 use Rattle.pb_rounds.specs.RuleNames.{fills_up}
 use Rattle.pb_rounds.specs.declared.rule.FillUp.{FillUp}
 use Rattle.pb_rounds.specs.declared.rule.FillUp.TheVariants.{Nothing, MostVotes}
+use Rattle.pb_rounds.specs.declared.rule.Rule.{Rule}
 use Rattle.pb_rows.specs.Reading.{Fields}
 use Rattle.pb_rows.specs.Tables.{Column, field_text, table_text}
 use Rattle.pb_rows.specs.declared.field.Field.{Field}
@@ -29,6 +30,7 @@ use Rattle.pb_rows.specs.Writing.{text_of_row, text_of_rows}
 use Rattle.pb_commands.proofs.ReportSums.{id_at-known}
 use Rattle.pb_commands.proofs.RowsGrown.{none_grown, row_grown, rows_grown}
 use Rattle.pb_commands.proofs.PaymentsInFile.{payments_known, texts_in_file}
+use Rattle.pb_commands.specs.Inner.Beside.{beside_columns}
 use Rattle.pb_commands.specs.Inner.Tables.{all_columns, payments_in_file, payments_text, row_of}
 use Rattle.pb_commands.specs.Tables.{columns_of}
 use Rattle.pb_commands.specs.declared.table.Table.TheVariants.{Fairness, Projects, RuledProjects, Voters}
@@ -126,6 +128,15 @@ pub ruled_row_read : (x : CountedElectionView) (place : ℕ) (p : ProjectView) �
     → field_text number ∷ id ∷ name ∷ field_text cost ∷ decimal votes ∷ field_text wins ∷ field_text otherwise ∷ [] ≡ row_of (columns_of RuledProjects x) place
 ruled_row_read x place p known is number cost wins otherwise number_is cost_is wins_is otherwise_is id name id_is name_is votes votes_is =
     rw (number_is, cost_is, wins_is, otherwise_is, id_is, name_is, votes_is, ← id_at-known x.election place p known is, ← name_at-known x.election place p known is, ← cost_at-known x.election place p known is) refl
+
+-- the row of a project by two rules, as it is written
+pub beside_row_read : (e : ElectionView) (rule other : Rule) (winners others : List ℕ) (place : ℕ) (p : ProjectView) → place < length e.projects → p ≡ get_or e.projects place p
+    → (number cost wins otherwise : Field) → number ≡ Number place → cost ≡ Amount p.cost → wins ≡ Number (if is_taken winners place then 1 else 0)
+    → otherwise ≡ Number (if is_taken others place then 1 else 0) → (id name : List ℕ) → id ≡ p.id → name ≡ p.name
+    → (votes : ℕ) → votes ≡ votes_at (support_of e) place
+    → field_text number ∷ id ∷ name ∷ field_text cost ∷ decimal votes ∷ field_text wins ∷ field_text otherwise ∷ [] ≡ row_of (beside_columns e rule other winners others) place
+beside_row_read e rule other winners others place p known is number cost wins otherwise number_is cost_is wins_is otherwise_is id name id_is name_is votes votes_is =
+    rw (number_is, cost_is, wins_is, otherwise_is, id_is, name_is, votes_is, ← id_at-known e place p known is, ← name_at-known e place p known is, ← cost_at-known e place p known is) refl
 
 -- the row of a project that lost, as it is written
 pub loser_row_read : (x : CountedElectionView) (place : ℕ) (p : ProjectView) → place < length x.election.projects → p ≡ get_or x.election.projects place p

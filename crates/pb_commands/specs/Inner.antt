@@ -3,6 +3,7 @@
 pub mod AllTies
 pub mod Audited
 pub mod Ballots
+pub mod Beside
 pub mod Checked
 pub mod Counted
 pub mod DeskRun

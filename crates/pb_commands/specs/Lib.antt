@@ -4,6 +4,7 @@ pub mod Tables
 pub mod Ends
 pub mod Audited
 pub mod Ballots
+pub mod Beside
 pub mod DeskRun
 pub mod Checked
 pub mod Closed

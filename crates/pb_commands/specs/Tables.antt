@@ -26,9 +26,9 @@ use Rattle.pb_commands.specs.declared.table.Table.TheVariants.{Fairness, Project
 use Rattle.pb_commands.specs.declared.table.Table.TheVariants.{Voters}
 
 -- the columns that begin each table of projects, each by its place in the election; what is written is that in the file
-abbrev pub project_head : CountedElectionView → List (Column ℕ)
-project_head x = let e = x.election in
-    (codes "place", λ place. decimal (slice_index x.order place)) ∷ (codes "project_id", λ place. slice_index_or (project_ids e) place [])
+abbrev pub project_head : ElectionView → (ℕ → ℕ) → List (Column ℕ)
+project_head e in_file =
+    (codes "place", λ place. decimal (in_file place)) ∷ (codes "project_id", λ place. slice_index_or (project_ids e) place [])
     ∷ (codes "name", λ place. slice_index_or (map (λ p. p.name) e.projects) place [])
     ∷ (codes "cost", λ place. money_text (cost_at (support_of e) place))
     ∷ (codes "votes", λ place. decimal (votes_at (support_of e) place)) ∷ []
@@ -52,7 +52,7 @@ rule_columns = (codes "rule", λ r. r.0) ∷ (codes "projects", λ r. decimal r.
 -- a place in it, `:` and an amount, with `,` between. Of projects by rule: at the end 1 or 0 for each rule, as the
 -- project is among its winners or not. Of fairness: the places are those of projects that lost.
 abbrev pub columns_of : Table → CountedElectionView → List (Column ℕ)
-columns_of Projects x = project_head x
+columns_of Projects x = project_head x.election (slice_index x.order)
     ++ map (λ (k : ℕ × List ℕ). (k.1, λ (place : ℕ). slice_index_or (fields_of (project_reason x.election x.counted place).ending) k.0 []))
     (enumerate_from 0 (codes "round" ∷ codes "price" ∷ codes "collected" ∷ codes "in_full" ∷ codes "left"
     ∷ codes "missing" ∷ (if fills_up x.counted.fill_up then codes "added" ∷ [] else [])))
@@ -63,7 +63,7 @@ columns_of Voters x = let told = voter_reason x.election x.counted in
     ∷ (codes "elected", λ v. decimal (told v).elected) ∷ (codes "paid", λ v. money_text (told v).paid)
     ∷ (codes "left", λ v. money_text (told v).left)
     ∷ (codes "payments", λ v. join_with_byte 44 (map payment (paid v))) ∷ []
-columns_of RuledProjects x = project_head x
+columns_of RuledProjects x = project_head x.election (slice_index x.order)
     ++ (codes "equal_shares", λ place. decimal (if is_taken (winners_of x.counted) place then 1 else 0))
     ∷ (codes "most_votes", λ place. decimal (if is_taken (elected_by_votes x.election) place then 1 else 0)) ∷ []
 columns_of Fairness x = let s = support_of x.election in

@@ -60,7 +60,7 @@ pub fn count_inputs<T: Threads + Sync, P: Read + Drop, J: Read + Drop, G: Gate, 
 }
 
 /// A refused count, as a run answers it.
-fn not_counted(fault: CountFault) -> AppFault
+pub(crate) fn not_counted(fault: CountFault) -> AppFault
     ensures { result ≡ merged (AppFault.Count fault) }
 {
     AppFault::Count(fault).merged()

@@ -6,6 +6,7 @@
 #![tactic(auto)]
 
 mod ballots_table;
+mod beside_table;
 mod counting;
 pub mod demand;
 mod digested;
@@ -21,6 +22,7 @@ mod ruled_projects_table;
 mod rules_table;
 pub mod run_audit;
 pub mod run_ballots;
+pub mod run_beside;
 pub mod run_check;
 pub mod run_count;
 pub mod run_desk;
@@ -33,6 +35,7 @@ pub mod table_laws;
 mod ties_table;
 mod voters_table;
 pub mod what_if_rows;
+mod won_by_both;
 
 pub use counting::{Counting, count_inputs};
 pub use demand::Demand;

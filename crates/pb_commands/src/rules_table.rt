@@ -1,6 +1,7 @@
 //! The table of rules: what a count elects beside what most votes first elects.
 
-ghost use Rattle.std.specs.Prelude.{◌≡◌, ◌++◌, OnOk};
+ghost use Rattle.std.specs.Prelude.{◌≡◌, ◌++◌, [], OnOk};
+ghost use Rattle.pb_rows.specs.Tables.{table_text};
 ghost use Rattle.pb_rows.specs.Writing.{text_of_row};
 ghost use Rattle.pb_commands.specs.Tables.{rule_columns, table_of};
 ghost use Rattle.pb_commands.specs.Inner.Tables.{row_of};
@@ -20,6 +21,15 @@ pub(crate) fn put_rules(
     ensures { OnOk result (rows.new.text ≡ rows.old.text ++ table_of Rules count.now) }
 {
     let rules = compare_with_votes(alloc, count)?;
+    put_columns(rows)?;
+    put_rule(rows, "equal shares", rules.own)?;
+    put_rule(rows, "most votes", rules.other)
+}
+
+/// Writes the columns of rules.
+pub(crate) fn put_columns(rows: &mut RowsWriter) -> Result<(), NoMemory>
+    ensures { OnOk result (rows.new.text ≡ rows.old.text ++ table_text rule_columns []) }
+{
     rows.put_row(&[
         "rule",
         "projects",
@@ -31,12 +41,11 @@ pub(crate) fn put_rules(
         "more_choices",
         "more_worth",
     ])?;
-    put_rule(rows, "equal shares", rules.own)?;
-    put_rule(rows, "most votes", rules.other)
+    Ok(())
 }
 
 /// Writes the row of a rule.
-fn put_rule(rows: &mut RowsWriter, rule: &str, row: RuleRow) -> Result<(), NoMemory>
+pub(crate) fn put_rule(rows: &mut RowsWriter, rule: &str, row: RuleRow) -> Result<(), NoMemory>
     ensures { OnOk result (rows.new.text
         ≡ rows.old.text ++ text_of_row (row_of rule_columns (rule.now, row))) }
 {

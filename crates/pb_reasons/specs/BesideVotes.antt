@@ -3,7 +3,7 @@ use Rattle.std.specs.Prelude.{ℕ, List, []}
 use Rattle.pb_core.specs.Election.{ElectionView}
 use Rattle.pb_rounds.specs.MostVotes.{most_votes_first}
 use Rattle.pb_price.specs.Supporters.{support_of}
-use Rattle.pb_reasons.specs.Comparison.{rule_row}
+use Rattle.pb_reasons.specs.Comparison.{comparison_of}
 use Rattle.pb_reasons.specs.Counted.{CountedView, winners_of}
 use Rattle.pb_reasons.specs.declared.comparison.Comparison.{Comparison}
 
@@ -13,5 +13,4 @@ elected_by_votes e = most_votes_first (support_of e) [] e.budget
 
 -- the rows of a count and of most votes first, each beside the other
 abbrev pub beside_votes : ElectionView → CountedView → Comparison
-beside_votes e c = let own = winners_of c in let other = elected_by_votes e in
-    record { own = rule_row e own other; other = rule_row e other own }
+beside_votes e c = comparison_of e (winners_of c) (elected_by_votes e)

@@ -3,6 +3,7 @@ use Rattle.std.specs.Prelude.{ℕ, ◌-◌, ◌==◌, List, count_by, filter, le
 use Rattle.pb_core.specs.Election.{ElectionView}
 use Rattle.pb_rounds.specs.MostVotes.{is_taken}
 use Rattle.pb_price.specs.Supporters.{cost_at, support_of}
+use Rattle.pb_reasons.specs.declared.comparison.Comparison.{Comparison}
 use Rattle.pb_reasons.specs.declared.rule_row.RuleRow.{RuleRow}
 
 -- how many of a ballot's choices are among the winners
@@ -25,3 +26,7 @@ rule_row e winners other = record {
   more_choices = count_by (λ v. nat_lt (choices_of other v.ballot) (choices_of winners v.ballot)) e.voters;
   more_worth = count_by (λ v. nat_lt (worth_of e other v.ballot) (worth_of e winners v.ballot)) e.voters;
 }
+
+-- each rule's row, beside the other
+abbrev pub comparison_of : ElectionView → (winners other : List ℕ) → Comparison
+comparison_of e winners other = record { own = rule_row e winners other; other = rule_row e other winners }

@@ -1,7 +1,7 @@
 //! Two rules side by side.
 
 ghost use Rattle.std.specs.Prelude.{◌≡◌, IfOk};
-ghost use Rattle.pb_reasons.specs.Inner.Comparing.{comparison_of};
+ghost use Rattle.pb_reasons.specs.Comparison.{comparison_of};
 
 use crate::rule_row::RuleRow;
 use crate::winners::Winners;
@@ -22,7 +22,7 @@ pub struct Comparison {
 /// the voters. The order in which they stand says nothing, and a place that no project has costs nothing.
 ///
 /// Each approval is looked at once for each rule.
-pub(crate) fn compare(
+pub fn compare(
     alloc: Global,
     election: &Election,
     winners: &[u32],

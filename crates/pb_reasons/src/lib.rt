@@ -42,7 +42,7 @@ pub use changes::{
     Change, Found, Loser, ProjectGate, Question, Recount, Recounts, Row, Verdict, WhatIf,
     one_change, what_if, what_if_losers,
 };
-pub use comparison::Comparison;
+pub use comparison::{Comparison, compare};
 pub use counted_election::CountedElection;
 pub use fairness::{most_spent, needed};
 pub use money_paid::MoneyPaid;

@@ -2,7 +2,7 @@
 
 use crate::prelude::*;
 use pb_rounds::count_fault::CountFault;
-use pb_rounds::options::CountOptions;
+use pb_rounds::options::{CountOptions, LARGEST_STEP};
 
 /// What is known of raises beyond those that were allowed and spent.
 #[derive(Clone, Copy)]
@@ -40,6 +40,32 @@ pub fn count_words(
         fault => put_option(&mut out, fault, options),
     }
     out.finish()
+}
+
+/// Words for counts of the .pb file with this path by two rules, with these options, of which one was refused; no path
+/// is standard input.
+pub fn either_count_words(
+    alloc: Global,
+    path: Option<&str>,
+    fault: CountFault,
+    options: &CountOptions,
+    other: &CountOptions,
+) -> Said {
+    match fault {
+        CountFault::RaisesSpent => {
+            let mut out = WordsWriter::new(alloc);
+            out.fill(
+                "{}: one of the two counts is not finished after {}, so there is no result. \
+                You can allow more raises with `--raises`, or name a rule with a larger step.\n",
+                &[Name(path), Count(u64::from(options.max_raises), "raise")],
+            );
+            out.finish()
+        }
+        CountFault::StepRange if options.step.0 >= 1 && options.step.0 <= LARGEST_STEP.0 => {
+            count_words(alloc, path, fault, other)
+        }
+        fault => count_words(alloc, path, fault, options),
+    }
 }
 
 /// Words for a count of the .pb file with this path whose ties are not told; no path is standard input.

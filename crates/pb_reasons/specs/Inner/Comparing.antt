@@ -4,8 +4,7 @@ use Rattle.std.specs.Prelude.{if◌then◌else◌, length, nat_lt, slice_index_o
 use Rattle.pb_core.specs.Election.{ElectionView, VoterView}
 use Rattle.pb_rounds.specs.MostVotes.{is_taken}
 use Rattle.pb_price.specs.Supporters.{cost_at, support_of}
-use Rattle.pb_reasons.specs.Comparison.{choices_of, rule_row, worth_of}
-use Rattle.pb_reasons.specs.declared.comparison.Comparison.{Comparison}
+use Rattle.pb_reasons.specs.Comparison.{choices_of, worth_of}
 use Rattle.pb_reasons.specs.declared.content.Content.{Content}
 use Rattle.pb_reasons.specs.declared.rule_row.RuleRow.{RuleRow}
 
@@ -48,7 +47,3 @@ pub record IsSmall (voters : ℕ) (r : RuleRow) : Type 0 where
   pub worth : r.worth ≤ voters * 2 ^ 96
   pub more_choices : r.more_choices ≤ voters
   pub more_worth : r.more_worth ≤ voters
-
--- each rule's row, beside the other
-abbrev pub comparison_of : ElectionView → (winners other : List ℕ) → Comparison
-comparison_of e winners other = record { own = rule_row e winners other; other = rule_row e other winners }
