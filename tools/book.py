@@ -46,13 +46,11 @@ COMPUTING_LAWS = {
     ("pb_rounds", "count_is_computed"),
 }
 # Words each of whose values a law pins in the words of a rule, for every input, or for each one that a definition gives them
-# (`last_given`: a voter whose ballot a legal journal leaves; `money_text`: an amount of 64 bits; `in_order`: an election and
-# an order of its projects; `totals_of`, `runs_of`, `in_file`: a count of an election; `voter_payments`: a voter of an
-# election; `count_of`, `outcome_of`: an election, and options in range; `needed`: a project with a supporter): whoever names
+# (`last_given`: a voter whose ballot a legal journal leaves; `in_order`: an election and an order of its projects;
+# `totals_of`, `runs_of`: a count of an election; `voter_payments`: a voter of an election; `count_of`, `outcome_of`: an election, and options in range; `needed`: a project with a supporter): whoever names
 # them, the law says what they are, and nobody has to believe what computes them.
 PINNED = {
     ("pb_core", "Money", "money_of"): ("pb_core", "money_is_what_its_text_names"),
-    ("pb_core", "MoneyText", "money_text"): ("pb_core", "money_reads_back"),
     ("pb_core", "Order", "position_in"): ("pb_core", "orders_are_their_words"),
     ("pb_core", "Order", "ballot_in"): ("pb_core", "orders_are_their_words"),
     ("pb_core", "Order", "in_order"): ("pb_core", "orders_are_their_words"),
@@ -89,7 +87,6 @@ PINNED = {
     ("pb_reasons", "AllTies", "is_same_pair"): ("pb_reasons", "different_ties_are_their_words"),
     ("pb_reasons", "AllTies", "different"): ("pb_reasons", "different_ties_are_their_words"),
     ("pb_reasons", "AllTies", "runs_of"): ("pb_reasons", "ties_are_their_words"),
-    ("pb_reasons", "CountedElection", "in_file"): ("pb_reasons", "ties_are_their_words"),
     ("pb_reasons", "Ties", "is_tied"): ("pb_reasons", "ties_are_their_words"),
     ("pb_reasons", "Ties", "ties_in"): ("pb_reasons", "ties_are_their_words"),
     ("pb_reasons", "Ties", "ties_with_added"): ("pb_reasons", "ties_are_their_words"),

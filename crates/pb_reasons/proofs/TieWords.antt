@@ -1,20 +1,15 @@
 -- Which ties are told, and what a voter paid, in the words of their law.
-use Rattle.std.proofs.Common.{◌≡◌, ◌≢◌, ℕ, zero, suc, ◌+◌, ◌*◌, ◌<◌, ◌≤◌, Bool, true, false, cond, not, ◌&&◌, List, [], ◌∷◌, ◌++◌, length, get_or, map, take, replicate, Contains, Option, Some, None, refl, sym, subst, ◌∙◌, ap, inl, inr, arith}
+use Rattle.std.proofs.Common.{◌≡◌, ◌≢◌, ℕ, zero, suc, ◌+◌, ◌*◌, ◌<◌, ◌≤◌, Bool, true, false, cond, not, ◌&&◌, List, [], ◌∷◌, ◌++◌, length, get_or, map, take, replicate, Contains, Option, Some, None, refl, sym, subst, ◌∙◌, ap, arith}
 use Rattle.std.specs.Prelude.{All, ◌==◌, filter, nat_lt, slice_get, slice_index, slice_index_or}
 use Rattle.std.specs.List.{range_with_len}
 use Rattle.std.specs.List.Sorted.{IsStrictlyIncreasing}
 use Rattle.std.specs.Option.{option_map_or}
-use Rattle.std.proofs.lemmas.Bool.{and_from, and_parts, cases_lt, eq-eqb, eqb-true, false≢true, lt-ltb, ltb-true, ne_eqb, not-true}
-use Rattle.std.proofs.lemmas.Grind.{get_or_default_zero}
+use Rattle.std.proofs.lemmas.Bool.{and_from, and_parts, eq-eqb, eqb-true, false≢true, lt-ltb, ltb-true, ne_eqb, not-true}
 use Rattle.std.proofs.lemmas.List.{get_or-map, get_or_default, get_or_past, length-map}
 use Rattle.std.proofs.lemmas.List.Elements.{All-contains, All-head, All-tail, filter_passes}
-use Rattle.std.proofs.lemmas.List.FromFn.{get_or-map-range_with_len, length-map-range_with_len}
 use Rattle.std.proofs.lemmas.List.Kept.{IsStrictlyIncreasing-filter}
-use Rattle.std.proofs.lemmas.List.Sums.{fails_before_first, passes_at_first}
 use Rattle.pb_core.proofs.Members.{filter_rises, from_filter, in_filter}
-use Rattle.pb_core.proofs.Orders.{order_has}
 use Rattle.pb_core.specs.Election.{ElectionView, IsElection, VoterView}
-use Rattle.pb_core.specs.Order.{position_in}
 use Rattle.pb_price.specs.Price.{price_at}
 use Rattle.pb_price.specs.Supporters.{SupportView, ballot_at, cost_at, support_of, supporters_at}
 use Rattle.pb_rounds.proofs.Charged.{payment_at}
@@ -26,7 +21,6 @@ use Rattle.pb_rounds.specs.Payments.{paid_in_turn}
 use Rattle.pb_rounds.specs.Run.{ElectedView, charged, is_elected, payment_of, weight_of}
 use Rattle.pb_rounds.specs.declared.measure.Measure.{Measure}
 use Rattle.pb_reasons.specs.Counted.{CountedView, winners_of}
-use Rattle.pb_reasons.specs.CountedElection.{CountedElectionView, IsCountedElection, in_file}
 use Rattle.pb_reasons.specs.Reasons.{paid_for, round_of, voter_payments}
 use Rattle.pb_reasons.specs.Ties.{is_tied, ties_in, ties_with_added}
 use Rattle.pb_reasons.specs.declared.payment.Payment.{Payment}
@@ -269,27 +263,3 @@ module _ (e : ElectionView) (o : OutcomeView) (voter : ℕ) where
       let past : length (paid_in_turn (support_of e) opening o.elected) ≤ round_of o.elected place =
       omega (arith, one_row_each (support_of e) voter opening o.elected, no_round place o.elected others) in
       ap (λ (row : List ℕ). slice_index row voter) (get_or_past (paid_in_turn (support_of e) opening o.elected) (round_of o.elected place) [] past)
-
--- the projects as they stand in the file
-module _ (x : CountedElectionView) (is : IsCountedElection x) where
-  pub as_many_in_file : length (in_file x) ≡ length x.election.projects
-  as_many_in_file = length-map-range_with_len (position_in x.order) 0 (length x.election.projects)
-
-  module _ (place : ℕ) (below : place < length x.election.projects) where
-    abbrev is_it : ℕ → Bool
-    is_it p = p == place
-
-    has_it : position_in x.order place < length x.order
-    has_it =
-        let known : place < length x.order = omega (arith, below, is.one_each) in
-        let (k, within, here) = order_has x.order is.is_order place known in
-        let at : get_or x.order k 0 ≡ place = sym (get_or_default_zero x.order k place within) ∙ here in
-        elim (cases_lt (position_in x.order place) (length x.order)) [
-          | inl less ↦ less
-          | inr past ↦ absurd (false≢true (sym (fails_before_first is_it x.order k 0 (omega (arith, within, past))) ∙ eq-eqb (get_or x.order k 0) place at))
-        ]
-
-    pub stands_in_file : slice_index x.order (slice_index (in_file x) place) ≡ place
-    stands_in_file =
-        ap (slice_index x.order) (get_or-map-range_with_len (position_in x.order) 0 (length x.election.projects) place place 0 below (omega arith))
-        ∙ eqb-true (get_or x.order (position_in x.order place) 0) place (passes_at_first is_it x.order 0 has_it)

@@ -13,7 +13,7 @@ ghost use Rattle.pb_rounds.specs.MostVotes.{fits, is_taken, votes_at};
 ghost use Rattle.pb_reasons.specs.AllTies.{all_ties, runs_of, different, is_same_pair};
 ghost use Rattle.pb_reasons.specs.BesideVotes.{elected_by_votes};
 ghost use Rattle.pb_reasons.specs.Counted.{CountedView, IsCountBy, counted, is_selected, winners_of};
-ghost use Rattle.pb_reasons.specs.CountedElection.{CountedElectionView, IsCountedElection, in_file};
+ghost use Rattle.pb_reasons.specs.CountedElection.{CountedElectionView, IsCountedElection};
 ghost use Rattle.pb_price.specs.Price.{price_at};
 ghost use Rattle.pb_rounds.specs.Cheapest.{rests_after};
 ghost use Rattle.pb_rounds.specs.Completed.{IsExhausted};
@@ -92,7 +92,7 @@ pub fn without_ties_no_others_win()
 /// rests that the rounds before it leave. Those of an added project are with the others that did not win, and have as
 /// many votes and the same cost. Both come in the order of the other projects. A count rests on
 /// one run for each raise up to the answered one, and on one more where that one is not exhausted, so that the next
-/// ended the raises. The projects in the order of the file are those whose places there are 0, 1, 2 and so on.
+/// ended the raises.
 pub fn ties_are_their_words()
     ensures tied { (m : Measure) (s : SupportView) (elected : List ElectedView) (rests : List ℕ)
         → (w : ElectedView) (place : ℕ) → (is_tied m s elected rests w place ≡ true)
@@ -116,9 +116,6 @@ pub fn ties_are_their_words()
         → runs_of x ≡ o.raised + 1)
         × (x.rule.options.completion ≡ Add1 → (¬ IsExhausted (support_of x.election) x.election.budget o.elected)
         → runs_of x ≡ o.raised + 2) }
-    ensures in_file { (x : CountedElectionView) → IsCountedElection x
-        → (length (in_file x) ≡ length x.election.projects) × ((place : ℕ) → place < length x.election.projects
-        → slice_index x.order (slice_index (in_file x) place) ≡ place) }
 {}
 
 /// Which ties are different. Two are of the same pair if they have the same winner and the same other project. One tie

@@ -1,5 +1,5 @@
 use Rattle.pb_reasons.proofs.Runs.{last_runs, more_runs}
-use Rattle.pb_reasons.proofs.TieWords.{added_has_tie, as_many_in_file, others_of_added_rise, others_of_round_rise, price_is_tied, round_has_tie, stands_in_file, tie_of_added, tie_of_round, tied_has_price}
+use Rattle.pb_reasons.proofs.TieWords.{added_has_tie, others_of_added_rise, others_of_round_rise, price_is_tied, round_has_tie, tie_of_added, tie_of_round, tied_has_price}
 use Rattle.pb_reasons.proofs.laws.ties_are_their_words.Goals as goal
 
 pub returns : goal.returns
@@ -10,5 +10,4 @@ returns c = record {
   added = λ s c winner t. (tie_of_added s c winner t, added_has_tie s c winner t);
   added_rises = others_of_added_rise;
   runs = λ x is. (last_runs x is, more_runs x is);
-  in_file = λ x is. (as_many_in_file x is, stands_in_file x is);
 }
