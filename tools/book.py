@@ -47,8 +47,9 @@ COMPUTING_LAWS = {
 }
 # Words each of whose values a law pins in the words of a rule, for every input, or for each one that a definition gives them
 # (`last_given`: a voter whose ballot a legal journal leaves; `in_order`: an election and an order of its projects;
-# `totals_of`, `runs_of`: a count of an election; `voter_payments`: a voter of an election; `count_of`, `outcome_of`: an election, and options in range; `needed`: a project with a supporter): whoever names
-# them, the law says what they are, and nobody has to believe what computes them.
+# `totals_of`, `runs_of`: a count of an election; `voter_payments`: a voter of an election; `count_of`, `outcome_of`: an
+# election, and options in range; `needed`: a project with a supporter): whoever names them, the law says what they are, and
+# nobody has to believe what computes them.
 PINNED = {
     ("pb_core", "Money", "money_of"): ("pb_core", "money_is_what_its_text_names"),
     ("pb_core", "Order", "position_in"): ("pb_core", "orders_are_their_words"),
