@@ -1,13 +1,14 @@
 -- Lists of which no more than so many are told.
-use Rattle.std.proofs.Common.{◌≡◌, ◌≤◌, ◌<◌, ◌++◌, ◌∷◌, [], get_or, ℕ, Bool, true, false, List, ap, append-nil, append_assoc, cond, length, map, refl, sym, take, ◌∙◌, arith, suc}
+use Rattle.std.proofs.Common.{◌≡◌, ◌≤◌, ◌<◌, ◌+◌, ◌++◌, ◌∷◌, [], get_or, ℕ, Bool, true, false, List, ap, append-nil, append_assoc, cond, length, map, refl, subst, sym, take, ◌∙◌, arith, suc, zero}
 use Rattle.std.specs.Prelude.{All, filter, flat_map}
 use Rattle.std.proofs.lemmas.Grind.{flat_map-append}
-use Rattle.std.proofs.lemmas.List.{map-append, take_all}
+use Rattle.std.proofs.lemmas.List.{map-append, take_all, take_at}
 use Rattle.std.proofs.lemmas.List.Elements.{filter-append}
 use Rattle.std.specs.List.{range_with_len}
 use Rattle.std.proofs.lemmas.List.{get_or_read}
 use Rattle.std.proofs.lemmas.List.FromFn.{get_or-range_with_len, length-range_with_len}
 use Rattle.pb_core.specs.Order.{position_in}
+use Rattle.pb_price.proofs.BuiltLists.{range_with_len_more}
 use Rattle.pb_rounds.specs.MostVotes.{is_taken}
 use Rattle.pb_reasons.specs.CountedElection.{CountedElectionView, IsCountedElection}
 use Rattle.pb_reasons.specs.Inner.AllTies.{told_with, with_other}
@@ -53,6 +54,19 @@ far_rows {X = X} n rows ys y old told new so_far put =
     far_append n old (flat_map rows ys) (rows y) told new so_far put
     ∙ ap (λ (xs : List X). take n (old ++ xs))
     (sym (flat_map-append rows ys (y ∷ []) ∙ ap (λ (xs : List X). flat_map rows ys ++ xs) (append-nil (rows y))))
+
+-- where as many stand there as are told at most, further rows change nothing
+pub far_full : {X : Type 0} (n : ℕ) (rows : ℕ → List X) (old told : List X) (i more : ℕ) → length told ≡ n
+    → told ≡ take n (old ++ flat_map rows (range_with_len 0 i)) → told ≡ take n (old ++ flat_map rows (range_with_len 0 (i + more)))
+far_full {X = X} n rows old told i zero full so_far =
+    subst (λ k. told ≡ take n (old ++ flat_map rows (range_with_len 0 k))) (omega arith) so_far
+far_full {X = X} n rows old told i (suc more) full so_far =
+    let one_more : told ≡ take n (old ++ flat_map rows (range_with_len 0 (i + more) ++ (i + more) ∷ [])) =
+    far_rows n rows (range_with_len 0 (i + more)) (i + more) old told told (far_full n rows old told i more full so_far)
+    (sym (take_at told (rows (i + more)) n (omega (arith, full)))) in
+    let all : told ≡ take n (old ++ flat_map rows (range_with_len 0 (i + more + 1))) =
+    subst (λ (ks : List ℕ). told ≡ take n (old ++ flat_map rows ks)) (sym (range_with_len_more (i + more))) one_more in
+    subst (λ k. told ≡ take n (old ++ flat_map rows (range_with_len 0 k))) (omega arith) all
 
 -- tests that agree on a list pass the same of it
 pub filter_same : {Y : Type 0} (p q : Y → Bool) (ys : List Y) → All (λ y. p y ≡ q y) ys → filter p ys ≡ filter q ys

@@ -177,6 +177,9 @@ fn put_rounds(
     let mut queue = opening_queue(alloc, measure, supporters)?;
     let mut rests = opening_rests(alloc, outcome.share, supporters.voters())?;
     for (before, winner) in elected.iter().enumerate() {
+        if told.len() > MOST_ROWS {
+            return Ok(());
+        }
         bounds[winner.place as usize] = None;
         let round = TiedRound {
             measure,

@@ -1,5 +1,5 @@
-use Rattle.std.proofs.Common.{◌≡◌, ◌<◌, ◌+◌, ◌∙◌, ◌++◌, [], ℕ, List, Some, ap, arith, drop, get_or, length, replicate, subst, subst₂, sym, take}
-use Rattle.std.specs.Prelude.{filter, flat_map}
+use Rattle.std.proofs.Common.{◌≡◌, ◌<◌, ◌≤◌, ◌+◌, ◌∙◌, ◌++◌, [], ℕ, List, Some, ap, arith, drop, get_or, length, replicate, subst, subst₂, sym, take}
+use Rattle.std.specs.Prelude.{◌-◌, filter, flat_map}
 use Rattle.std.specs.List.{range_with_len}
 use Rattle.pb_price.proofs.BuiltLists.{range_with_len_more}
 use Rattle.pb_price.proofs.SupporterLists.{known_voters, supporters_increase}
@@ -19,7 +19,7 @@ use Rattle.pb_reasons.specs.Inner.TieQueue.{AreQueued}
 use Rattle.pb_reasons.specs.Ties.{is_tied}
 use Rattle.pb_reasons.specs.declared.told_tie.ToldTie.{ToldTie}
 use Rattle.pb_reasons.proofs.AllTies.{rests_more}
-use Rattle.pb_reasons.proofs.Far.{far_none, far_rows}
+use Rattle.pb_reasons.proofs.Far.{far_full, far_none, far_rows}
 use Rattle.pb_reasons.proofs.Paying.{whole_part}
 use Rattle.pb_reasons.proofs.RoundTies.{round_rows, run_rows, winner_bounds, winner_known, winner_queued}
 use Rattle.pb_reasons.proofs.TieQueue.{opening_queued}
@@ -49,6 +49,23 @@ loop-before-init c =
           (opening_queued c.rule.result.options.measure t (take 0 es) c.in_ok-bounds.bounds.items c.in_ok-queue.queue.keys opening c.in_ok-queue.ensures);
       told = far_none 100001 c.args.told.now.items c.requires.few;
     }
+
+pub returns-then-len-gt-MOST_ROWS : goal.returns-then-len-gt-MOST_ROWS
+returns-then-len-gt-MOST_ROWS c =
+    let x = c.args.count.now in
+    let o = c.args.outcome.now in
+    let i = c.loop-before.before in
+    let told = c.loop-before.told.items in
+    let old = c.args.told.now.items in
+    let elected : c.as_slice-elected.result.now ≡ o.elected = c.as_slice-elected.ensures.value ∙ ap (λ (v : OutcomeView). v.elected) c.outcome.view_is in
+    let below : i < length o.elected = subst (λ (es : List ElectedView). i < length es) elected c.loop-before-test.true in
+    let short : length told ≤ 100001 = short_take 100001 told _ c.loop-before.invariant.told in
+    let full : length told ≡ 100001 = omega (arith, c.if-len-gt-MOST_ROWS.true, c.len.ensures, short) in
+    let (more, all) : (more : ℕ) × (i + more ≡ length o.elected) = (length o.elected - i, omega (arith, below)) in
+    far_full 100001 (round_ties x c.args.run o.share o.elected) old told i more full c.loop-before.invariant.told
+    ∙ ap (λ n. take 100001 (old ++ flat_map (round_ties x c.args.run o.share o.elected) (range_with_len 0 n))) all
+    ∙ ap (λ (rows : List ToldTie). take 100001 (old ++ rows))
+    (run_rows x c.election-election.ensures.is_counted c.args.run o.share o.elected o.rests c.requires.is_run c.requires.share)
 
 pub opening_bounds-requires : goal.opening_bounds-requires
 opening_bounds-requires c = λ k d below. absurd (omega (arith, below))
