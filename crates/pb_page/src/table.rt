@@ -318,7 +318,10 @@ const LATER: &[SentenceEntry] = &[
         "rule.only_then",
         "The rounds would elect these projects only with that raise:"
     ),
-    plain!("rule.ties", "Ties that the order of the file decided:"),
+    plain!(
+        "rule.ties",
+        "Ties that the order of the file decided (the command pb_app ties lists all):"
+    ),
     placed!(
         "rule.tie_by_votes",
         &["round", "winner", "other"],
@@ -463,7 +466,10 @@ const TIED: &[SentenceEntry] = &[
         "added.caption_tied",
         "What was left of the budget went to the project with the most votes that it still paid for, again and again: of equal votes to the cheaper project, of equal costs to the first by the rule for ties. Nobody's share pays for these projects. The bar is the project's part of the budget."
     ),
-    plain!("rule.ties_tied", "Ties that this rule decided:"),
+    plain!(
+        "rule.ties_tied",
+        "Ties that this rule decided (the command pb_app ties lists all):"
+    ),
     placed!(
         "rule.tie_by_votes_tied",
         &["round", "winner", "other"],
