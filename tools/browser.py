@@ -2,7 +2,7 @@
 import base64, collections, json, os, select, shutil, subprocess, tempfile
 
 # How many seconds a step of an installation, and an answer of the browser, may take.
-INSTALLS, ANSWERS = 300, 60
+INSTALLS, ANSWERS = 900, 300
 NAMES = ['chromium', 'chromium-browser', 'google-chrome']
 
 

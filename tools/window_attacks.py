@@ -3,11 +3,13 @@ something else."""
 import concurrent.futures, contextlib, itertools, os, pathlib, re, shutil, signal, socket, ssl, struct, subprocess
 import threading, time
 
-from window_clerk import LIMIT, PYTHON, TOP, Clerk, Window
+from window_clerk import LIMIT, PYTHON, TOP, Clerk, Window, until
 from window_seen import CITY, NAMES, new_folder, see
 
-# How many connections of each kind, and how many seconds a page is waited for.
-MANY, PATIENCE = 500, 15
+# How many connections of each kind, and how many seconds a page is waited for. A page that waits until the window cuts
+# a connection takes 10 seconds at least, and one that waits for a `serve` that is held 30 or more: by these two limits
+# they are told from a slow machine.
+MANY, PATIENCE, UNCUT, UNHELD = 500, 30, 8, 20
 # How long pages took in this part.
 waits = []
 
@@ -24,6 +26,41 @@ def seconds_of(what, times=3):
         longest = max(longest, time.monotonic() - begun)
     waits.append(longest)
     return longest
+
+
+def beside(begin, *pages):
+    """By how many seconds the slowest of some pages takes longer than `begin` took, whose connections are there meanwhile:
+    whatever these ask for, the window works at it as long."""
+    begun = time.monotonic()
+    links = begin()
+    took = time.monotonic() - begun
+    slowest = max(seconds_of(page) for page in pages)
+    for link in filter(None, links):
+        link.close()
+    return slowest - took
+
+
+def see_soon(what, measure, most=UNCUT):
+    """Sees that what `measure` gives is less than `most`, in one of three tries: a machine may stand still for a moment.
+    Gives how many tries that took, or 0."""
+    found = []
+    while len(found) < 3 and min(found, default=most) >= most:
+        found.append(measure())
+    see(min(found) < most, what, found)
+    return len(found) if min(found) < most else 0
+
+
+ONE = "import clerks, time; begun = time.monotonic(); clerks.hashed('one', '00'); print(time.monotonic() - begun)"
+
+
+def one_hash():
+    """How long one passphrase takes on this machine now, in a process of its own."""
+    return float(subprocess.run([PYTHON, '-B', '-c', ONE], cwd=TOP / 'window', capture_output=True).stdout)
+
+
+def minutes_since(begun):
+    """How many minutes of the clock there may have been since then."""
+    return 2 + int(time.monotonic() - begun) // 60
 
 
 def say_waits(part):
@@ -82,25 +119,23 @@ def try_strangers(program, work):
         ann, ben = Clerk(window, tls=tls), Clerk(window, '127.0.0.50', tls)
         ann.patience = ben.patience = PATIENCE
         see('clerk 1' in ann.sign_in('Ann').seen and 'clerk 2' in ben.sign_in(NAMES[2]).seen, 'two clerks')
+        start, failed, files = time.monotonic(), 0, pathlib.Path(f'/proc/{window.child.pid}/fd')
+        before = len(list(files.iterdir()))
         for what, fail in kinds.items():
-            links = [fail() for _ in range(MANY)]
-            lasted = [seconds_of(lambda: ann.get('/')), seconds_of(lambda: ben.get('/'))]
-            see(lasted[0] < 1, f'{MANY} times {what}: the next clerk is served within a second', lasted)
-            see(lasted[1] < 1, f'{MANY} times {what}: and so is one at the same address', lasted)
-            for link in filter(None, links):
-                link.close()
-            if max(lasted) > PATIENCE:
+            tries = see_soon(f'{MANY} times {what}: the next clerk is served at once, and so is one at the same address',
+                             lambda: beside(lambda: [fail() for _ in range(MANY)], lambda: ann.get('/'), lambda: ben.get('/')))
+            if not tries:
                 return
+            failed += tries * MANY
         see('Entry 1 ' in ann.ask('cast', 'v1', ['12']).seen, 'a ballot after that')
-        time.sleep(1)
+        see(until(lambda: len(list(files.iterdir())) <= before), 'no connection is left open')
         said, status = window.end()
         see(status == 0 and 'Traceback' not in said, 'nothing is on standard error', said)
         lines, left = omitted(window, 'connection-failed', 'connection-unused')
-        failed = MANY * len(kinds)
         see(lines + left == failed,
             'each connection that failed is in the log, or counted', lines, left, failed)
         say_waits('strangers')
-        see(lines <= 50 * 2 * 3, 'with few lines a minute', lines, left)
+        see(lines <= 50 * 2 * minutes_since(start), 'with few lines a minute', lines, left)
         told = [it for it in window.log() if it['what'] in ('connection-failed', 'connection-unused')]
         see(all(it['address'] == '127.0.0.50' and it['kind'] for it in told), 'and its address', told[:1])
 
@@ -116,12 +151,20 @@ def try_answered(program, work):
             ann.patience = PATIENCE
             ann.sign_in('Ann')
             ends = {'a reset': reset, 'a close': socket.socket.close}
-            for text, (what, fail) in itertools.product((whole, odd), ends.items()):
+
+            def begin(text, fail):
+                """200 connections that take their answer, which tells how long the window works at that, and as many that end."""
+                for _ in range(200):
+                    with connected(window, '127.0.0.51', text, client) as link:
+                        while link.recv(65536):
+                            pass
                 for _ in range(200):
                     fail(connected(window, '127.0.0.51', text, client))
-                lasted = seconds_of(lambda: ann.get('/'))
-                see(lasted < 1,
-                    f'200 times a whole request and {what}: the next clerk is served in a second', lasted, text)
+                return []
+
+            for text, (what, fail) in itertools.product((whole, odd), ends.items()):
+                see_soon(f'200 times {text} and {what}: the next clerk is served at once',
+                         lambda: beside(lambda: begin(text, fail), lambda: ann.get('/')))
             threads = len(list(pathlib.Path(f'/proc/{window.child.pid}/task').iterdir()))
             see(threads >= 64, 'all workers live', threads)
             window.end()
@@ -136,24 +179,16 @@ def try_crowds(program, work):
         ann.patience = ben.patience = PATIENCE
         ann.sign_in('Ann'), ben.sign_in(NAMES[2])
         for text in (b'G', b'POST /sign-in HTTP/1.1\r\nHost: x\r\nContent-Length: 100\r\n\r\nx'):
-            links = [connected(window, f'127.0.0.{60 + n % 3}', text) for n in range(48)]
-            time.sleep(0.5)
-            lasted = seconds_of(lambda: ann.get('/'))
-            see(lasted < 2,
-                '48 connections of three addresses without a whole request: a page in two seconds', lasted, text)
-            for link in links:
-                link.close()
-        links = [connected(window, f'127.0.1.{1 + n // 16}', b'G') for n in range(800)]
-        lasted = seconds_of(lambda: ann.get('/'))
-        see(lasted < 2, '800 of fifty addresses: a page comes within two seconds', lasted)
-        for link in links:
-            link.close()
+            begin = lambda: [connected(window, f'127.0.0.{60 + n % 3}', text) for n in range(48)]
+            see_soon(f'48 connections of three addresses with {text} alone: a page comes at once',
+                     lambda: beside(begin, lambda: ann.get('/')))
+        begin = lambda: [connected(window, f'127.0.1.{1 + n // 16}', b'G') for n in range(800)]
+        see_soon('800 of fifty addresses: a page comes at once', lambda: beside(begin, lambda: ann.get('/')))
         # Whoever signs in from many addresses waits for one another, and not the clerks who are signed in.
-        is_over, tried = threading.Event(), []
+        is_over, tried, start = threading.Event(), [], time.monotonic()
 
         def guess(number):
             stranger = Clerk(window, f'127.0.2.{1 + number}')
-            stranger.patience = PATIENCE
             while not is_over.is_set():
                 with contextlib.suppress(OSError):
                     tried.append(stranger.sign_in(f'nobody {number}', 'wrong').status)
@@ -163,23 +198,26 @@ def try_crowds(program, work):
             for number in range(80):
                 pool.submit(guess, number)
             try:
-                time.sleep(1)
-                slowest = seconds_of(lambda: (time.sleep(0.2), ann.get('/')), 8) - 0.2
-                see(slowest < 2,
-                    'sign-ins from eighty addresses: each page comes within two seconds', slowest, len(tried))
-                begun = time.monotonic()
-                ben.cookies = {key: it for key, it in ben.cookies.items() if 'session' not in key}
-                page = ben.sign_in(NAMES[2])
-                see('clerk 2' in page.seen and time.monotonic() - begun < 8,
-                    'a browser in which a clerk had signed in lets the clerk in',
-                    page.seen, time.monotonic() - begun)
+                until(lambda: len(tried) > 20)
+                # Both are measured by how long this machine takes for one passphrase.
+                see_soon('sign-ins from eighty addresses: each page comes before twenty passphrases could be tried',
+                         lambda: (seconds_of(lambda: (time.sleep(0.2), ann.get('/')), 8) - 0.2) / one_hash(), 20)
+                pages = []
+
+                def sign_in():
+                    ben.cookies = {key: it for key, it in ben.cookies.items() if 'session' not in key}
+                    pages.append(ben.sign_in(NAMES[2]).seen)
+
+                see_soon('a browser in which a clerk had signed in lets the clerk in before eighty could be tried',
+                         lambda: seconds_of(sign_in, 1) / one_hash(), 80)
+                see('clerk 2' in pages[-1], 'and nothing delays the clerk', pages)
             finally:
                 is_over.set()
         see({403, 429} >= set(tried) and len(tried) > 20, 'and nobody else', set(tried), len(tried))
         window.end()
         lines, left = omitted(window, 'not-signed-in')
         say_waits('crowds')
-        see(lines + left == len(tried) and lines <= 150,
+        see(lines + left == len(tried) and lines <= 50 * minutes_since(start),
             'each wrong try is in the log, or counted', lines, left, len(tried))
 
 
@@ -240,8 +278,7 @@ def record_from(clerk, address, page):
 
 
 def try_held(program, work):
-    """A `serve` that is held: pages come within two seconds, and say so; what is asked for meanwhile is not
-    sent."""
+    """A `serve` that is held: pages come all the same, and say so; what is asked for meanwhile is not sent."""
     folder = new_folder(work, 'held')
     # A start that is held: as long as a file is there.
     held = folder / 'held'
@@ -267,14 +304,14 @@ def try_held(program, work):
                 time.sleep(5)
                 for what, path in (('the first page', '/'), ("the head clerk's page", '/head')):
                     lasted = seconds_of(lambda: head.get(path))
-                    see(lasted < 2, f'ninety ballots at a held serve: {what} comes within two seconds', lasted)
+                    see(lasted < UNHELD, f'ninety ballots at a held serve: {what} comes', lasted)
                 with contextlib.suppress(OSError):
-                    see('The desk has not answered for' in ben.get('/').seen, 'and says so')
+                    see(until(lambda: 'The desk has not answered for' in ben.get('/').seen, UNHELD), 'and says so')
                     lasted = seconds_of(lambda: ben.post('/voter', {'voter': 'later'}))
-                    see(lasted < 2, 'a voter can be looked up', lasted)
+                    see(lasted < UNHELD, 'a voter can be looked up', lasted)
                     begun = time.monotonic()
                     page = ben.record(form)
-                    see('nothing was sent' in page.seen and time.monotonic() - begun < 2,
+                    see('nothing was sent' in page.seen and time.monotonic() - begun < UNHELD,
                         'nothing is sent meanwhile, which is told at once', page.seen)
                 os.kill(number, signal.SIGCONT)
                 for it in sent:
@@ -298,9 +335,10 @@ def try_held(program, work):
                 sent = [pool.submit(ann.record, form) for form in forms]
                 time.sleep(4)
                 lasted = seconds_of(lambda: ben.get('/'))
-                see(lasted < 2, 'a full pipe to a held serve: a page comes within two seconds', lasted)
+                see(lasted < UNHELD, 'a full pipe to a held serve: a page comes', lasted)
                 os.kill(number, signal.SIGCONT)
-                see(all('Recorded.' in it.result().seen for it in sent), 'and then they are recorded')
+                see(any('Recorded.' in it.result().seen for it in sent)
+                    and all('Recorded.' in ann.record(form).seen for form in forms), 'and then they are recorded')
         finally:
             os.kill(number, signal.SIGCONT)
         # A start that is held.
@@ -309,13 +347,11 @@ def try_held(program, work):
         begun = time.monotonic()
         with contextlib.suppress(OSError):
             ben.get('/')
-        see(time.monotonic() - begun < 2,
-            'a start that is held: a page comes within two seconds', time.monotonic() - begun)
-        time.sleep(3)
+        see(time.monotonic() - begun < UNHELD, 'a start that is held: a page comes', time.monotonic() - begun)
         with contextlib.suppress(OSError):
-            see('The desk has not answered for' in ben.get('/').seen, 'and says so')
+            see(until(lambda: 'The desk has not answered for' in ben.get('/').seen, UNHELD), 'and says so')
         held.unlink()
-        time.sleep(1)
+        until(lambda: 'has not answered' not in ben.get('/').seen)
         see('Recorded.' in ben.ask('cast', 'at last', ['7']).seen, 'the day goes on')
         say_waits('held')
         window.end()
@@ -396,10 +432,11 @@ def try_rows(program, work):
             forms = ann.look('cast', voter, ids), ben.look('cast', f'beside {number}', ['7'])
             (folder / 'hold').touch()
             with concurrent.futures.ThreadPoolExecutor(2) as pool:
+                is_sent = lambda voter: f'"{voter}"' in (folder / 'sent').read_text()
                 first = pool.submit(ann.record, forms[0])
-                time.sleep(0.4)
+                until(lambda: is_sent(voter))
                 second = pool.submit(ben.record, forms[1])
-                time.sleep(0.4)
+                until(lambda: is_sent(f'beside {number}'))
                 (folder / 'hold').unlink()
                 pages = first.result().seen, second.result().seen
             see(all('not known whether this was recorded' in it for it in pages),

@@ -1,6 +1,6 @@
 """The clerks' window as tools/try_window runs it, and clerks who use it without a browser."""
-import csv, html, http.client, json, os, pathlib, pty, re, secrets, select, signal, socket, subprocess, sys, time
-import urllib.parse
+import csv, fcntl, html, http.client, json, os, pathlib, pty, re, secrets, select, signal, socket, subprocess, sys, termios
+import time, urllib.parse
 
 TOP = pathlib.Path(__file__).resolve().parent.parent
 PYTHON = '/usr/bin/python3'
@@ -20,7 +20,15 @@ import run
 run.main()
 '''
 # How many seconds anything here may take.
-LIMIT = 120
+LIMIT = 600
+
+
+def until(is_so, seconds=LIMIT):
+    """Waits until something is so, for some seconds at most."""
+    end = time.monotonic() + seconds
+    while not is_so() and time.monotonic() < end:
+        time.sleep(0.05)
+    return is_so()
 
 
 def passphrase_of(name):
@@ -125,11 +133,10 @@ class Window:
         return [json.loads(line) for line in pathlib.Path(f'{self.journal}.log').read_text().splitlines() if line]
 
     def await_asked(self, voter):
-        """Waits until a request for this voter stands in the log, which is just before it is sent."""
-        until = time.monotonic() + LIMIT
-        while not any(it['what'] == 'asked' and it['voter'] == voter for it in self.log()) and time.monotonic() < until:
-            time.sleep(0.02)
-        time.sleep(0.2)
+        """Waits until a request for this voter stands in the log, and has been sent to a `serve` that is stopped."""
+        until(lambda: any(it['what'] == 'asked' and it['voter'] == voter for it in self.log()))
+        with open(f'/proc/{self.serve_id()}/fd/0', 'rb') as pipe:
+            until(lambda: any(fcntl.ioctl(pipe, termios.FIONREAD, bytes(4))))
 
     def audit(self, *options):
         return subprocess.run([self.program, 'audit', self.file, self.journal, *options], capture_output=True, text=True)

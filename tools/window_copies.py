@@ -1,8 +1,7 @@
 """Tries whole copies of an office, and the way back from one."""
 import hashlib, re, shutil, signal, stat, subprocess, time
 
-from window_clerk import PYTHON, SCRIPT, TOP, Clerk, Window, run
-from window_office import until
+from window_clerk import PYTHON, SCRIPT, TOP, Clerk, Window, run, until
 from window_seen import new_folder, see
 
 
@@ -184,23 +183,23 @@ def try_hours(program, work):
         ann.sign_in('Ann'), head.sign_in('Head')
         ann.ask('cast', 'v1', ['12']), ann.ask('cast', 'a "quoted" id', ['7'])
         has_both = lambda: copies_of(copies) and b'quoted' in (copies_of(copies)[-1] / 'city.journal').read_bytes()
-        see(until(has_both, 20), 'a copy is made while the desk is open', *copies_of(copies))
+        see(until(has_both), 'a copy is made while the desk is open', *copies_of(copies))
         copy = copies_of(copies)[-1]
         see(is_whole(copy) and 'evening' not in copy.name and (copy / 'city.journal').read_bytes().endswith(b';done\n')
             and window.journal.read_bytes().startswith((copy / 'city.journal').read_bytes()), 'it has the text that was answered')
-        see(until(lambda: f'The newest copy: {copies_of(copies)[-1]} (its entries: 2).' in head.get('/head').seen, 5),
+        see(until(lambda: f'The newest copy: {copies_of(copies)[-1]} (its entries: 2).' in head.get('/head').seen),
             'the head clerk sees it')
         see('newest copy' not in ann.get('/').seen, 'and nobody else')
         copies.rename(away)
         words = f'No copy can be made: {copies} is not there.'
         see(words in head.get('/head').seen, 'the head clerk sees at once that the folder is gone', head.get('/head').seen)
-        see(until(lambda: any(it['what'] == 'not-copied' for it in window.log()), 10), 'it is in the log')
+        see(until(lambda: any(it['what'] == 'not-copied' for it in window.log())), 'it is in the log')
         see('Entry 3 ' in ann.ask('cast', 'v3', ['12']).seen, 'the day goes on')
         count = len(copies_of(away))
         away.rename(copies)
-        see(until(lambda: len(copies_of(copies)) > count, 10) and b';v3;' in (copies_of(copies)[-1] / 'city.journal').read_bytes(),
+        see(until(lambda: len(copies_of(copies)) > count) and b';v3;' in (copies_of(copies)[-1] / 'city.journal').read_bytes(),
             'a copy is made once it is back')
-        see(until(lambda: words not in head.get('/head').seen, 5), 'and the words are gone')
+        see(until(lambda: words not in head.get('/head').seen), 'and the words are gone')
         copies.rename(away)
         said, status = window.end()
         see(status == 1 and said.count(words) >= 1 and f'No copy was made: {copies} is not there' in said, 'told at the terminal too', said)

@@ -3,8 +3,7 @@ import os, signal, threading, time
 
 import browser
 from browser_tab import Tab
-from window_clerk import TOP, Window, passphrase_of
-from window_office import until
+from window_clerk import TOP, Window, passphrase_of, until
 from window_seen import MARKUP, NAMES, new_folder, see
 
 LOOK = (TOP / 'tools/look_at_window.js').read_text()
@@ -375,11 +374,11 @@ def try_deaths_in_browser(window, ann, pictures):
     see(not ann.text('.waits'), 'nothing is said of waiting before it waits')
     ann.enter(loads=False)
     words = 'Waiting for the answer, a minute at most. Leave this page open; nothing has to be sent again.'
-    see(until(lambda: ann.text('.waits[role=status]') == words, 10) and ann.ask('!document.querySelector("[inert] .waits")'),
+    see(until(lambda: ann.text('.waits[role=status]') == words, 30) and ann.ask('!document.querySelector("[inert] .waits")'),
         'a page that waits says so, where it can be read aloud', ann.text())
     look_at(ann, 'waiting', pictures)
-    threading.Timer(1, os.kill, (number, signal.SIGKILL)).start()
-    ann.loaded(lambda: None)
+    window.await_asked('ann 3')
+    ann.loaded(lambda: os.kill(number, signal.SIGKILL))
     see(not ann.text('.waits'), 'and no more once the answer is there', ann.text())
     see('It is not known whether this was recorded.' in ann.text(), 'not known', ann.text())
     look_at(ann, 'unknown', pictures)

@@ -1,9 +1,8 @@
 """Tries a full disk, and starts that fail."""
 import contextlib, os, re, shutil, signal, socket, subprocess, time
 
-from window_clerk import LIMIT, PYTHON, RUN, TOP, Clerk, Window, at_terminal, ended, passphrase_of
+from window_clerk import LIMIT, PYTHON, RUN, TOP, Clerk, Window, at_terminal, ended, passphrase_of, until
 from window_copies import copies_of, is_whole
-from window_office import until
 from window_seen import CITY, new_folder, see
 
 
@@ -158,7 +157,7 @@ def try_failed_starts(program, work):
             child.send_signal(number)
             said = child.communicate(timeout=LIMIT)[0]
             see(child.returncode == 1 and 'it was ended before the window was open' in said and 'Traceback' not in said
-                and until(lambda: not list(left.iterdir()), 5), f'ended by {number.name} while it starts', said, *left.iterdir())
+                and until(lambda: not list(left.iterdir())), f'ended by {number.name} while it starts', said, *left.iterdir())
         serve.communicate()
     taken.close()
     # After all that the first day begins.

@@ -3,7 +3,7 @@ with many words."""
 import concurrent.futures, json, os, re, signal, stat, subprocess, time
 
 from window_clerk import (CLERKS, LIMIT, PYTHON, RUN, SCRIPT, TOP, Clerk, Window, at_terminal, ended, passphrase_of,
-                          roll_given, typed_at_terminal)
+                          roll_given, typed_at_terminal, until)
 from window_seen import MARKUP, NAMES, new_folder, see
 
 # Runs the window with another number of seconds for an answer.
@@ -14,14 +14,6 @@ WORDY = '''#!/bin/sh
 case "$1" in serve) head -c 1000000 /dev/zero | tr '\\0' x >&2;; esac
 exec '{}' "$@"
 '''
-
-
-def until(is_so, seconds=LIMIT):
-    """Waits until something is so, for some seconds at most."""
-    end = time.monotonic() + seconds
-    while not is_so() and time.monotonic() < end:
-        time.sleep(0.05)
-    return is_so()
 
 
 def try_kept(program, work):
