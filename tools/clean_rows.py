@@ -11,14 +11,11 @@ EDGES = WHITE_SPACE + ''.join(map(chr, [
     *range(0xFFF9, 0xFFFC), *range(0xE0000, 0xE0080)]))
 QUOTES, SPACES = '\'"`´‘’‚‛“”„‟«»‹›', ' \u00a0\u2009\u202f\'’'
 UNSEEN, GROUPED = "characters that can't be seen", 'groups of thousands'
-# What is mended in a vote, if no id has these marks, and in an amount: what it is called, what has it, and what this
-# becomes. The brackets are around the vote, or each id; `c(..)` is R's.
-VOTE_REPAIRS = [('[](){}', 'brackets', re.compile(r'\A(?:(?:c?\(|[\[{])[^\[\](){}]*[\])}](?:,|\Z))+\Z'),
-                 lambda found: re.sub(r'c?\(|[\[\]){}]', '', found[0])),
-                ('|', 'bars', re.compile(r'\|'), ','),
-                (QUOTES, 'quotation marks', re.compile(rf'(?<![^,])[{QUOTES}]+|[{QUOTES}]+(?![^,])'), '')]
-AMOUNT_REPAIRS = [('-–—', 'dash for cents', re.compile(r'(?<=\d[.,])[-–—]{1,2}\Z'), '00'),
-                  (SPACES, GROUPED, re.compile(rf'\A[1-9]\d?\d?([{SPACES}])\d{{3}}(\1\d{{3}})*([.,]\d+)?\Z'),
+# Brackets around a vote, or each id; `c(..)` is R's.
+IN_BRACKETS = re.compile(r'(?:(?:c?\(|[\[{])[^\[\](){}]*[\])}](?:\s*,\s*|\Z))+\Z')
+# What is mended in an amount: what it is called, what has it, and what this becomes.
+AMOUNT_REPAIRS = [('dash for cents', re.compile(r'(?<=\d[.,])[-–—]{1,2}\Z'), '00'),
+                  (GROUPED, re.compile(rf'\A[1-9]\d?\d?([{SPACES}])\d{{3}}(\1\d{{3}})*([.,]\d+)?\Z'),
                    lambda found: found[0].replace(found[1], ''))]
 # Groups of thousands by one mark: the mark, further groups, the mark of decimals. Amounts of three digits or less.
 GROUPS = re.compile(r'[1-9][0-9]{0,2}([.,])[0-9]{3}((?:\1[0-9]{3})*)(?:(?!\1)([.,])[0-9]+)?')
@@ -34,8 +31,6 @@ COLUMNS = {'projects': [{'project_id', 'cost'}], 'votes': [{'voter_id', 'vote'},
 TEMPLATE = {'projects': [['project_id', 'cost', 'name'], ['P1', '12000', 'Trees for the market square'],
                          ['P2', '8500', 'Bicycle stands']],
             'votes': [['voter_id', 'vote'], ['example1', 'P1,P2'], ['example2', 'P2']]}
-EXAMPLES = [*itertools.chain(*TEMPLATE.values())]
-# Writes a row, and answers its text.
 WRITER = csv.writer(types.SimpleNamespace(write=str), delimiter=';')
 
 def seen(text):
@@ -57,8 +52,7 @@ def ids_of(vote):
 
 def records(text, separator=';', spaces=False):
     """The rows of a text. Empty lines are no rows."""
-    lines = io.StringIO(text, newline='')
-    return filter(None, csv.reader(lines, delimiter=separator, skipinitialspace=spaces))
+    return filter(None, csv.reader(io.StringIO(text, newline=''), delimiter=separator, skipinitialspace=spaces))
 
 def row_text(fields):
     """A row as it is written."""
@@ -72,15 +66,6 @@ def label_of(names, column):
 def is_columns(names, section):
     """Whether these are column names of a section."""
     return any(it <= {*names} for it in COLUMNS.get(section, ()))
-
-def mended(text, repairs):
-    """The text as these repairs leave it, and what they are called."""
-    kinds, letters = {}, {*text}
-    for marks, what, form, gives in repairs:
-        new = text if letters.isdisjoint(marks) else form.sub(gives, text)
-        if new != text:
-            text, kinds[what] = ','.join(map(seen, new.split(','))), 1
-    return text, kinds
 
 @dataclasses.dataclass(slots=True, eq=False)
 class Row:
@@ -135,8 +120,8 @@ class Cleaner:
         self.rows, self.given = [*added_rows(rows, given)] if given.projects else rows, given
         self.is_cut = any(it[2] == 'separator' for it in reading)
         self.votes, self.vote = Section(), 0
-        # Votes repeat: what is found of one is kept.
-        self.mended_vote = functools.lru_cache(1 << 16)(self.mended_vote)
+        # Ids repeat: what is found of one is kept.
+        self.mended_piece = functools.lru_cache(1 << 16)(self.mended_piece)
 
     def clean(self):
         parts = self.parts()
@@ -152,20 +137,19 @@ class Cleaner:
                 # A spreadsheet fills the row of names up with empty ones.
                 self.refuse_cut(section.below, max(at for at, it in enumerate(section.names, 1) if it))
             below = [*self.projects.below, *self.votes.below]
-            examples = [row for row in below if [*filter(None, row.fields)] in EXAMPLES]
+            examples = [row for row in below if any([*filter(None, row.fields)] in it for it in TEMPLATE.values())]
             for row in examples if len(examples) < len(below) else ():
                 row.refuse('this row is an example of `--template`: delete it')
             self.clean_amounts()
             self.clean_projects()
             self.clean_votes()
 
-    # Rows that are left out, and characters that can't be seen
     def parts(self):
         """The sections by their names, and what stands above META. Leaves out empty rows and column names again."""
         parts, last = {'': Section()}, ''
         for row in self.rows:
             section, name = parts[last], name_of(row.fields[0])
-            if not any(map(seen, row.fields)):
+            if not name and not any(map(seen, row.fields)):
                 row.leave_out('empty row')
             # Of two tables the headings are those that were added.
             elif name in SECTIONS and name not in parts and (row.log or not self.given.projects):
@@ -176,10 +160,12 @@ class Cleaner:
             elif section.names:
                 row.names = section.names
                 section.below.append(row)
-            elif is_columns([*map(name_of, row.fields)], last):
-                section.head, section.names = row, [*map(name_of, row.fields)]
-                for column in range(len(row.fields)):
+            elif is_columns(names := [*map(name_of, row.fields)], last):
+                section.head, section.names = row, names
+                for column in range(len(names)):
                     row.edit_unseen(column)
+            elif self.given.projects and any(is_columns(names, it) for it in COLUMNS):
+                row.refuse('these are the column names of the other table: `--projects` and `--votes` are exchanged')
             else:
                 section.above.append(row)
         is_sorted = any(name_of(row.fields[0]) in NEEDED for row in parts[''].above)
@@ -204,7 +190,6 @@ class Cleaner:
                 row.refuse('the row has more fields than there are column names: put quotation marks around the field '
                            'that has the separator in it')
 
-    # Amounts
     def clean_amounts(self):
         """Takes groups of thousands out where only one reading is possible, and rounds what is asked for."""
         cost, marks, shows, texts = self.projects.column('cost'), self.given.marks, {}, {}
@@ -212,9 +197,10 @@ class Cleaner:
         places += [(row, cost) for row in self.projects.rows(cost)]
         for row, column in places:
             row.edit_unseen(column)
-            texts[row], kinds = mended(trimmed(row.fields[column]), AMOUNT_REPAIRS)
-            if kinds:
-                row.edit(column, ', '.join(kinds), texts[row])
+            for what, form, gives in AMOUNT_REPAIRS:
+                if form.search(trimmed(row.fields[column])):
+                    row.edit(column, what, form.sub(gives, trimmed(row.fields[column])))
+            texts[row] = trimmed(row.fields[column])
             # The first row that shows a mark to be one of thousands, or of decimals.
             groups, decimals = GROUPS.fullmatch(texts[row]), re.fullmatch('[0-9]+([.,])([0-9]+)', texts[row])
             mark = groups[3] if groups else decimals and decimals[1]
@@ -263,7 +249,6 @@ class Cleaner:
                 amount = exact.quantize(decimal.Decimal('0.01'), 'ROUND_' + way.replace('-', '_').upper())
                 row.edit(column, 'float dust' if is_dust else '--round', str(amount).replace('.', parts[2]))
 
-    # Projects
     def clean_projects(self):
         """Mends the ids of projects, and drops projects of cost 0 where the option asks for it."""
         kept, zero = set(), set()
@@ -277,11 +262,10 @@ class Cleaner:
             if is_dropped:
                 row.leave_out('--drop-zero-cost')
         self.ids, self.zero = kept | zero, zero - kept
-        # A character that an id has separates nothing in votes.
-        self.repairs = [it for it in VOTE_REPAIRS if {*it[0]}.isdisjoint(''.join(self.ids))]
+        # A character that an id has is no mark in votes.
+        self.letters = {*''.join(self.ids)}
         self.floats = {f'{it}.0': it for it in self.ids if it.isdigit() and '0' not in self.ids}
 
-    # Votes
     def clean_votes(self):
         """Mends each vote, and joins or chooses among the rows of a voter."""
         head, names, way = self.votes.head, self.votes.names, self.given.repeated_voters
@@ -293,12 +277,17 @@ class Cleaner:
             names[names.index('project_id')] = 'vote'
         self.voter, self.vote = map(self.votes.column, ('voter_id', 'vote'))
         rows, voters = self.votes.rows(self.voter, self.vote), collections.defaultdict(list)
-        # Where a vote is a list with commas, other signs in votes may say something else.
-        bare = [ids for ids in (ids_of(row.fields[self.vote]) for row in rows) if any(ids) and self.ids.issuperset(ids)]
-        self.has_bare, self.has_lists = bool(bare), any(len({*it}) > 1 for it in bare)
+        # How many ids a vote has at most that needs nothing: beside lists other signs may say something else.
+        self.most, faulty = 0, []
         for row in rows:
             row.edit_unseen(self.voter)
             voters[trimmed(row.fields[self.voter])].append(row)
+            if self.ids.issuperset(ids := {*ids_of(row.fields[self.vote])}):
+                self.most = max(self.most, len(ids))
+            # A line end may part two ballots, and in a row of more fields than names the vote may stand elsewhere.
+            elif not re.search('[\r\n]', seen(row.fields[self.vote])) and not any(map(seen, row.fields[len(names):])):
+                faulty.append(row)
+        for row in faulty:
             after, kinds = self.mended_vote(row.fields[self.vote])
             if kinds:
                 row.edit(self.vote, ', '.join(kinds), after)
@@ -316,22 +305,27 @@ class Cleaner:
                 if len({*ids_of(row.fields[self.vote])}) > 1:
                     row.refuse('the vote names several projects, so the file is not choose-1')
 
-    def mended_vote(self, text):
+    def mended_vote(self, vote):
         """A vote as it is mended, and what had to be mended in it."""
-        pieces = ids_of(text)
-        if self.ids.issuperset(pieces):
-            return text, ()
-        text = ','.join(map(seen, pieces))
-        kinds = {UNSEEN: 1} if text != ','.join(pieces) else {}
-        # Beside commas a bar may be an `or`, and beside votes of one id, or several, without brackets, these may say that
-        # one does not count, unless a program wrote them, as quotation marks show, or R.
-        is_program = not {*text}.isdisjoint('\'"') or text.startswith('c(') or not text.strip('[](){} ')
-        doubted = {'bars': self.has_lists or ',' in text,
-                   'brackets': not is_program and (self.has_lists or self.has_bare and ',' not in text)}
-        text, more = mended(text, [it for it in self.repairs if not doubted.get(it[1])])
-        found = [*filter(None, text.split(','))]
-        pieces = [it if it in self.ids else self.floats.get(it, it) for it in found]
-        return ','.join(pieces), kinds | more | ({'point and zero': 1} if pieces != found else {})
+        text, has_commas = seen(vote), ',' in vote
+        kinds = {UNSEEN} if text != trimmed(vote) else set()
+        # Beside commas a bar may be an `or`, and beside votes of one id, or several, without brackets, these may say
+        # that one does not count, unless a program wrote them, as quotation marks show, or R.
+        is_program = "'" in text or '"' in text or text.startswith('c(') or not text.strip('[](){} ')
+        if (is_program or self.most <= has_commas) and self.letters.isdisjoint('[](){}') and IN_BRACKETS.match(text):
+            text, kinds = re.sub(r'c?\(|[\[\]){}]', '', text), {'brackets', *kinds}
+        if '|' in text and not ('|' in self.letters or has_commas or self.most > 1):
+            text, kinds = text.replace('|', ','), {'bars', *kinds}
+        pieces = [*map(self.mended_piece, text.split(','))]
+        return ','.join(it for it, _ in pieces if it), sorted(kinds.union(*(it for _, it in pieces)))
+
+    def mended_piece(self, piece):
+        """What stands between commas in a vote as it is mended, and what had to be mended in it."""
+        text = seen(piece)
+        bare = seen(text.strip(QUOTES)) if self.letters.isdisjoint(QUOTES) else text
+        after = bare if bare in self.ids else self.floats.get(bare, bare)
+        kinds = {UNSEEN: text != trimmed(piece), 'quotation marks': bare != text, 'point and zero': after != bare}
+        return after, [*filter(kinds.get, kinds)]
 
     def clean_repeated(self, name, rows, voters):
         """Joins the rows of a voter, keeps one of them, or makes different voters of them."""

@@ -199,13 +199,13 @@ def shuffle_votes(rows):
     rows[begin:] = [header, *voters]
 
 
-def program_of(named):
+def program_of(named=None):
     """The path of pb_app: the named one, or beside this tool, or on the PATH."""
     beside = os.path.dirname(os.path.abspath(__file__))
     found = shutil.which(named) if named else shutil.which('pb_app', path=beside) or shutil.which('pb_app')
     if not found:
-        raise Refused(f'there is no program {named}' if named else 'pb_app, which has to count both files, '
-                      'is neither on the PATH nor beside this tool: name it with --program')
+        raise Refused(f'there is no program {named}' if named else
+                      'pb_app is neither on the PATH nor beside this tool: without it nothing is written')
     return found
 
 
