@@ -9,12 +9,10 @@ use pb_core::answer::Answer;
 use pb_faults::RunText;
 use pb_script::{Admission, Notice, RowRefusal, read_roll};
 use pb_streams::{Typing, open_file};
-use pb_witness::rule_counts::RuleCounts;
 use pb_words::refused_words::{RefusedRow, refused_words};
 use pb_words::say_words;
-use std::cell::Cell;
 
-/// Says on standard error why a row is refused, and counts the rows that the rules refuse.
+/// Says on standard error why a row is refused.
 #[derive(Drop)]
 pub(crate) struct RowNotice<'a, R> {
     rt: &'a R,
@@ -25,7 +23,6 @@ pub(crate) struct RowNotice<'a, R> {
     refuses_script: bool,
     /// Who is told of rows that are not of the form, and of answers.
     typing: &'a Typing,
-    by_rule: Cell<RuleCounts>,
 }
 
 impl<'a, R: System> RowNotice<'a, R> {
@@ -41,13 +38,7 @@ impl<'a, R: System> RowNotice<'a, R> {
             admits: run.asked.task.admits(),
             refuses_script,
             typing: run.typing,
-            by_rule: Cell::new(RuleCounts::new()),
         }
-    }
-
-    /// How many rows each rule has refused.
-    pub(crate) fn by_rule(&self) -> RuleCounts {
-        self.by_rule.get()
     }
 }
 
@@ -57,7 +48,6 @@ impl<R: System> Notice for RowNotice<'_, R> {
         if why == RowRefusal::Bad {
             return self.typing.hear_bad_row(row);
         }
-        self.by_rule.set(with_one_more(self.by_rule.get(), why));
         let refused = RefusedRow {
             row,
             why,
@@ -73,20 +63,6 @@ impl<R: System> Notice for RowNotice<'_, R> {
     fn answered(&self, answer: Answer) {
         self.typing.hear_answer(self.rt, answer);
     }
-}
-
-/// The counts once a row is refused for this reason. A row that does not have the form of one breaks none of
-/// the rules.
-fn with_one_more(mut counts: RuleCounts, why: RowRefusal) -> RuleCounts {
-    match why {
-        RowRefusal::Bad => {}
-        RowRefusal::UnknownId => counts.unknown_id = counts.unknown_id.saturating_add(1),
-        RowRefusal::NotOnRoll => counts.not_on_roll = counts.not_on_roll.saturating_add(1),
-        RowRefusal::TooFew => counts.too_few = counts.too_few.saturating_add(1),
-        RowRefusal::FromFile => counts.from_file = counts.from_file.saturating_add(1),
-        RowRefusal::NoShut => counts.no_shut = counts.no_shut.saturating_add(1),
-    }
-    counts
 }
 
 /// The rules that the command line gives; a voters' roll is read.

@@ -15,12 +15,13 @@ use pb_durable::{Belonging, Device, DurableDesk, FileChange, JournalFile, Opened
 use pb_faults::RunText;
 use pb_read::read_pb_watched;
 use pb_rows::read_number;
-use pb_script::{Admission, ROOM, RequestRows};
+use pb_script::{Admission, ROOM, RequestRows, RowRefusal};
 use pb_serving::run_serve::{ServedRows, run_serve};
-use pb_serving::{AtHand, Paced, Session};
+use pb_serving::{AtHand, Paced, RefusedRows, Session};
 use pb_streams::{
     Digested, RunRefusal, TornFile, TypedReader, behind_link, ended, open_file, unopened,
 };
+use pb_witness::rule_counts::RuleCounts;
 use pb_witness::witness::Witness;
 use pb_words::refused_words::like_a_place_words;
 use pb_words::say_words;
@@ -72,14 +73,25 @@ pub(crate) fn serve<'a, R: System, W: Write>(
         notice: RowNotice::new(run),
     };
     let served = serve_journal(&serving, election, writer);
-    notes.by_rule = serving.notice.by_rule();
     drop(serving);
     drop(own);
     drop(admission);
     let ServedRows { refused, counts } = served?;
-    notes.refused = refused;
+    notes.refused = refused.all;
+    notes.by_rule = by_rule(&refused);
     notes.entries = counts;
     Ok(())
+}
+
+/// How many rows each rule has refused; one that does not have the form of a row breaks none of them.
+fn by_rule(refused: &RefusedRows) -> RuleCounts {
+    RuleCounts {
+        unknown_id: refused.of(RowRefusal::UnknownId),
+        not_on_roll: refused.of(RowRefusal::NotOnRoll),
+        too_few: refused.of(RowRefusal::TooFew),
+        from_file: refused.of(RowRefusal::FromFile),
+        no_shut: refused.of(RowRefusal::NoShut),
+    }
 }
 
 /// The election of the .pb file, and which requests are admitted on its desk.

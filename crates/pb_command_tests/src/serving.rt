@@ -253,7 +253,7 @@ fn served_to<R: Read + Drop, P: RowsAtHand, N: Notice, W: Write>(
         notice,
     };
     let ended = run_serve(alloc, &mut desk, &mut rows, &session, writer);
-    let ended = ended.map(|served| served.refused);
+    let ended = ended.map(|served| served.refused.all);
     drop(rows);
     drop(admission);
     drop(desk);

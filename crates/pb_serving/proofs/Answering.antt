@@ -1,7 +1,7 @@
 -- The answers to rows of the input, batch by batch.
-use Rattle.std.proofs.Common.{◌≡◌, ◌∙◌, ℕ, suc, ◌+◌, List, [], ◌∷◌, ◌++◌, length, map, Option, Some, None, IfSome, IsSome, Result, Ok, Err, refl, sym, ap, subst, arith, append_assoc, length-append}
+use Rattle.std.proofs.Common.{◌≡◌, ◌∙◌, ℕ, suc, ◌+◌, ◌<◌, ◌^◌, List, [], ◌∷◌, ◌++◌, length, map, Option, Some, None, IfSome, IsSome, Result, Ok, Err, refl, sym, ap, subst, arith, append_assoc, length-append}
 use Rattle.std.specs.List.{AllZip, filter_map}
-use Rattle.std.specs.Result.{result_ok}
+use Rattle.std.specs.Result.{result_err, result_ok}
 use Rattle.std.specs.Io.KnownBytes.{Appends}
 use Rattle.std.proofs.KnownBytes.{Appends-nil, Appends-trans}
 use Rattle.std.proofs.lemmas.List.{append-nil, append_cancel_left}
@@ -30,6 +30,8 @@ use Rattle.pb_script.specs.declared.script_fault.ScriptFault.TheVariants.{ReadFa
 use Rattle.pb_serving.specs.Answered.{answers_from, Answers, Halts, IsBehind}
 use Rattle.pb_serving.specs.Inner.Batch.{Becomes}
 use Rattle.pb_serving.specs.Inner.Batch.{IsRowAsking}
+use Rattle.pb_serving.specs.Inner.Refused.{refusals_of, with_refusal}
+use Rattle.pb_serving.proofs.Refusals.{refusals-entries, refusals-one_more}
 
 abbrev pub Outcome : Type 0
 Outcome = Result EntryView RowRefusal
@@ -122,7 +124,7 @@ gone_mid (Some all) None rows row gone = absurd gone
 gone_mid (Some all) (Some rest) rows row gone = (Some (row ∷ rest), gone ∙ append_assoc rows (row ∷ []) rest, refl)
 
 -- how far a run has come: these rows were read and answered
-pub record Progress (ad : Admission) (all left : Option (List Fields)) (old now : List EntryView) (before after : Option (List ℕ)) (row bad : ℕ) : Type 0 where
+pub record Progress (ad : Admission) (all left : Option (List Fields)) (old now : List EntryView) (before after : Option (List ℕ)) (row bad : ℕ) (whys : List ℕ) : Type 0 where
   pub gone : List Fields
   pub became : List Outcome
   pub have_gone : HaveGone all gone left
@@ -131,12 +133,13 @@ pub record Progress (ad : Admission) (all left : Option (List Fields)) (old now 
   pub said : Appends before after (answers_from (length old + 1) 1 became)
   pub row_is : length became ≡ row
   pub bad_is : bad + length now ≡ row + length old
+  pub whys_are : whys ≡ refusals_of became
 
 none_gone : (all : Option (List Fields)) → HaveGone all [] all
 none_gone None = tt
 none_gone (Some rows) = refl
 
-pub started : (ad : Admission) (all : Option (List Fields)) (old : List EntryView) (before : Option (List ℕ)) → Progress ad all all old old before before 0 0
+pub started : (ad : Admission) (all : Option (List Fields)) (old : List EntryView) (before : Option (List ℕ)) → Progress ad all all old old before before 0 0 (refusals_of [])
 started ad all old before = record {
   gone = [];
   became = [];
@@ -146,13 +149,14 @@ started ad all old before = record {
   said = Appends-nil before;
   row_is = refl;
   bad_is = refl;
+  whys_are = refl;
 }
 
 -- a batch more
-module _ (ad : Admission) (all left mid : Option (List Fields)) (old journal now : List EntryView) (before after later : Option (List ℕ)) (row bad : ℕ) where
-  pub batch_more : (rows : List Fields) (asks : List ClerkRequest) (answers : List Answer) → Progress ad all left old journal before after row bad → HaveGone left rows mid → AllZip (IsRowAsking ad) rows asks
+module _ (ad : Admission) (all left mid : Option (List Fields)) (old journal now : List EntryView) (before after later : Option (List ℕ)) (row bad : ℕ) (whys : List ℕ) where
+  pub batch_more : (rows : List Fields) (asks : List ClerkRequest) (answers : List Answer) → Progress ad all left old journal before after row bad whys → HaveGone left rows mid → AllZip (IsRowAsking ad) rows asks
       → length answers ≡ length asks → now ≡ journal ++ entries_of asks answers → Appends after later (text_of_rows (rows_from (length journal + 1) (entries_of asks answers)))
-      → Progress ad all mid old now before later (row + length asks) bad
+      → Progress ad all mid old now before later (row + length asks) bad whys
   batch_more rows asks answers p goes each same grown said =
       let entries = entries_of asks answers in
       let size = ap length p.journal ∙ length-append old (added p.became) in
@@ -174,6 +178,7 @@ module _ (ad : Admission) (all left mid : Option (List Fields)) (old journal now
         said = subst (Appends before later) text (Appends-trans before after later _ _ p.said said);
         row_is = length-append p.became (map Ok entries) ∙ omega (arith, known, count, sizes entries);
         bad_is = omega (arith, sums, grows, count);
+        whys_are = p.whys_are ∙ sym (refusals-entries p.became entries);
       }
     where
       sizes : (l : List EntryView) → (let done : List Outcome = map Ok l in length done ≡ length l)
@@ -181,9 +186,10 @@ module _ (ad : Admission) (all left mid : Option (List Fields)) (old journal now
       sizes (x ∷ l) = ap suc (sizes l)
 
   -- a row that is refused
-  pub bad_more : (fields : Fields) (why : RowRefusal) → Progress ad all left old journal before after row bad → HaveGone left (fields ∷ []) mid → Judges ad most_clerks fields (Err why)
-      → Appends after later (line (told (Script (fault_of_row why (row + 1)))).1) → Progress ad all mid old journal before later (row + 1) (bad + 1)
-  bad_more fields why p goes none said =
+  pub bad_more : (fields : Fields) (why : RowRefusal) → Progress ad all left old journal before after row bad whys → HaveGone left (fields ∷ []) mid → Judges ad most_clerks fields (Err why)
+      → Appends after later (line (told (Script (fault_of_row why (row + 1)))).1) → row + 1 < 2 ^ 64
+      → Progress ad all mid old journal before later (row + 1) (bad + 1) (with_refusal whys why)
+  bad_more fields why p goes none said fits =
       let known = p.row_is in
       let sums = p.bad_is in
       let here : 1 + length p.became ≡ row + 1 = omega (arith, known) in
@@ -200,14 +206,17 @@ module _ (ad : Admission) (all left mid : Option (List Fields)) (old journal now
         said = subst (Appends before later) text (Appends-trans before after later _ _ p.said said);
         row_is = length-append p.became (Err why ∷ []) ∙ omega (arith, known);
         bad_is = omega (arith, sums);
+        whys_are = ap (λ (l : List ℕ). with_refusal l why) p.whys_are ∙ refusals-one_more p.became why (omega (arith, known, fits));
       }
 
 -- the same, by other names
-pub moved : (ad : Admission) (all left : Option (List Fields)) (old now : List EntryView) (before after later : Option (List ℕ)) (row bad row_now bad_now : ℕ) → later ≡ after → row_now ≡ row → bad_now ≡ bad
-    → Progress ad all left old now before after row bad → Progress ad all left old now before later row_now bad_now
-moved ad all left old now before after later row bad row_now bad_now writer rows bads p =
-    subst (λ (w : Option (List ℕ)). Progress ad all left old now before w row_now bad_now) (sym writer)
-    (subst (λ (r : ℕ). Progress ad all left old now before after r bad_now) (sym rows) (subst (λ (b : ℕ). Progress ad all left old now before after row b) (sym bads) p))
+pub moved : (ad : Admission) (all left : Option (List Fields)) (old now : List EntryView) (before after later : Option (List ℕ)) (row bad row_now bad_now : ℕ) (whys whys_now : List ℕ) → later ≡ after → row_now ≡ row → bad_now ≡ bad → whys_now ≡ whys
+    → Progress ad all left old now before after row bad whys → Progress ad all left old now before later row_now bad_now whys_now
+moved ad all left old now before after later row bad row_now bad_now whys whys_now writer rows bads reasons p =
+    subst (λ (w : Option (List ℕ)). Progress ad all left old now before w row_now bad_now whys_now) (sym writer)
+    (subst (λ (r : ℕ). Progress ad all left old now before after r bad_now whys_now) (sym rows)
+    (subst (λ (b : ℕ). Progress ad all left old now before after row b whys_now) (sym bads)
+    (subst (λ (l : List ℕ). Progress ad all left old now before after row bad l) (sym reasons) p)))
 
 all_gone : (all left : Option (List Fields)) (gone : List Fields) → HaveGone all gone left → NoneLeft left → IfSome all (λ rows. rows ≡ gone)
 all_gone None left gone have none = tt
@@ -223,22 +232,24 @@ gives start mid end m n first second fits =
     omega (arith, here, there)
 
 -- all rows have their answers
-abbrev pub HasAnswered : Admission → RowsView → RowsView → List EntryView → List EntryView → (List ℕ → Type 0) → ℕ → Type 0
-HasAnswered ad before after old now IsSaid bad = (records : List Fields) × (text : List ℕ) × IfSome before.left (λ left. left ≡ records)
-    × HasGiven before after (length records) × Answers ad records old now text × IsSaid text × (bad + length now ≡ length records + length old)
+abbrev pub HasAnswered : Admission → RowsView → RowsView → List EntryView → List EntryView → (List ℕ → Type 0) → ℕ → List ℕ → Type 0
+HasAnswered ad before after old now IsSaid bad whys = (records : List Fields) × (became : List Outcome) × (text : List ℕ) × IfSome before.left (λ left. left ≡ records)
+    × HasGiven before after (length records) × Answers ad records became old now text × IsSaid text × (bad + length now ≡ length records + length old) × (whys ≡ refusals_of became)
 
-pub done : (ad : Admission) (start end : RowsView) (left : Option (List Fields)) (old now : List EntryView) (before after : Option (List ℕ)) (row bad : ℕ) → Progress ad start.left left old now before after row bad → NoneLeft left
-    → HasGiven start end row → HasAnswered ad start end old now (Appends before after) bad
-done ad start end left old now before after row bad p none given =
+pub done : (ad : Admission) (start end : RowsView) (left : Option (List Fields)) (old now : List EntryView) (before after : Option (List ℕ)) (row bad : ℕ) (whys : List ℕ) → Progress ad start.left left old now before after row bad whys → NoneLeft left
+    → HasGiven start end row → HasAnswered ad start end old now (Appends before after) bad whys
+done ad start end left old now before after row bad whys p none given =
     let sums = p.bad_is in
     let size : length p.gone ≡ row = zip-length (Becomes ad) p.gone p.became p.each ∙ p.row_is in (
       p.gone,
+      p.became,
       answers_from (length old + 1) 1 p.became,
       all_gone start.left left p.gone p.have_gone none,
       subst (λ (n : ℕ). HasGiven start end n) (sym size) given,
-      (p.became, p.each, p.journal, refl),
+      (p.each, p.journal, refl),
       p.said,
       omega (arith, sums, size),
+      p.whys_are,
     )
 
 rest_of : Option (List Fields) → List Fields
@@ -252,8 +263,8 @@ rows_are (Some rows) None gone served unserved have = absurd have
 rows_are (Some rows) (Some rest) gone served unserved have = have ∙ ap (λ (l : List Fields). l ++ rest) (sym (append_assoc gone served unserved))
 
 -- the text of the answers so far
-abbrev pub text_so_far : (ad : Admission) (all left : Option (List Fields)) (old now : List EntryView) (before after : Option (List ℕ)) (row bad : ℕ) → Progress ad all left old now before after row bad → List ℕ
-text_so_far ad all left old now before after row bad p = answers_from (length old + 1) 1 p.became
+abbrev pub text_so_far : (ad : Admission) (all left : Option (List Fields)) (old now : List EntryView) (before after : Option (List ℕ)) (row bad : ℕ) (whys : List ℕ) → Progress ad all left old now before after row bad whys → List ℕ
+text_so_far ad all left old now before after row bad whys p = answers_from (length old + 1) 1 p.became
 
 -- what was not stopped has not failed
 pub not_stopped : (rows : RowsView) → rows.fault ≡ None → ¬ HasFailed rows
@@ -264,24 +275,25 @@ abbrev pub IsTold : AppFault → Type 0
 IsTold fault = (i : ℕ) × (fault ≡ Script (ReadFailed i))
 
 -- some rows were read, and not answered: some of them are served
-pub halts : (ad : Admission) (fault : AppFault) (start end : RowsView) (left after : Option (List Fields)) (old now last : List EntryView) (w0 w1 : Option (List ℕ)) (row bad : ℕ) (served unserved : List Fields) (became : List Outcome)
-    → (p : Progress ad start.left left old now w0 w1 row bad) → HaveGone left (served ++ unserved) after → AllZip (Becomes ad) served became → last ≡ now ++ added became
+pub halts : (ad : Admission) (fault : AppFault) (start end : RowsView) (left after : Option (List Fields)) (old now last : List EntryView) (w0 w1 : Option (List ℕ)) (row bad : ℕ) (whys : List ℕ) (served unserved : List Fields) (became : List Outcome)
+    → (p : Progress ad start.left left old now w0 w1 row bad whys) → HaveGone left (served ++ unserved) after → AllZip (Becomes ad) served became → last ≡ now ++ added became
     → HasGiven start end (row + (length served + length unserved)) → ((answered : ℕ) → answered ≡ row → IsBehind fault answered (length served) (length unserved))
     → (¬ HasFailed start → HasFailed end → served ++ unserved ≡ [] → IsTold fault)
-    → Halts ad fault start end old now last (text_so_far ad start.left left old now w0 w1 row bad p)
-halts ad fault start end left after old now last w0 w1 row bad served unserved became p gone each grown given behind told_so =
+    → Halts ad fault start end old now last (text_so_far ad start.left left old now w0 w1 row bad whys p)
+halts ad fault start end left after old now last w0 w1 row bad whys served unserved became p gone each grown given behind told_so =
     let size : length p.gone ≡ row = zip-length (Becomes ad) p.gone p.became p.each ∙ p.row_is in
     let sizes : row + (length served + length unserved) ≡ length (p.gone ++ served ++ unserved) = omega (arith, size, length-append (p.gone ++ served) unserved, length-append p.gone served) in (
       p.gone,
       served,
       unserved,
       rest_of after,
+      p.became,
+      became,
       answers_from (length old + 1 + length (added p.became)) (1 + length p.became) became,
       rows_are start.left after p.gone served unserved (gone-append start.left left after p.gone (served ++ unserved) p.have_gone gone),
       subst (λ (n : ℕ). HasGiven start end n) sizes given,
-      (p.became, p.each, p.journal, refl),
+      (p.each, p.journal, refl),
       (
-        p.became ++ became,
         zip-append (Becomes ad) p.gone served p.became became p.each each,
         grown ∙ ap (λ (l : List EntryView). l ++ added became) p.journal ∙ append_assoc old (added p.became) (added became) ∙ ap (λ (l : List EntryView). old ++ l) (sym (filter_map-append result_ok p.became became)),
         sym (answers-append (length old + 1) 1 p.became became),
@@ -295,19 +307,19 @@ nothing_gone None = tt
 nothing_gone (Some rows) = refl
 
 -- no more rows were read
-pub halts_here : (ad : Admission) (fault : AppFault) (start end : RowsView) (left : Option (List Fields)) (old now : List EntryView) (w0 w1 : Option (List ℕ)) (row bad : ℕ)
-    → (p : Progress ad start.left left old now w0 w1 row bad) → HasGiven start end row → ((answered : ℕ) → answered ≡ row → IsBehind fault answered 0 0)
+pub halts_here : (ad : Admission) (fault : AppFault) (start end : RowsView) (left : Option (List Fields)) (old now : List EntryView) (w0 w1 : Option (List ℕ)) (row bad : ℕ) (whys : List ℕ)
+    → (p : Progress ad start.left left old now w0 w1 row bad whys) → HasGiven start end row → ((answered : ℕ) → answered ≡ row → IsBehind fault answered 0 0)
     → (¬ HasFailed start → HasFailed end → IsTold fault)
-    → Halts ad fault start end old now now (text_so_far ad start.left left old now w0 w1 row bad p)
-halts_here ad fault start end left old now w0 w1 row bad p given behind told_so =
+    → Halts ad fault start end old now now (text_so_far ad start.left left old now w0 w1 row bad whys p)
+halts_here ad fault start end left old now w0 w1 row bad whys p given behind told_so =
     let same : row ≡ row + (0 + 0) = omega arith in
-    halts ad fault start end left left old now now w0 w1 row bad [] [] [] p (nothing_gone left) tt (sym (append-nil now)) (subst (λ (n : ℕ). HasGiven start end n) same given) behind (λ sound failed none. told_so sound failed)
+    halts ad fault start end left left old now now w0 w1 row bad whys [] [] [] p (nothing_gone left) tt (sym (append-nil now)) (subst (λ (n : ℕ). HasGiven start end n) same given) behind (λ sound failed none. told_so sound failed)
 
 -- nothing was read
 pub halts_unbegun : (ad : Admission) (fault : AppFault) (start : RowsView) (old : List EntryView) → IsBehind fault 0 0 0 → Halts ad fault start start old old old []
 unfolding started
 halts_unbegun ad fault start old behind =
-    halts_here ad fault start start start.left old old None None 0 0 (started ad start.left old None) (λ fits. omega arith) (λ answered is. subst (λ (n : ℕ). IsBehind fault n 0 0) (sym is) behind)
+    halts_here ad fault start start start.left old old None None 0 0 (refusals_of []) (started ad start.left old None) (λ fits. omega arith) (λ answered is. subst (λ (n : ℕ). IsBehind fault n 0 0) (sym is) behind)
     (λ sound failed. absurd (sound failed))
 
 with_nil : (left : Option (List Fields)) (records : List Fields) → IfSome left (λ rows. rows ≡ records) → IfSome left (λ rows. rows ≡ records ++ [] ++ [] ++ [])
@@ -315,19 +327,23 @@ with_nil None records are = tt
 with_nil (Some rows) records are = are ∙ sym (append-nil (records ++ [] ++ []) ∙ append-nil (records ++ []) ∙ append-nil records)
 
 -- all rows were read and answered
-pub halts_behind_all : (ad : Admission) (fault : AppFault) (start end : RowsView) (old now : List EntryView) (text : List ℕ) (records : List Fields) → IfSome start.left (λ left. left ≡ records)
-    → HasGiven start end (length records) → Answers ad records old now text → ((answered : ℕ) → IsBehind fault answered 0 0) → ¬ HasFailed end → Halts ad fault start end old now now text
-halts_behind_all ad fault start end old now text records are given answers behind sound =
-    let all : records ≡ records ++ [] = sym (append-nil records) in (
+pub halts_behind_all : (ad : Admission) (fault : AppFault) (start end : RowsView) (old now : List EntryView) (text : List ℕ) (records : List Fields) (became : List Outcome) → IfSome start.left (λ left. left ≡ records)
+    → HasGiven start end (length records) → Answers ad records became old now text → ((answered : ℕ) → IsBehind fault answered 0 0) → ¬ HasFailed end → Halts ad fault start end old now now text
+halts_behind_all ad fault start end old now text records became are given answers behind sound =
+    let all : records ≡ records ++ [] = sym (append-nil records) in
+    let answers_all : Answers ad (records ++ []) (became ++ []) old now (text ++ []) = subst (λ (t : List ℕ). Answers ad (records ++ []) (became ++ []) old now t) (sym (append-nil text))
+    (subst (λ (b : List Outcome). Answers ad (records ++ []) b old now text) (sym (append-nil became)) (subst (λ (r : List Fields). Answers ad r became old now text) all answers)) in (
       records,
       [],
       [],
+      [],
+      became,
       [],
       [],
       with_nil start.left records are,
       subst (λ (r : List Fields). HasGiven start end (length r)) (all ∙ sym (append-nil (records ++ []))) given,
       answers,
-      (answers.0, subst (λ (r : List Fields). AllZip (Becomes ad) r answers.0) all answers.1, answers.2, append-nil text ∙ answers.3),
+      answers_all,
       behind (length records),
       λ before failed empty. absurd (sound failed),
     )

@@ -4,5 +4,6 @@ mod Apart
 mod Batches
 mod Causes
 mod Handing
+mod Refusals
 mod Standings
 mod Unanswered

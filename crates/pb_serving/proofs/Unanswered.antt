@@ -80,12 +80,12 @@ part ad (row ∷ rows) (a ∷ asks) (x ∷ answers) each = let p = part ad rows 
 }
 
 -- a batch was not answered
-module _ (ad : Admission) (fault : AppFault) (start end : RowsView) (left after : Option (List Fields)) (old now last : List EntryView) (w0 w1 : Option (List ℕ)) (row bad : ℕ)
-    (rows : List Fields) (asks : List ClerkRequest) (answers : List Answer) (why : BatchEnd) (p : Progress ad start.left left old now w0 w1 row bad) (each : AllZip (IsRowAsking ad) rows asks)
+module _ (ad : Admission) (fault : AppFault) (start end : RowsView) (left after : Option (List Fields)) (old now last : List EntryView) (w0 w1 : Option (List ℕ)) (row bad : ℕ) (counts : List ℕ)
+    (rows : List Fields) (asks : List ClerkRequest) (answers : List Answer) (why : BatchEnd) (p : Progress ad start.left left old now w0 w1 row bad counts) (each : AllZip (IsRowAsking ad) rows asks)
     (ends : EndsBy ad why left rows after) (few : length asks ≤ 4096) (some : 0 < length asks) (grown : last ≡ now ++ entries_of asks answers) (full : fault ≡ Serving Output → length answers ≡ length asks)
     (given : HasGiven start end (row + (length asks + refused why)))
     (behind : (answered served unserved : ℕ) → served + unserved ≤ 4097 → (fault ≡ Serving Output → unserved ≡ 0) → IsBehind fault answered served unserved) where
-  pub unanswered : Halts ad fault start end old now last (text_so_far ad start.left left old now w0 w1 row bad p)
+  pub unanswered : Halts ad fault start end old now last (text_so_far ad start.left left old now w0 w1 row bad counts p)
   unanswered =
       let first = part ad rows asks answers each in
       let b = behind_of ad why left after rows ends in
@@ -101,7 +101,7 @@ module _ (ad : Admission) (fault : AppFault) (start end : RowsView) (left after 
             let served = first.served ++ b.behind in
             let long = length-append first.served b.behind in
             let here : length rows ≡ length first.served = ap length all in
-            halts ad fault start end left b.after old now last w0 w1 row bad served [] (map Ok entries ++ b.whys) p
+            halts ad fault start end left b.after old now last w0 w1 row bad counts served [] (map Ok entries ++ b.whys) p
             (subst (λ (l : List Fields). HaveGone left l b.after) (ap (λ (l : List Fields). l ++ b.behind) all ∙ sym (append-nil served)) b.gone)
             (zip-append (Becomes ad) first.served b.behind (map Ok entries) b.whys first.each b.each)
             (grown ∙ ap (λ (l : List EntryView). now ++ l) (sym (filter_map-append result_ok (map Ok entries) b.whys ∙ ap (λ (l : List EntryView). added (map Ok entries) ++ l) b.none ∙ append-nil (added (map Ok entries)) ∙ added-some entries)))
@@ -111,7 +111,7 @@ module _ (ad : Admission) (fault : AppFault) (start end : RowsView) (left after 
         | inr other ↦
             let unserved = first.unserved ++ b.behind in
             let long = length-append first.unserved b.behind in
-            halts ad fault start end left b.after old now last w0 w1 row bad first.served unserved (map Ok entries) p
+            halts ad fault start end left b.after old now last w0 w1 row bad counts first.served unserved (map Ok entries) p
             (subst (λ (l : List Fields). HaveGone left l b.after) (ap (λ (l : List Fields). l ++ b.behind) first.is ∙ append_assoc first.served first.unserved b.behind) b.gone)
             first.each
             (grown ∙ ap (λ (l : List EntryView). now ++ l) (sym (added-some entries)))

@@ -35,11 +35,10 @@ answers_from entry row (Err why ∷ more) =
     line (told (Script (fault_of_row why row))).1 ++ answers_from entry (suc row) more
 answers_from entry row (Ok x ∷ more) = text_of_row (row_of entry x) ++ answers_from (suc entry) (suc row) more
 
--- these rows of the input were answered by this text, and their entries came to the journal: each row is
--- admitted, and asks what its entry has; or it is refused for this
-abbrev pub Answers : Admission → List Fields → List EntryView → List EntryView → List ℕ → Type 0
-Answers a rows before after text = (became : List (Result EntryView RowRefusal))
-    × AllZip (λ row x. Judges a most_clerks row
+-- these rows of the input became this, were answered by this text, and their entries came to the journal: each
+-- row is admitted, and asks what its entry has; or it is refused for this
+abbrev pub Answers : Admission → List Fields → List (Result EntryView RowRefusal) → List EntryView → List EntryView → List ℕ → Type 0
+Answers a rows became before after text = AllZip (λ row x. Judges a most_clerks row
     (result_map_both (λ (x : EntryView). record { clerk = x.clerk; request = x.request }) (λ why. why) x)) rows became
     × (after ≡ before ++ filter_map result_ok became) × (text ≡ answers_from (length before + 1) 1 became)
 
@@ -63,10 +62,11 @@ IsBehind fault answered served unserved = (served + unserved ≤ 4097) × ((faul
 -- nothing in it. All these were read, and no others. That the input failed is told, unless a row that was
 -- read before has no answer.
 abbrev pub Halts : Admission → AppFault → RowsView → RowsView → (old kept now : List EntryView) → List ℕ → Type 0
-Halts a fault before after old kept now text = (answered served unserved rest : List Fields) × (unsaid : List ℕ)
+Halts a fault before after old kept now text = (answered served unserved rest : List Fields)
+    × (became more : List (Result EntryView RowRefusal)) × (unsaid : List ℕ)
     × IfSome before.left (λ rows. rows ≡ answered ++ served ++ unserved ++ rest)
     × HasGiven before after (length (answered ++ served ++ unserved))
-    × Answers a answered old kept text × Answers a (answered ++ served) old now (text ++ unsaid)
+    × Answers a answered became old kept text × Answers a (answered ++ served) (became ++ more) old now (text ++ unsaid)
     × IsBehind fault (length answered) (length served) (length unserved)
     × (¬ HasFailed before → HasFailed after → served ++ unserved ≡ []
     → (i : ℕ) × (fault ≡ Script (ReadFailed i)))

@@ -3,6 +3,7 @@
 pub mod Admitted
 pub mod Batch
 pub mod Durable
+pub mod Refused
 pub mod Rows
 pub mod Room
 pub mod AtHand

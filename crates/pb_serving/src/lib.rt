@@ -7,10 +7,12 @@
 mod batch;
 mod heading;
 mod paced;
+mod refused_rows;
 pub mod rows_at_hand;
 pub mod run_serve;
 mod session;
 
 pub use paced::{AtHand, Paced};
+pub use refused_rows::RefusedRows;
 pub use rows_at_hand::{Always, RowsAtHand};
 pub use session::Session;

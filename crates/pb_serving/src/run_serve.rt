@@ -1,6 +1,10 @@
 //! The command `serve`, once its journal is open.
 
-ghost use Rattle.std.specs.Prelude.{◌≡◌, ◌≢◌, ◌⊎◌, ◌+◌, ◌-◌, ◌^◌, ◌<◌, ◌≤◌, ◌++◌, ℕ, List, [], All, None};
+ghost use denote.Enum.Declared.{tag_of};
+ghost use Rattle.std.specs.Prelude.{◌≡◌, ◌≢◌, ◌⊎◌, ◌+◌, ◌-◌, ◌^◌, ◌<◌, ◌≤◌, ◌++◌, ◌==◌, ℕ, List, [], All, None};
+ghost use Rattle.std.specs.Prelude.{filter_map, map, Result};
+ghost use Rattle.std.specs.List.{count_by, range_with_len};
+ghost use Rattle.std.specs.Result.{result_err};
 ghost use Rattle.std.specs.Prelude.{drop, length, min, true, IfErr, IfOk, IfSome, IsErrOf, OnOk};
 ghost use Rattle.std.specs.Io.KnownBytes.{Appends};
 ghost use Rattle.pb_core.specs.Request.{EntryView};
@@ -15,6 +19,8 @@ ghost use Rattle.pb_rows.specs.Reading.{Fields};
 ghost use Rattle.pb_rows.specs.Writing.{text_of_rows};
 ghost use Rattle.pb_script.specs.Admission.{broken_rule};
 ghost use Rattle.pb_script.specs.EntryCounts.{counts_of};
+ghost use Rattle.pb_script.specs.contracts.admission.RowRefusal.{the_type};
+ghost use Rattle.pb_script.specs.declared.admission.RowRefusal.{RowRefusal};
 ghost use Rattle.pb_script.specs.declared.script_fault.ScriptFault.TheVariants.{ReadFailed};
 ghost use Rattle.pb_script.specs.RowsView.{HasFailed, HasGiven};
 ghost use Rattle.pb_script.specs.ScriptReading.{fault_of_row};
@@ -23,9 +29,11 @@ ghost use Rattle.pb_serving.specs.Answered.{heading, Answers, Halts, IsBehind, S
 ghost use Rattle.pb_serving.specs.Inner.Room.{HasNoRoom};
 ghost use Rattle.pb_serving.specs.Inner.Admitted.{AddsAdmitted};
 ghost use Rattle.pb_serving.specs.Inner.Durable.{of_durable};
+ghost use Rattle.pb_serving.specs.Inner.Refused.{refusals_of};
 
 use crate::batch::{BatchEnd, next_batch};
 use crate::heading::heading;
+use crate::refused_rows::RefusedRows;
 use crate::rows_at_hand::RowsAtHand;
 use crate::session::Session;
 use pb_core::answer::Answer;
@@ -42,8 +50,8 @@ const MOST_BATCHES: u64 = 1 << 50;
 /// What a run has served.
 #[derive(Clone, Copy)]
 pub struct ServedRows {
-    /// How many rows were refused.
-    pub refused: u64,
+    /// The rows that were refused.
+    pub refused: RefusedRows,
     /// The entries that came to the journal.
     pub counts: EntryCounts,
 }
@@ -53,7 +61,7 @@ pub struct ServedRows {
 /// is refused, which changes nothing. What the session's `pace` says is at hand is served together, up to
 /// 4096 rows, and each answer is flushed before the next row is waited for. The session's `notice` is told
 /// which rows are refused, and the answer to each other row once it is written. At the end of the input the
-/// journal is closed. Answers how many rows were refused, and what came of the others.
+/// journal is closed. Answers how many rows were refused for which reason, and what came of the others.
 ///
 /// It ends early where the input or the writer fails, where the journal is not written, or out of memory.
 /// What was answered stands.
@@ -68,13 +76,16 @@ pub fn run_serve<D: Device, R: Read, P: RowsAtHand, N: Notice, W: Write>(
 
     // Each row that was given has its answer, and the rows alone decide the text: all rows, where they are
     // known.
-    ensures answered { IfOk result (λ served. (records : List Fields) × (text : List ℕ)
+    ensures answered { IfOk result (λ served. (records : List Fields)
+        × (became : List (Result EntryView RowRefusal)) × (text : List ℕ)
         × IfSome rows.old.left (λ left. left ≡ records)
         × HasGiven rows.old rows.new (length records)
-        × Answers session.now.admission.now records desk.old.desk.journal desk.new.desk.journal text
+        × Answers session.now.admission.now records became desk.old.desk.journal desk.new.desk.journal text
         × Appends (W.contents writer.old) (W.contents writer.new)
         (heading session.now.torn desk.old.desk ++ text)
-        × (served.refused + length desk.new.desk.journal ≡ length records + length desk.old.desk.journal)) }
+        × (served.refused.all + length desk.new.desk.journal ≡ length records + length desk.old.desk.journal)
+        × (served.refused.counts ≡ map (λ n. count_by (λ why. tag_of the_type why == n)
+        (filter_map result_err became)) (range_with_len 0 6))) }
     ensures counts { IfOk result (λ served. served.counts.counts
         ≡ counts_of (drop (length desk.old.desk.journal) desk.new.desk.journal)) }
 
@@ -145,15 +156,17 @@ fn serve_rows<D: Device, R: Read, P: RowsAtHand, N: Notice, W: Write>(
     rows: &mut RequestRows<R>,
     session: &Session<'_, P, N>,
     writer: &mut W,
-) -> Result<u64, AppFault>
+) -> Result<RefusedRows, AppFault>
     requires durable { D.tells → IsDurable D.seen D.may_leave desk.old }
     requires legal { IsLegal desk.old.desk.opening desk.old.desk.journal }
-    ensures answered { IfOk result (λ refused. (records : List Fields) × (text : List ℕ)
+    ensures answered { IfOk result (λ refused. (records : List Fields)
+        × (became : List (Result EntryView RowRefusal)) × (text : List ℕ)
         × IfSome rows.old.left (λ left. left ≡ records)
         × HasGiven rows.old rows.new (length records)
-        × Answers session.now.admission.now records desk.old.desk.journal desk.new.desk.journal text
+        × Answers session.now.admission.now records became desk.old.desk.journal desk.new.desk.journal text
         × Appends (W.contents writer.old) (W.contents writer.new) text
-        × (refused + length desk.new.desk.journal ≡ length records + length desk.old.desk.journal)) }
+        × (refused.all + length desk.new.desk.journal ≡ length records + length desk.old.desk.journal)
+        × (refused.counts ≡ refusals_of became)) }
     ensures durable { D.tells → OnOk result (IsDurable D.seen D.may_leave desk.new) }
     ensures legal { IsLegal desk.new.desk.opening desk.new.desk.journal }
     ensures opening { desk.new.desk.opening ≡ desk.old.desk.opening }
@@ -178,7 +191,7 @@ fn serve_rows<D: Device, R: Read, P: RowsAtHand, N: Notice, W: Write>(
         (StandsWithin desk.old.desk.opening.version desk.old.desk.journal desk.new.desk.journal) }
 {
     let mut row = 0u64;
-    let mut refused = 0u64;
+    let mut refused = RefusedRows::new();
     for _ in 0..MOST_BATCHES {
         let mut asks = Vec::new(alloc);
         let end = next_batch(alloc, rows, session, &mut asks);
@@ -192,7 +205,7 @@ fn serve_rows<D: Device, R: Read, P: RowsAtHand, N: Notice, W: Write>(
             BatchEnd::NoMemory => return Err(AppFault::Memory),
             BatchEnd::Refused(why) => {
                 row += 1;
-                refused += 1;
+                refused.add(why);
                 say_refused(writer, why, row)?;
             }
         }

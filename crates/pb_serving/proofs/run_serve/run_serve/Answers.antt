@@ -78,13 +78,13 @@ returns-in_err-close-clause-stopped g c =
     let end = c.close.new.self in
     let why = of_device c.in_err-close.field-0.0 in
     let a = c.in_ok-refused.ensures.answered in
-    let halts = halts_behind_all c.args.session.now.admission.now why c.args.rows.now c.serve_rows.new.rows old.desk.journal now.desk.journal a.1 a.0 a.2 a.3 a.4
+    let halts = halts_behind_all c.args.session.now.admission.now why c.args.rows.now c.serve_rows.new.rows old.desk.journal now.desk.journal a.2 a.0 a.1 a.3 a.4 a.5
     (λ answered. behind_device c.in_err-close.field-0.0 answered 0 0 (omega arith)) (not_stopped c.serve_rows.new.rows c.in_ok-refused.ensures.read) in
     if_err c.from_residual-in_err-close.result why _ c.from_residual-in_err-close.ensures.1 (
       now.desk.journal,
-      a.1,
-      subst (λ (d : DeskView). Halts c.args.session.now.admission.now why c.args.rows.now c.serve_rows.new.rows old.desk.journal now.desk.journal d.journal a.1) (sym c.close.ensures.desk) halts,
-      λ other. inl (Appends-trans before mid after head a.1 opened a.5),
+      a.2,
+      subst (λ (d : DeskView). Halts c.args.session.now.admission.now why c.args.rows.now c.serve_rows.new.rows old.desk.journal now.desk.journal d.journal a.2) (sym c.close.ensures.desk) halts,
+      λ other. inl (Appends-trans before mid after head a.2 opened a.6),
       λ tells f here. subst (λ (d : DeskView). StandsWithin d.opening.version now.desk.journal d.journal f) (sym c.close.ensures.desk)
           (kept_closing g.D.Device.moment g.D.Device.left_since g.D.Device.seen g.D.Device.may_leave g.met.D.Device.counts_now now end.file.device (c.close.ensures.any_moment tells) f here),
     )
@@ -113,8 +113,8 @@ returns-clause-answered g c =
     let head_is : c.as_slice.result.now ≡ head = c.as_slice.ensures.value ∙ c.in_ok-opened.ensures ∙ ap (λ (d : DeskView). heading c.args.session.now.torn d) c.desk-2.ensures in
     let opened = subst (Appends before mid) head_is c.in_ok-write_out.ensures.ok in
     let a = c.in_ok-refused.ensures.answered in
-    subst (λ (d : DeskView). HasAnswered c.args.session.now.admission.now c.args.rows.now c.serve_rows.new.rows old.desk.journal d.journal (λ text. Appends before after (head ++ text)) c.in_ok-refused.refused) (sym c.close.ensures.desk)
-    (a.0, a.1, a.2, a.3, a.4, Appends-trans before mid after head a.1 opened a.5, a.6)
+    subst (λ (d : DeskView). HasAnswered c.args.session.now.admission.now c.args.rows.now c.serve_rows.new.rows old.desk.journal d.journal (λ text. Appends before after (head ++ text)) c.in_ok-refused.refused.all c.in_ok-refused.refused.counts) (sym c.close.ensures.desk)
+    (a.0, a.1, a.2, a.3, a.4, a.5, Appends-trans before mid after head a.2 opened a.6, a.7, a.8)
 
 pub returns-in_err-opened-clause-admitted : goal.returns-in_err-opened-clause-admitted
 returns-in_err-opened-clause-admitted g c = adds_none c.args.session.now.admission.now c.args.desk.now.desk.journal

@@ -7,6 +7,8 @@ use Rattle.pb_script.specs.RowsView.{HasGiven}
 use Rattle.pb_serving.specs.Answered.{IsBehind}
 use Rattle.pb_serving.specs.Inner.Admitted.{AddsAdmitted}
 use Rattle.pb_serving.specs.Inner.Batch.{refused, EndsBy}
+use Rattle.pb_serving.specs.Inner.Refused.{refusals_of, with_refusal}
+use Rattle.pb_serving.specs.declared.refused_rows.RefusedRows.{RefusedRows}
 use Rattle.pb_serving.specs.declared.batch.BatchEnd.{BatchEnd}
 use Rattle.pb_serving.specs.declared.batch.BatchEnd.TheVariants as end
 use Rattle.pb_serving.proofs.Answering.{bad_more, batch_more, done, gives, gone_mid, halts, halts_here, moved, started, text_so_far, Outcome}
@@ -28,7 +30,7 @@ pub loop-init : goal.loop-init
 loop-init g c = record {
   few = omega arith;
   many = omega arith;
-  fewer = omega arith;
+  fewer = omega (arith, c.new-refused.ensures.all);
   sound = λ sound. sound;
   failures = λ tells. refl;
   legal = c.requires.legal;
@@ -36,7 +38,10 @@ loop-init g c = record {
   opening = refl;
   durable = c.requires.durable;
   grown = adds_none c.args.session.now.admission.now c.args.desk.now.desk.journal;
-  progress = started c.args.session.now.admission.now c.args.rows.now.left c.args.desk.now.desk.journal (g.W.Write.contents c.args.writer.now);
+  progress = moved c.args.session.now.admission.now c.args.rows.now.left c.args.rows.now.left c.args.desk.now.desk.journal c.args.desk.now.desk.journal
+      (g.W.Write.contents c.args.writer.now) (g.W.Write.contents c.args.writer.now) (g.W.Write.contents c.args.writer.now) 0 0 0 c.new-refused.result.all (refusals_of []) c.new-refused.result.counts
+      refl refl c.new-refused.ensures.all c.new-refused.ensures.counts
+      (started c.args.session.now.admission.now c.args.rows.now.left c.args.desk.now.desk.journal (g.W.Write.contents c.args.writer.now));
   any_moment = λ tells. begins g.D.Device.moment g.D.Device.left_since g.D.Device.seen g.D.Device.may_leave (g.met.D.Device.only_now) c.args.desk.now (c.requires.durable tells);
 }
 
@@ -62,10 +67,10 @@ returns-in_err-answer-clause-stopped g c =
     let given : HasGiven c.args.rows.now c.next_batch-end.new.rows (c.loop.row + (length asks + refused end)) = gives c.args.rows.now c.loop.rows c.next_batch-end.new.rows c.loop.row (length asks + refused end) inv.given c.next_batch-end.ensures.given in
     if_err c.from_residual.result why _ c.from_residual.ensures.1 (
       mid.desk.journal,
-      text_so_far c.args.session.now.admission.now c.args.rows.now.left c.loop.rows.left old.desk.journal mid.desk.journal (g.W.Write.contents c.args.writer.now) (g.W.Write.contents c.loop.writer) c.loop.row c.loop.refused inv.progress,
-      unanswered c.args.session.now.admission.now why c.args.rows.now c.next_batch-end.new.rows c.loop.rows.left c.next_batch-end.new.rows.left old.desk.journal mid.desk.journal new.desk.journal (g.W.Write.contents c.args.writer.now) (g.W.Write.contents c.loop.writer) c.loop.row c.loop.refused
+      text_so_far c.args.session.now.admission.now c.args.rows.now.left c.loop.rows.left old.desk.journal mid.desk.journal (g.W.Write.contents c.args.writer.now) (g.W.Write.contents c.loop.writer) c.loop.row c.loop.refused.all c.loop.refused.counts inv.progress,
+      unanswered c.args.session.now.admission.now why c.args.rows.now c.next_batch-end.new.rows c.loop.rows.left c.next_batch-end.new.rows.left old.desk.journal mid.desk.journal new.desk.journal (g.W.Write.contents c.args.writer.now) (g.W.Write.contents c.loop.writer) c.loop.row c.loop.refused.all c.loop.refused.counts
           batch.rows asks asked.0 end inv.progress batch.each batch.goes_on c.next_batch-end.ensures.few some grown full given c.in_err-answer.ensures.other,
-      λ other. subst (λ (w : Option (List ℕ)). Appends (g.W.Write.contents c.args.writer.now) w (text_so_far c.args.session.now.admission.now c.args.rows.now.left c.loop.rows.left old.desk.journal mid.desk.journal (g.W.Write.contents c.args.writer.now) (g.W.Write.contents c.loop.writer) c.loop.row c.loop.refused inv.progress))
+      λ other. subst (λ (w : Option (List ℕ)). Appends (g.W.Write.contents c.args.writer.now) w (text_so_far c.args.session.now.admission.now c.args.rows.now.left c.loop.rows.left old.desk.journal mid.desk.journal (g.W.Write.contents c.args.writer.now) (g.W.Write.contents c.loop.writer) c.loop.row c.loop.refused.all c.loop.refused.counts inv.progress))
           (sym (c.in_err-answer.ensures.unsaid other)) inv.progress.said,
       λ tells f left. kept_first g.D.Device.moment g.D.Device.left_since g.D.Device.seen g.D.Device.may_leave g.met.D.Device.counts_now mid new (entries_of c.next_batch-end.new.asks.items asked.0) c.answer.ensures.opening asked.1 (c.answer.ensures.any_moment tells) f left,
     )
@@ -124,9 +129,9 @@ returns-in-Over-clause-answered g c =
     let ends = subst (λ (e : BatchEnd). EndsBy c.args.session.now.admission.now e c.loop.rows.left batch.rows c.next_batch-end.new.rows.left) c.in-Over.is batch.goes_on in
     let given = gives c.args.rows.now c.loop.rows c.next_batch-end.new.rows c.loop.row (length asks + refused end.Over) inv.given (subst (λ (e : BatchEnd). HasGiven c.loop.rows c.next_batch-end.new.rows (length asks + refused e)) c.in-Over.is c.next_batch-end.ensures.given) in
     let sizes : c.loop.row + (length asks + 0) ≡ c.loop.row + length asks = omega arith in
-    done c.args.session.now.admission.now c.args.rows.now c.next_batch-end.new.rows ends.0 old.desk.journal c.answer.new.desk.desk.journal (g.W.Write.contents c.args.writer.now) (g.W.Write.contents c.answer.new.writer) (c.loop.row + length asks) c.loop.refused
+    done c.args.session.now.admission.now c.args.rows.now c.next_batch-end.new.rows ends.0 old.desk.journal c.answer.new.desk.desk.journal (g.W.Write.contents c.args.writer.now) (g.W.Write.contents c.answer.new.writer) (c.loop.row + length asks) c.loop.refused.all c.loop.refused.counts
     (batch_more c.args.session.now.admission.now c.args.rows.now.left c.loop.rows.left ends.0 old.desk.journal mid.desk.journal c.answer.new.desk.desk.journal
-    (g.W.Write.contents c.args.writer.now) (g.W.Write.contents c.loop.writer) (g.W.Write.contents c.answer.new.writer) c.loop.row c.loop.refused
+    (g.W.Write.contents c.args.writer.now) (g.W.Write.contents c.loop.writer) (g.W.Write.contents c.answer.new.writer) c.loop.row c.loop.refused.all c.loop.refused.counts
     batch.rows asks said.0 inv.progress ends.1 batch.each count grown text) ends.2 (subst (λ (n : ℕ). HasGiven c.args.rows.now c.next_batch-end.new.rows n) sizes given)
 
 pub returns-in-ReadFailed-clause-stopped : goal.returns-in-ReadFailed-clause-stopped
@@ -144,13 +149,13 @@ returns-in-ReadFailed-clause-stopped g c =
     let new = c.answer.new.desk in
     let ends = subst (λ (e : BatchEnd). EndsBy c.args.session.now.admission.now e c.loop.rows.left batch.rows c.next_batch-end.new.rows.left) c.in-ReadFailed.is batch.goes_on in
     let so_far = batch_more c.args.session.now.admission.now c.args.rows.now.left c.loop.rows.left ends.0 old.desk.journal mid.desk.journal c.answer.new.desk.desk.journal
-    (g.W.Write.contents c.args.writer.now) (g.W.Write.contents c.loop.writer) (g.W.Write.contents c.answer.new.writer) c.loop.row c.loop.refused
+    (g.W.Write.contents c.args.writer.now) (g.W.Write.contents c.loop.writer) (g.W.Write.contents c.answer.new.writer) c.loop.row c.loop.refused.all c.loop.refused.counts
     batch.rows asks said.0 inv.progress ends.1 batch.each count grown text in
     let given = gives c.args.rows.now c.loop.rows c.next_batch-end.new.rows c.loop.row (length asks + refused end.ReadFailed) inv.given (subst (λ (e : BatchEnd). HasGiven c.loop.rows c.next_batch-end.new.rows (length asks + refused e)) c.in-ReadFailed.is c.next_batch-end.ensures.given) in
     let sizes : c.loop.row + (length asks + 0) ≡ c.loop.row + length asks = omega arith in (
       new.desk.journal,
-      text_so_far c.args.session.now.admission.now c.args.rows.now.left ends.0 old.desk.journal new.desk.journal (g.W.Write.contents c.args.writer.now) (g.W.Write.contents c.answer.new.writer) (c.loop.row + length asks) c.loop.refused so_far,
-      halts_here c.args.session.now.admission.now c.read_failed.result c.args.rows.now c.next_batch-end.new.rows ends.0 old.desk.journal new.desk.journal (g.W.Write.contents c.args.writer.now) (g.W.Write.contents c.answer.new.writer) (c.loop.row + length asks) c.loop.refused so_far
+      text_so_far c.args.session.now.admission.now c.args.rows.now.left ends.0 old.desk.journal new.desk.journal (g.W.Write.contents c.args.writer.now) (g.W.Write.contents c.answer.new.writer) (c.loop.row + length asks) c.loop.refused.all c.loop.refused.counts so_far,
+      halts_here c.args.session.now.admission.now c.read_failed.result c.args.rows.now c.next_batch-end.new.rows ends.0 old.desk.journal new.desk.journal (g.W.Write.contents c.args.writer.now) (g.W.Write.contents c.answer.new.writer) (c.loop.row + length asks) c.loop.refused.all c.loop.refused.counts so_far
           (subst (λ (n : ℕ). HasGiven c.args.rows.now c.next_batch-end.new.rows n) sizes given)
           (λ answered is. subst (λ (fault : AppFault). IsBehind fault answered 0 0) (sym c.read_failed.ensures) (omega (arith, size, is), refl))
           (λ sound failed. (_, c.read_failed.ensures)),
@@ -172,13 +177,13 @@ returns-in-NoMemory-clause-stopped g c =
     let new = c.answer.new.desk in
     let ends = subst (λ (e : BatchEnd). EndsBy c.args.session.now.admission.now e c.loop.rows.left batch.rows c.next_batch-end.new.rows.left) c.in-NoMemory.is batch.goes_on in
     let so_far = batch_more c.args.session.now.admission.now c.args.rows.now.left c.loop.rows.left ends.0 old.desk.journal mid.desk.journal c.answer.new.desk.desk.journal
-    (g.W.Write.contents c.args.writer.now) (g.W.Write.contents c.loop.writer) (g.W.Write.contents c.answer.new.writer) c.loop.row c.loop.refused
+    (g.W.Write.contents c.args.writer.now) (g.W.Write.contents c.loop.writer) (g.W.Write.contents c.answer.new.writer) c.loop.row c.loop.refused.all c.loop.refused.counts
     batch.rows asks said.0 inv.progress ends.1 batch.each count grown text in
     let given = gives c.args.rows.now c.loop.rows c.next_batch-end.new.rows c.loop.row (length asks + refused end.NoMemory) inv.given (subst (λ (e : BatchEnd). HasGiven c.loop.rows c.next_batch-end.new.rows (length asks + refused e)) c.in-NoMemory.is c.next_batch-end.ensures.given) in
     let sizes : c.loop.row + (length asks + 0) ≡ c.loop.row + length asks = omega arith in (
       new.desk.journal,
-      text_so_far c.args.session.now.admission.now c.args.rows.now.left ends.0 old.desk.journal new.desk.journal (g.W.Write.contents c.args.writer.now) (g.W.Write.contents c.answer.new.writer) (c.loop.row + length asks) c.loop.refused so_far,
-      halts_here c.args.session.now.admission.now Memory c.args.rows.now c.next_batch-end.new.rows ends.0 old.desk.journal new.desk.journal (g.W.Write.contents c.args.writer.now) (g.W.Write.contents c.answer.new.writer) (c.loop.row + length asks) c.loop.refused so_far
+      text_so_far c.args.session.now.admission.now c.args.rows.now.left ends.0 old.desk.journal new.desk.journal (g.W.Write.contents c.args.writer.now) (g.W.Write.contents c.answer.new.writer) (c.loop.row + length asks) c.loop.refused.all c.loop.refused.counts so_far,
+      halts_here c.args.session.now.admission.now Memory c.args.rows.now c.next_batch-end.new.rows ends.0 old.desk.journal new.desk.journal (g.W.Write.contents c.args.writer.now) (g.W.Write.contents c.answer.new.writer) (c.loop.row + length asks) c.loop.refused.all c.loop.refused.counts so_far
           (subst (λ (n : ℕ). HasGiven c.args.rows.now c.next_batch-end.new.rows n) sizes given)
           (λ answered is. (omega arith, inl refl))
           (λ sound failed. absurd (memory_not_failed c.in-NoMemory.is (c.next_batch-end.ensures.told (inv.sound sound) failed))),
@@ -218,7 +223,8 @@ loop-preserved g c =
     elim c.match-end.branch [
       | in-More w ↦
           let row = w.row-is in
-          let bad = w.refused-is in
+          let bad = ap (λ (r : RefusedRows). r.all) w.refused-is in
+          let reasons = ap (λ (r : RefusedRows). r.counts) w.refused-is in
           let some = c.next_batch-end.ensures.some w.in-More.is in
           record {
             few = omega (arith, row, size, few, before);
@@ -232,15 +238,16 @@ loop-preserved g c =
             opening = opening;
             durable = λ tells. c.in_ok-answer.ensures.durable tells;
             grown = entries;
-            progress = moved c.args.session.now.admission.now all after old.desk.journal new.desk.journal start (contents c.answer.new.writer) (contents c.match-end.writer) (c.loop.row + length asks) c.loop.refused c.match-end.row c.match-end.refused
-                (ap contents w.writer-is) (omega (arith, row, size)) bad
-                (batch_more c.args.session.now.admission.now all left after old.desk.journal mid.desk.journal new.desk.journal start (contents c.loop.writer) (contents c.answer.new.writer) c.loop.row c.loop.refused
+            progress = moved c.args.session.now.admission.now all after old.desk.journal new.desk.journal start (contents c.answer.new.writer) (contents c.match-end.writer) (c.loop.row + length asks) c.loop.refused.all c.match-end.row c.match-end.refused.all c.loop.refused.counts c.match-end.refused.counts
+                (ap contents w.writer-is) (omega (arith, row, size)) bad reasons
+                (batch_more c.args.session.now.admission.now all left after old.desk.journal mid.desk.journal new.desk.journal start (contents c.loop.writer) (contents c.answer.new.writer) c.loop.row c.loop.refused.all c.loop.refused.counts
                 batch.rows asks said.0 inv.progress (ends end.More w.in-More.is) batch.each count grown text);
             any_moment = λ tells. goes_on g.D.Device.moment g.D.Device.left_since g.D.Device.seen g.D.Device.may_leave old mid new inv.grown.0 (entries_of c.next_batch-end.new.asks.items asked.0) inv.opening inv.grown.1 asked.1 (inv.any_moment tells) (c.answer.ensures.any_moment tells);
           }
       | in-Refused+in_ok-say_refused-in-Refused w ↦
           let row = w.row-is in
-          let bad = w.refused-is in
+          let bad = ap (λ (r : RefusedRows). r.all) w.refused-is ∙ w.add.ensures.all in
+          let reasons = ap (λ (r : RefusedRows). r.counts) w.refused-is ∙ w.add.ensures.counts in
           let here = ends (end.Refused w.in-Refused.why) w.in-Refused.is in
           let between = gone_mid left after batch.rows here.0 here.2 in
           let at : c.loop.row + c.len-asking.result + 1 ≡ c.loop.row + length asks + 1 = omega (arith, size) in
@@ -257,13 +264,14 @@ loop-preserved g c =
             opening = opening;
             durable = λ tells. c.in_ok-answer.ensures.durable tells;
             grown = entries;
-            progress = moved c.args.session.now.admission.now all after old.desk.journal new.desk.journal start (contents w.say_refused.new.writer) (contents c.match-end.writer) (c.loop.row + length asks + 1) (c.loop.refused + 1) c.match-end.row c.match-end.refused
-                (ap contents w.writer-is) (omega (arith, row, size)) bad
-                (bad_more c.args.session.now.admission.now all between.0 after old.desk.journal new.desk.journal new.desk.journal start (contents c.answer.new.writer) (contents w.say_refused.new.writer) (c.loop.row + length asks) c.loop.refused
+            progress = moved c.args.session.now.admission.now all after old.desk.journal new.desk.journal start (contents w.say_refused.new.writer) (contents c.match-end.writer) (c.loop.row + length asks + 1) (c.loop.refused.all + 1) c.match-end.row c.match-end.refused.all
+                (with_refusal c.loop.refused.counts w.in-Refused.why) c.match-end.refused.counts
+                (ap contents w.writer-is) (omega (arith, row, size)) bad reasons
+                (bad_more c.args.session.now.admission.now all between.0 after old.desk.journal new.desk.journal new.desk.journal start (contents c.answer.new.writer) (contents w.say_refused.new.writer) (c.loop.row + length asks) c.loop.refused.all c.loop.refused.counts
                 here.0 w.in-Refused.why
-                (batch_more c.args.session.now.admission.now all left between.0 old.desk.journal mid.desk.journal new.desk.journal start (contents c.loop.writer) (contents c.answer.new.writer) c.loop.row c.loop.refused
+                (batch_more c.args.session.now.admission.now all left between.0 old.desk.journal mid.desk.journal new.desk.journal start (contents c.loop.writer) (contents c.answer.new.writer) c.loop.row c.loop.refused.all c.loop.refused.counts
                 batch.rows asks said.0 inv.progress between.1 batch.each count grown text)
-                between.2 here.1 line_is);
+                between.2 here.1 line_is (omega (arith, size, few, before, c.loop-test.true)));
             any_moment = λ tells. goes_on g.D.Device.moment g.D.Device.left_since g.D.Device.seen g.D.Device.may_leave old mid new inv.grown.0 (entries_of c.next_batch-end.new.asks.items asked.0) inv.opening inv.grown.1 asked.1 (inv.any_moment tells) (c.answer.ensures.any_moment tells);
           }
     ]
@@ -274,8 +282,8 @@ returns-clause-stopped g c =
     let old = c.args.desk.now in
     let mid = c.loop.desk in (
       mid.desk.journal,
-      text_so_far c.args.session.now.admission.now c.args.rows.now.left c.loop.rows.left old.desk.journal mid.desk.journal (g.W.Write.contents c.args.writer.now) (g.W.Write.contents c.loop.writer) c.loop.row c.loop.refused inv.progress,
-      halts_here c.args.session.now.admission.now (Script TooManyRows) c.args.rows.now c.loop.rows c.loop.rows.left old.desk.journal mid.desk.journal (g.W.Write.contents c.args.writer.now) (g.W.Write.contents c.loop.writer) c.loop.row c.loop.refused inv.progress
+      text_so_far c.args.session.now.admission.now c.args.rows.now.left c.loop.rows.left old.desk.journal mid.desk.journal (g.W.Write.contents c.args.writer.now) (g.W.Write.contents c.loop.writer) c.loop.row c.loop.refused.all c.loop.refused.counts inv.progress,
+      halts_here c.args.session.now.admission.now (Script TooManyRows) c.args.rows.now c.loop.rows c.loop.rows.left old.desk.journal mid.desk.journal (g.W.Write.contents c.args.writer.now) (g.W.Write.contents c.loop.writer) c.loop.row c.loop.refused.all c.loop.refused.counts inv.progress
           inv.given (λ answered is. let many = inv.many in (omega (arith, is, many, c.loop-test.false), refl))
           (λ sound failed. absurd (inv.sound sound failed)),
       λ other. inv.progress.said,
@@ -298,7 +306,7 @@ returns-in_err-say_refused-in-Refused-clause-stopped g c =
     let text = said.3 in
     let here = subst (λ (e : BatchEnd). EndsBy ad e c.loop.rows.left batch.rows c.next_batch-end.new.rows.left) c.in-Refused.is batch.goes_on in
     let between = gone_mid c.loop.rows.left c.next_batch-end.new.rows.left batch.rows here.0 here.2 in
-    let so_far = batch_more ad c.args.rows.now.left c.loop.rows.left between.0 old.desk.journal mid.desk.journal new.desk.journal (contents c.args.writer.now) (contents c.loop.writer) (contents c.answer.new.writer) c.loop.row c.loop.refused
+    let so_far = batch_more ad c.args.rows.now.left c.loop.rows.left between.0 old.desk.journal mid.desk.journal new.desk.journal (contents c.args.writer.now) (contents c.loop.writer) (contents c.answer.new.writer) c.loop.row c.loop.refused.all c.loop.refused.counts
     batch.rows asks said.0 inv.progress between.1 batch.each count grown text in
     let given = gives c.args.rows.now c.loop.rows c.next_batch-end.new.rows c.loop.row (length asks + refused (end.Refused c.in-Refused.why)) inv.given (subst (λ (e : BatchEnd). HasGiven c.loop.rows c.next_batch-end.new.rows (length asks + refused e)) c.in-Refused.is c.next_batch-end.ensures.given) in
     let sizes : c.loop.row + (length asks + 1) ≡ c.loop.row + length asks + (1 + 0) = omega arith in
@@ -307,8 +315,8 @@ returns-in_err-say_refused-in-Refused-clause-stopped g c =
     let whys : List Outcome = Err c.in-Refused.why ∷ [] in
     if_err c.from_residual-in_err-say_refused-in-Refused.result why _ c.from_residual-in_err-say_refused-in-Refused.ensures.1 (
       new.desk.journal,
-      text_so_far ad c.args.rows.now.left between.0 old.desk.journal new.desk.journal (contents c.args.writer.now) (contents c.answer.new.writer) (c.loop.row + length asks) c.loop.refused so_far,
-      halts ad why c.args.rows.now c.next_batch-end.new.rows between.0 c.next_batch-end.new.rows.left old.desk.journal new.desk.journal new.desk.journal (contents c.args.writer.now) (contents c.answer.new.writer) (c.loop.row + length asks) c.loop.refused
+      text_so_far ad c.args.rows.now.left between.0 old.desk.journal new.desk.journal (contents c.args.writer.now) (contents c.answer.new.writer) (c.loop.row + length asks) c.loop.refused.all c.loop.refused.counts so_far,
+      halts ad why c.args.rows.now c.next_batch-end.new.rows between.0 c.next_batch-end.new.rows.left old.desk.journal new.desk.journal new.desk.journal (contents c.args.writer.now) (contents c.answer.new.writer) (c.loop.row + length asks) c.loop.refused.all c.loop.refused.counts
           (here.0 ∷ []) [] whys so_far between.2 (here.1, tt) (sym (append-nil new.desk.journal)) (subst (λ (n : ℕ). HasGiven c.args.rows.now c.next_batch-end.new.rows n) sizes given)
           (λ answered same. subst (λ (fault : AppFault). IsBehind fault answered 1 0) (sym is) (omega arith, refl))
           (λ sound failed none. absurd (cons_not_nil none)),
