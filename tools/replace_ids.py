@@ -199,13 +199,13 @@ def shuffle_votes(rows):
     rows[begin:] = [header, *voters]
 
 
-def program_of(named=None):
+def program_of(named=None, more=': without it nothing is written', why=''):
     """The path of pb_app: the named one, or beside this tool, or on the PATH."""
     beside = os.path.dirname(os.path.abspath(__file__))
     found = shutil.which(named) if named else shutil.which('pb_app', path=beside) or shutil.which('pb_app')
     if not found:
         raise Refused(f'there is no program {named}' if named else
-                      'pb_app is neither on the PATH nor beside this tool: without it nothing is written')
+                      f'pb_app{why} is neither on the PATH nor beside this tool{more}')
     return found
 
 
@@ -328,7 +328,8 @@ def delete(paths):
 
 
 def replace(given):
-    program = program_of(given.program) if given.publish else None
+    program = program_of(given.program, ': name it with --program',
+                         ', which has to count both files,') if given.publish else None
     ids, election, entries = Ids(), rows_of(given.file), rows_of(given.journal)
     replace_in_election(election, ids, given.file)
     replace_in_journal(entries, ids, given.journal)
