@@ -1,8 +1,8 @@
 //! Ids of projects that stand behind the vote, where no count reads them.
 
 use crate::beside_vote::BesideVote;
-use crate::changed::{has_digit, has_one_of, has_part, is_digits, is_one_of, last_word};
-use crate::column_kinds::{NUMBERS, is_of_validity};
+use crate::changed::{has_digit, has_one_of, has_part, is_digits, is_one_of, is_tick, last_word};
+use crate::column_kinds::{NOTES, NUMBERS, is_of_validity};
 use crate::prelude::*;
 use crate::warnings::places_of;
 
@@ -26,6 +26,9 @@ const OF_NAMES: &str = "other|own|choice|project|projects|vote|option|text";
 /// Words in the name of a column that holds votes, also as parts of longer ones.
 pub(crate) const OF_VOTES: &str = "vote|choice|preference|project|option|selection";
 
+/// Words in the name of a column that has votes which others replaced.
+const OF_BEFORE: &str = "previous|previously|old|earlier|before|former|prior|was|initial|original";
+
 /// Words of a name that hold no votes, though another word of it is one of those.
 const OF_NO_VOTES: &str =
     "channel|type|method|mode|place|station|date|time|at|status|code|count|number|num|total|form|\
@@ -38,6 +41,9 @@ const OF_NO_VOTES: &str =
 const INVENTED: &str =
     "unnamed|column|col|field|spalte|feld|kolumna|pole|colonne|columna|coluna|colonna|sloupec|kolom";
 
+/// What says that the voter does not approve the project of a column.
+const UNTICKED: &str = "0|no|false";
+
 /// What a voter writes who makes no further choice.
 const NOTHING: &str = "-|none|nan|null|nil|n/a|na|no|nie|brak";
 
@@ -49,11 +55,14 @@ const MOST_SINGLE: u64 = 1_000;
 #[derive(Clone, Copy)]
 struct VoteColumn {
     place: usize,
+    /// Whether it stands before the vote, and no name says that it holds votes.
+    is_before: bool,
     /// Whether it has a name; then one other text shows that it holds no votes.
     is_named: bool,
-    /// Whether its name says that it holds no votes of the voter, and whether only a list of projects shows
+    /// Whether its name says that it holds no votes of the voter, or notes; and whether only a list of projects shows
     /// that.
     holds_none: bool,
+    is_of_notes: bool,
     is_of_voters: bool,
     /// Whether an id with a letter and a digit also shows that, beside other values.
     is_of_persons: bool,
@@ -61,6 +70,10 @@ struct VoteColumn {
     may_have_names: bool,
     /// The place of the project with whose id its name ends: a 1 says that the vote names it.
     ticks: Option<u32>,
+    /// In how many rows such a mark and the vote agree, and the first in which the vote does not name the project,
+    /// measured by how many there are.
+    agree: u64,
+    unvoted: Option<Odd>,
     /// Whether it may hold votes, by all that was read.
     is_open: bool,
     /// Whether something shows that it holds votes: its name, as where it is a letter or has a number, or an id
@@ -70,6 +83,10 @@ struct VoteColumn {
     odd: Option<Odd>,
     /// How many values of a person were read that are no ids.
     others: u64,
+    /// Whether a row has nothing in it, and whether each other has a project that its vote does not name, by an id of
+    /// letters.
+    has_none: bool,
+    are_further: bool,
 }
 
 /// The columns of VOTES, of which those behind the vote may hold votes.
@@ -105,8 +122,13 @@ impl BehindVote {
             let mut column = VoteColumn::of(place, name, projects);
             let is_of_row = name.eq_ignore_ascii_case(Column::ProjectId.name());
             let is_called = column.is_shown && has_part(OF_VOTES, name);
-            let may_be = place > vote || is_of_row || is_called;
-            column.is_open = may_be && !column.holds_none && !is_again && place != vote;
+            if place < vote && !is_of_row && !is_called {
+                column.is_before = true;
+                column.is_named = true;
+                column.is_shown = false;
+                column.are_further = false;
+            }
+            column.is_open = !column.holds_none && !is_again && place != vote;
             is_open |= column.is_open;
             columns.push(column)?;
         }
@@ -124,10 +146,12 @@ impl BehindVote {
         let odd = row.odd(Oddity::IdBehindVote).named_in(self.header);
         self.is_open = false;
         for column in self.columns.iter_mut() {
-            if column.is_open {
+            // Before the vote, a row without one has a stray vote, if any.
+            let is_stray = column.is_before && row.ballot().is_empty() && column.ticks.is_none();
+            if column.is_open && !is_stray {
                 let _ = column.take(row, odd.at(column.place));
-                self.is_open |= column.is_open;
             }
+            self.is_open |= column.is_open;
         }
         for place in self.beyond.place..row.record.len() {
             if self.beyond.take(row, odd.at(place)) {
@@ -143,8 +167,9 @@ impl BehindVote {
         let may_be = |place: &usize| {
             let value = row.at(*place);
             let column = self.columns.get(*place).unwrap_or(&self.beyond);
-            let (holds_none, is_of_voters) = (column.holds_none, column.is_of_voters);
-            let may_have_names = column.may_have_names;
+            let is_slid = row.record.len() > self.columns.len() && column.is_of_notes;
+            let holds_none = column.holds_none && !is_slid;
+            let (is_of_voters, may_have_names) = (column.is_of_voters, column.may_have_names);
             let is_id = *place == odd.id_place;
             *place != odd.value_place
                 && (is_id || !holds_none)
@@ -156,11 +181,15 @@ impl BehindVote {
         let Some(place) = (0..row.record.len()).find(may_be) else {
             return odd;
         };
-        let odd = odd.at(place).in_form(1).named_in(self.header);
+        // In place of the id the form is another one, in each oddity that the row may be.
+        let form = if place == odd.id_place { 3 } else { 1 };
+        let odd = odd.at(place).in_form(form).named_in(self.header);
         let value = row.at(place);
         let is_shown = is_list(value) || row.has_name(alloc, value);
         if is_shown && row.limits.min_length.unwrap_or(0) == 0 {
-            self.stray = Some(odd.as_a(Oddity::IdBehindVote).behind(self.stray));
+            let form = if place == odd.id_place { 2 } else { 1 };
+            let stray = odd.as_a(Oddity::IdBehindVote).in_form(form);
+            self.stray = Some(stray.behind(self.stray));
         }
         odd
     }
@@ -174,7 +203,7 @@ impl BehindVote {
     ) -> Result<(), AllocError> {
         let mut all: Vec<Odd> = Vec::new(alloc);
         for column in &self.columns {
-            if let (Some(odd), true) = (column.odd, column.is_open && column.is_shown) {
+            if let Some(odd) = column.odd.filter(|odd| column.holds_votes(odd)) {
                 all.push(odd)?;
             }
         }
@@ -186,8 +215,29 @@ impl BehindVote {
                 all.push(stray)?;
             }
         }
+        self.end_ticks(&mut all)?;
         beside.end(&mut all, found)?;
         found.take_in_order(all)
+    }
+}
+
+impl BehindVote {
+    /// Adds the columns to these that have marks for a project which votes do not name, if there are two of them or more, and
+    /// most marks agree with the votes.
+    fn end_ticks(&self, all: &mut Vec<Odd>) -> Result<(), AllocError> {
+        let (mut agree, mut differ, mut columns) = (0u64, 0u64, 0usize);
+        for column in &self.columns {
+            agree = agree.saturating_add(column.agree);
+            differ = differ.saturating_add(column.unvoted.map_or(0, |odd| odd.number));
+            columns = columns.saturating_add(usize::from(column.agree > 0));
+        }
+        let are_told = columns > 1 && agree > differ;
+        for odd in self.columns.iter().filter_map(|column| column.unvoted) {
+            if are_told {
+                all.push(odd)?;
+            }
+        }
+        Ok(())
     }
 }
 
@@ -204,25 +254,58 @@ impl VoteColumn {
             && (is_numbered || has_part(OF_VOTES, name) || has_one_of("second|third", name));
         VoteColumn {
             place,
+            is_before: false,
             is_named: !name.is_empty(),
-            holds_none: is_one_of(OTHERS, name) || is_one_of(NUMBERS, name) || is_of_validity(name),
+            holds_none: is_one_of(OTHERS, name)
+                || is_one_of(NUMBERS, name)
+                || is_of_validity(name)
+                || has_one_of(OF_BEFORE, name),
+            is_of_notes: is_one_of(NOTES, name),
             is_of_voters,
             is_of_persons: is_one_of(OF_PERSONS, name),
             may_have_names: is_invented || has_one_of(OF_NAMES, name),
             ticks: projects.place(last_word(name)),
+            agree: 0,
+            unvoted: None,
             is_open: true,
             is_shown: is_invented || (is_of_votes && !is_of_voters),
             odd: None,
             others: 0,
+            has_none: false,
+            are_further: !is_of_voters,
         }
+    }
+
+    /// Whether it seems to hold votes, by all rows, of which the first that may have one is odd so.
+    fn holds_votes(&self, odd: &Odd) -> bool {
+        let is_further = self.are_further && self.has_none && odd.number > 1;
+        self.is_open && (self.is_shown || is_further)
+    }
+
+    /// Takes a value that says whether the vote names the project of the column, if it is one; answers whether it is.
+    fn takes_tick(&mut self, row: &Row<'_>, odd: Odd) -> bool {
+        let (value, Some(place)) = (row.at(odd.value_place), self.ticks) else {
+            return false;
+        };
+        let is_named = row.ballot().binary_search(&place).is_ok();
+        let is_id = row.projects.has(value) && !(is_named && value == "1");
+        if is_id || !is_tick(value) {
+            return false;
+        }
+        if is_named {
+            self.agree = self.agree.saturating_add(1);
+        } else if !is_one_of(UNTICKED, value) {
+            self.unvoted = Some(odd.in_form(3).behind(self.unvoted));
+        }
+        true
     }
 
     /// Takes a row, in which the value of this oddity stands in the column, and answers whether it names
     /// projects beside those of the vote.
     fn take(&mut self, row: &Row<'_>, odd: Odd) -> bool {
         let (value, ballot) = (row.at(odd.value_place), row.ballot());
-        let is_tick = |place: u32| value == "1" && ballot.binary_search(&place).is_ok();
-        if value.is_empty() || self.ticks.is_some_and(is_tick) {
+        self.has_none |= value.is_empty();
+        if value.is_empty() || self.takes_tick(row, odd) {
             return false;
         }
         if self.is_of_persons && !is_list(value) {
@@ -234,6 +317,8 @@ impl VoteColumn {
             self.is_open = !self.is_named || self.is_of_persons || is_one_of(NOTHING, value);
             return false;
         };
+        let is_word = value.len() > 2 && !value.contains(|c: char| !c.is_alphabetic());
+        self.are_further &= has_other && is_word;
         if self.is_named && !has_other {
             return false;
         }

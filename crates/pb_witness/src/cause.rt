@@ -1,8 +1,8 @@
 //! Why a vote names an id that no project has.
 
 use crate::changed::{
-    Difference, has_digit, how_differs, is_date, is_decimal, is_nothing, is_power, is_tick,
-    is_word, without_hidden,
+    Difference, has_digit, how_differs, is_date, is_decimal, is_empty_list, is_nothing, is_power,
+    is_tick, is_word, without_hidden,
 };
 use crate::ids::Ids;
 use crate::meta_oddities::whole_number;
@@ -37,6 +37,10 @@ pub enum Cause {
     /// It is an id with this around it.
     Brackets,
     Quotes,
+    /// It is what a spreadsheet shows where a formula is wrong.
+    Formula,
+    /// It is a list with nothing in it.
+    EmptyList,
     /// It is an id in brackets, and not the whole vote is; or the vote is, but not all votes are.
     OneInBrackets,
     SomeInBrackets,
@@ -92,7 +96,6 @@ impl Cause {
                 | Cause::Swallowed
                 | Cause::Cut
                 | Cause::Lines
-                | Cause::Name
                 | Cause::Mentioned
                 | Cause::Near
                 | Cause::Unknown
@@ -136,7 +139,7 @@ pub(crate) fn cause_of(
         Some(Cause::Nothing) if unknown.is_beside && id == "0" => Some(Cause::Places),
         Some(Cause::Nothing) if unknown.is_beside => Some(Cause::Beside),
         Some(Cause::Brackets) if !unknown.is_in_brackets => Some(Cause::OneInBrackets),
-        Some(Cause::Brackets) if witness.rows.has_bare && !is_of_program(id) => {
+        Some(Cause::Brackets) if are_marked(witness) && !is_of_program(id) => {
             Some(Cause::SomeInBrackets)
         }
         Some(cause) if witness.rows.have_commas() => Some(beside_lists(cause, id)),
@@ -183,6 +186,13 @@ fn beside_lists(cause: Cause, id: &str) -> Cause {
     }
 }
 
+/// Whether somebody may have put some votes in brackets: others have none, and it is not so that those of several ids have
+/// them and those of one have none, as where a program writes a list or one value.
+fn are_marked(witness: &Witness) -> bool {
+    let rows = &witness.rows;
+    rows.has_bare && (rows.has_list || witness.unknown.has_one_in_brackets)
+}
+
 /// Whether brackets around an id are those of a list that a program wrote: it has quotation marks, or is R's.
 fn is_of_program(id: &str) -> bool {
     id.starts_with("c(") || id.contains(|c: char| LIST_QUOTES.contains(c))
@@ -212,7 +222,7 @@ fn plain_cause(id: &str, ids: &Ids, has_columns: bool) -> Option<Cause> {
         Cause::LeftOut
     } else if ids.projects.len() == 0 && ids.left_out.len() == 0 {
         Cause::NoProjects
-    } else if ids.swallowed.has(id) {
+    } else if ids.swallowed.has(id) || ids.are_behind_names(id) {
         Cause::Swallowed
     } else if ids.pieces.has(id) {
         Cause::Cut
@@ -226,18 +236,28 @@ fn plain_cause(id: &str, ids: &Ids, has_columns: bool) -> Option<Cause> {
         Cause::NamesAgain
     } else if id.ends_with("...") || id.ends_with('\u{2026}') {
         Cause::CutOff
+    } else if is_empty_list(id) {
+        Cause::EmptyList
     } else if let Some(cause) = wrapped(id, ids) {
         cause
     } else if let Some((_, cause)) = BETWEEN.iter().find(|(mark, _)| ids.are_apart_by(id, *mark)) {
         *cause
     } else if has_columns && is_tick(id) {
         Cause::Columns
-    } else if is_nothing(id) {
+    } else if is_formula(id) {
+        Cause::Formula
+    } else if is_nothing(id.trim_matches(|c: char| "[](){}<>".contains(c))) {
         Cause::Nothing
     } else {
         return changed(id, ids);
     };
     Some(cause)
+}
+
+/// Whether a text is what a spreadsheet shows where a formula is wrong.
+fn is_formula(text: &str) -> bool {
+    let is_named = text.starts_with('#') && (text.ends_with('!') || text.ends_with('?'));
+    is_named || text.starts_with("Err:")
 }
 
 /// What is around an id, so that it is none.

@@ -127,6 +127,12 @@ pub(crate) fn is_in_brackets(vote: &str) -> bool {
         && begin.trim_end_matches(is_wrap).len() < begin.len()
 }
 
+/// Whether a text is brackets with nothing in them but quotation marks, as programs write an empty list.
+pub(crate) fn is_empty_list(text: &str) -> bool {
+    let is_other = |c: char| !"[](){}'\" ".contains(c);
+    is_in_brackets(text) && !text.contains(is_other)
+}
+
 /// Whether a text is one or more digits.
 pub(crate) fn is_digits(text: &str) -> bool {
     !text.is_empty() && text.as_bytes().iter().all(|byte| byte.is_ascii_digit())

@@ -23,11 +23,19 @@ const BEGINNINGS: &str = "withdrawn|cancelled|invalid|removed|rejected_|deleted_
 
 const OF_OTHERS: &str = "newsletter|last|previous|before|earlier";
 
+/// How words begin that say which rows are valid, and what may stand beside one of them, which is alone.
+const STEMS: &str =
+    "valid|invalid|withdr|cancel|reject|spoil|spoilt|void|nullif|disqualif|verif|unverif|confirm|unconfirm|eligib|\
+    ineligib|duplic|uncounted|test|active|inactive|signature|signed|unsigned|gült|ungült|gueltig|ungueltig|storn|ważn|\
+    nieważn|wazn|niewazn|anulowan|odrzucon|válid|inválid|ongeldig|gyldig|ugyldig|annul|neplatn";
+
+const BESIDE: &str = "is|has|was|ok|flag|vote|ballot|row|entry|record";
+
 /// Those of them that may have something else, and others that may.
 const VALID_OR_MORE: &str = "status|accepted|finished|completed|voted|has_voted";
 
 /// What columns are called that have remarks, which no list of words knows.
-const NOTES: &str = "remark|remarks|comment|comments|note|notes";
+pub(crate) const NOTES: &str = "remark|remarks|comment|comments|note|notes";
 
 /// What columns are called that have currencies.
 const CURRENCIES: &str =
@@ -56,7 +64,20 @@ pub(crate) enum Has {
 /// Whether a column of this name says which rows are valid, or has remarks.
 pub(crate) fn is_of_validity(name: &str) -> bool {
     let is_begun = BEGINNINGS.split('|').any(|word| begins(name, word));
-    is_one_of(VALID, name) || is_one_of(NOTES, name) || (is_begun && !has_one_of(OF_OTHERS, name))
+    is_one_of(VALID, name)
+        || is_one_of(NOTES, name)
+        || (is_begun && !has_one_of(OF_OTHERS, name))
+        || says_state(name)
+}
+
+/// Whether a name has one word, beside such as `is`, and it begins as one that says which rows are valid.
+fn says_state(name: &str) -> bool {
+    let mut words = name
+        .split(|c: char| !c.is_alphanumeric())
+        .filter(|word| !word.is_empty() && !is_one_of(BESIDE, word));
+    let (first, other) = (words.next(), words.next());
+    let is_begun = |word: &str| STEMS.split('|').any(|stem| begins(word, stem));
+    other.is_none() && first.is_some_and(is_begun)
 }
 
 impl Has {
@@ -78,6 +99,10 @@ impl Has {
         } else if name.eq_ignore_ascii_case("round") {
             is_votes.then_some(Has::Rounds)
         } else if is_one_of(VALID_OR_MORE, name) {
+            Some(Has::ValidOrMore)
+        } else if is_one_of(VALID, name) {
+            Some(Has::Valid)
+        } else if says_state(name) {
             Some(Has::ValidOrMore)
         } else if is_of_validity(name) {
             Some(Has::Valid)

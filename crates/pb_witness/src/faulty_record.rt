@@ -14,7 +14,7 @@ use crate::seen::Seen;
 use pb_read::Refusal;
 
 /// Characters that end a line elsewhere.
-const OTHER_LINE_ENDS: &str = "\u{85}\u{2028}\u{2029}";
+const OTHER_LINE_ENDS: &str = "\u{b}\u{c}\u{85}\u{2028}\u{2029}";
 
 /// A record that the reader refused.
 #[derive(Drop)]
@@ -100,8 +100,7 @@ impl FaultyRecord {
     /// Whether a space is before a quotation mark, in the refused value or in a field before it.
     pub fn is_spaced_quote(&self) -> bool {
         let (id, value) = self.places();
-        let is_it = |field: &str| field.starts_with(' ') && field.trim().starts_with('"');
-        (0..=value.max(id)).any(|place| is_it(raw_text(&self.record, place)))
+        (0..=value.max(id)).any(|place| is_spaced_mark(raw_text(&self.record, place)))
     }
 
     /// The line of the first quotation mark behind a backslash, if the record may be broken by it.
@@ -114,7 +113,33 @@ impl FaultyRecord {
 
     /// Whether a field has a line end that the reader does not take for one.
     pub fn has_other_line_end(&self) -> bool {
-        self.has(|field| field.contains(|c: char| OTHER_LINE_ENDS.contains(c)))
+        self.has(has_other_line_end)
+    }
+
+    /// Whether a field of a row stands behind the name of each needed column, with white space between them.
+    pub fn has_row_in_names(&self) -> bool {
+        let names = match self.stage {
+            Stage::Header(Section::Projects) => [Column::ProjectId, Column::Cost],
+            Stage::Header(Section::Votes) => [Column::VoterId, Column::Vote],
+            _ => return false,
+        };
+        let is_begun = |name: &str| self.has(|field| {
+            let (word, rest) = field.split_once(' ').unwrap_or(("", ""));
+            word.eq_ignore_ascii_case(name) && !rest.is_empty()
+        });
+        names.iter().all(|column| is_begun(column.name()))
+    }
+
+    /// Whether it is the number of a line and then the head META.
+    pub fn is_numbered(&self) -> bool {
+        let first = self.at(0);
+        let behind = first.trim_start_matches(|c: char| c.is_ascii_digit());
+        let is_blank = |c: char| c.is_whitespace() || ":.)".contains(c);
+        self.is_first()
+            && behind.len() < first.len()
+            && behind
+                .trim_start_matches(is_blank)
+                .eq_ignore_ascii_case("META")
     }
 
     /// Whether the name of a needed column is there, but for characters beside it that can't be seen.
@@ -353,6 +378,16 @@ impl FaultyRecord {
             .filter(|_| self.kind() == ReadKind::MissingColumn);
         joined?.separators()
     }
+}
+
+/// Whether a text has a line end that the reader does not take for one.
+pub fn has_other_line_end(text: &str) -> bool {
+    text.contains(|c: char| OTHER_LINE_ENDS.contains(c))
+}
+
+/// Whether a space stands before the quotation mark at a field's start.
+pub fn is_spaced_mark(field: &str) -> bool {
+    field.starts_with(' ') && field.trim().starts_with('"')
 }
 
 /// Whether two ids have the same text before their numbers, and are as long as each other.

@@ -1,6 +1,7 @@
 //! The ids of a file's projects, as far as a witness was shown them.
 
 use crate::changed::{last_word, plain};
+use crate::names_row::name_with_id;
 use crate::prelude::*;
 use crate::swallowed::later_lines;
 
@@ -12,6 +13,8 @@ pub struct Ids {
     /// Their names, in plain form, and the place of the column that has them.
     pub(crate) names: Firsts,
     name: Option<usize>,
+    /// The last column name and the first id, if the first row stands behind the column names.
+    behind_names: String,
     /// The projects that were left out.
     pub left_out: Firsts,
     /// The ids of rows that a quotation mark swallowed, each with where the row begins that has them in a
@@ -29,6 +32,7 @@ impl Ids {
             projects: Firsts::new(alloc),
             names: Firsts::new(alloc),
             name: None,
+            behind_names: String::new(alloc),
             left_out: Firsts::new(alloc),
             swallowed: Firsts::new(alloc),
             pieces: Firsts::new(alloc),
@@ -40,7 +44,8 @@ impl Ids {
         match part {
             Part::Names(Section::Projects) => {
                 self.name = column_of(record, "name");
-                Ok(())
+                self.behind_names
+                    .push_str(name_with_id(record, &self.projects))
             }
             Part::Project(columns) => {
                 self.keep_swallowed(record, mark)?;
@@ -85,6 +90,11 @@ impl Ids {
             }
             _ => Ok(()),
         }
+    }
+
+    /// Whether an id is that of a row which stands behind the column names.
+    pub(crate) fn are_behind_names(&self, id: &str) -> bool {
+        !id.is_empty() && self.behind_names.as_str().ends_with(id)
     }
 
     fn keep_project(&mut self, id: &str, mark: Mark) -> Result<(), AllocError> {

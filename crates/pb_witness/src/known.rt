@@ -23,6 +23,8 @@ pub struct ReadAgain {
     claimed: Option<u32>,
     /// If each row names one project, a further column that differs between the rows of a voter.
     pub varying: Option<usize>,
+    /// Whether each row with the id of an earlier one is the same as that.
+    pub are_copies: bool,
     /// The place of another column that has all ids that no project has, and whether it is of VOTES.
     pub elsewhere: Option<(usize, bool)>,
 }
@@ -87,6 +89,7 @@ impl ReadAgain {
         };
         let causes = causes_of(text, witness, &projects)?;
         let voters = first_rows(text, witness)?;
+        let are_copies = are_copies(text, &voters, witness);
         let is_by_project = witness.rows.is_by_project();
         let mut refused = witness.refused.iter().filter(|_| is_by_project);
         let varying = refused.find_map(|faulty| varying(text, &voters, faulty));
@@ -96,6 +99,7 @@ impl ReadAgain {
             causes,
             claimed,
             varying,
+            are_copies,
             elsewhere: elsewhere(text, witness)?,
         })
     }
@@ -117,9 +121,10 @@ impl Known<'_> {
         self.again.causes.get(place as usize).copied()
     }
 
-    /// Whether an id is unknown for this cause.
-    pub fn has(&self, cause: Cause) -> bool {
-        self.again.causes.iter().any(|found| found.cause == cause)
+    /// How many ids are unknown for this cause.
+    pub fn ids_for(&self, cause: Cause) -> usize {
+        let causes = self.again.causes.iter();
+        causes.filter(|found| found.cause == cause).count()
     }
 
     /// Why a row has the id of an earlier one.
@@ -139,13 +144,18 @@ impl Known<'_> {
             } else {
                 Repeat::ByProject
             }
-        } else if is_voter && self.again.claimed.map(u64::from) == Some(rows.count()) {
+        } else if is_voter && !self.again.are_copies && self.claims_all() {
             Repeat::OtherPeople
         } else if is_voter && rows.voters_repeated == 1 && rows.rows_repeated > 2 {
             Repeat::OneId
         } else {
             self.beside_earlier(text, faulty)
         }
+    }
+
+    /// Whether META says that there are as many votes as rows.
+    fn claims_all(&self) -> bool {
+        self.again.claimed.map(u64::from) == Some(self.witness.rows.count())
     }
 
     /// The rows among the first that are refused which repeat a voter's id for this reason.
@@ -181,6 +191,18 @@ impl Known<'_> {
             _ => Repeat::Unknown,
         }
     }
+}
+
+/// Whether each of the first rows that are refused for a voter's repeated id is the same as the first row of the voter.
+fn are_copies<R: Files>(text: &Text<'_, R>, voters: &FirstRows, witness: &Witness) -> bool {
+    let is_copy = |faulty: &FaultyRecord| {
+        let mark = faulty.refusal.earlier.and_then(|place| voters.mark(place));
+        let first = mark.and_then(|mark| text.row_at(mark));
+        first.is_some_and(|first| first.as_slice() == faulty.record.as_slice()
+            && first.len() == faulty.record.len())
+    };
+    let mut refused = witness.refused.iter();
+    refused.all(|faulty| faulty.kind() != ReadKind::RepeatedVoter || is_copy(faulty))
 }
 
 /// The place of a further column in which a row differs from the first row of its voter, times aside.

@@ -7,6 +7,7 @@
 //! result can change by it but by `--strict`, which refuses a file for a warning.
 #![tactic(auto)]
 
+mod approvals;
 pub mod audited;
 pub mod behind_vote;
 mod beside_vote;
@@ -29,6 +30,7 @@ mod last_vote;
 pub mod mark;
 mod meta_oddities;
 mod moved_cells;
+mod names_row;
 pub mod oddities;
 pub mod page_notes;
 mod prelude;

@@ -14,7 +14,8 @@ use std::mem;
 const NO_DISTRICT: &str =
     "total|overall|whole|city|max|maximum|min|minimum|average|project|spent|used|unused|left|\
     leftover|remaining|rest|reserve|available|previous|last|next|year|final|id|phase|code|number|no|\
-    version|share|edition";
+    version|share|edition|eur|euro|usd|gbp|pln|chf|czk|huf|ron|bgn|sek|nok|dkk|isk|uah|rub|try|cad|aud|\
+    jpy|cny|krw|inr|brl|mxn|zar";
 
 /// The fewest projects of which most should not cost more than the budget.
 const MANY: usize = 5;
@@ -153,7 +154,7 @@ impl MetaOddities {
             self.rule_mark = mark;
         } else {
             self.take_further(key, value, mark);
-            self.unread.take(value, mark)?;
+            self.unread.take((key, value), mark)?;
         }
         Ok(())
     }

@@ -38,10 +38,11 @@ const LISTED: [Oddity; 27] = [
 
 /// The kinds that can change a result, in the order in which a count tells them; `--strict` refuses the
 /// first.
-const TOLD: [Oddity; 22] = [
+const TOLD: [Oddity; 23] = [
     Oddity::VotesMissing,
     Oddity::ProjectsMissing,
     Oddity::SurplusFields,
+    Oddity::CommaInId,
     Oddity::ThousandsMark,
     Oddity::RepeatedKey,
     Oddity::FooterRow,

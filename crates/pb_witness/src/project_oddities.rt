@@ -1,11 +1,13 @@
 //! What is odd in PROJECTS.
 
+use crate::approvals::Approvals;
 use crate::behind_vote::names_other;
-use crate::changed::{has_digit, has_one_of, is_decimal, is_one_of};
+use crate::changed::{has_digit, has_one_of, is_one_of, is_power};
 use crate::columns::FurtherColumns;
 use crate::meta_oddities::{
     has_decimals, has_thousands_mark, may_be_sum, sum_of_costs, whole_number,
 };
+use crate::names_row::NamesRow;
 use crate::prelude::*;
 use crate::twins::Twins;
 use crate::unread::Unread;
@@ -52,6 +54,7 @@ pub(crate) struct ProjectOddities {
     alloc: Global,
     /// How many column names there are.
     pub(crate) names: usize,
+    first_row: NamesRow,
     /// The places of the columns with names, and of those that claim a result.
     name: Option<usize>,
     votes: Option<usize>,
@@ -76,11 +79,13 @@ impl ProjectOddities {
         names: &ByteRecord,
         header: Mark,
         fewest: Option<u64>,
+        projects: &Firsts,
     ) -> Result<ProjectOddities, AllocError> {
         let is_of_district = |place: &usize| is_one_of(DISTRICTS, text_at(names, *place));
         Ok(ProjectOddities {
             alloc,
             names: names.len(),
+            first_row: NamesRow::of(names, header, Section::Projects, projects),
             name: column_of(names, "name"),
             votes: column_of(names, "votes"),
             selected: column_of(names, "selected"),
@@ -105,6 +110,7 @@ impl ProjectOddities {
             found.take(row.odd(Oddity::FooterRow).in_form(5));
         }
         self.take_cut(row, found);
+        self.first_row.take(row.record);
         let name = row.at(self.name.unwrap_or(usize::MAX));
         let district = row.at(self.district.unwrap_or(usize::MAX));
         self.twins.take(row, (name, district), found)?;
@@ -130,7 +136,9 @@ impl ProjectOddities {
     fn take_cut(&self, row: &Row<'_>, found: &mut Oddities) {
         let odd = row.odd(Oddity::CutName);
         let is_long = (self.names..row.record.len()).any(|place| !row.at(place).is_empty());
-        if is_long && self.name.is_some() {
+        // Of rows that a quotation mark swallowed there is another word.
+        let is_one_line = !row.record.as_slice().contains(&b'\n');
+        if is_long && (is_one_line || self.name.is_some()) {
             found.take(odd.by(self.names as u64));
         }
         for place in 0..row.record.len() {
@@ -155,6 +163,7 @@ impl ProjectOddities {
         found: &mut Oddities,
     ) -> Result<(), AllocError> {
         found.take_some(self.withdrawn);
+        self.first_row.end(found);
         self.further.end(found);
         self.unread.end(found)
     }
@@ -169,29 +178,25 @@ impl ProjectOddities {
     ) -> Result<(), AllocError> {
         self.take_total(election, found);
         let compares = self.votes.is_some() && !has_fault;
-        let is_check = found.tells(Oddity::NoSupporter);
-        let supporters = supporters_of(self.alloc, election)?;
+        let approvals = Approvals::of(self.alloc, election)?;
+        let supporters = approvals.all.as_slice();
         if !found.refuses_votes {
-            self.twins.end(supporters.as_slice(), found);
-            self.values.end(election, supporters.as_slice(), found);
+            self.twins.end(supporters, found);
+            self.values.end(election, supporters, found);
         }
-        let form = if self.has_other_ids(&supporters) {
-            2
-        } else {
-            0
-        };
+        let form = if self.has_other_ids(supporters) { 2 } else { 0 };
         let rows = self.accepted.iter().zip(election.projects());
-        for ((row, project), number) in rows.zip(&supporters) {
-            if project.id().contains(',') {
-                found.take(row.odd.as_a(Oddity::CommaInId));
-            }
+        for (place, ((row, project), number)) in rows.zip(supporters).enumerate() {
+            take_comma(row.odd, project.id(), projects, found);
             if project.cost().0 > election.budget().0 {
                 found.take(row.odd.as_a(Oddity::OverBudget));
             }
             if *number == 0 && !found.refuses_votes {
-                let odd = row.odd.as_a(Oddity::NoSupporter).at(row.odd.id_place);
-                let form = usize::from(is_check && is_shortened(project.id(), projects));
-                found.take(odd.in_form(form));
+                found.take(row.odd.as_a(Oddity::NoSupporter));
+            }
+            if !found.refuses_votes && approvals.are_lost(place, project.id(), projects) {
+                let odd = row.odd.as_a(Oddity::RepeatedKey).in_form(4);
+                found.take(odd.at(row.odd.id_place));
             }
             let odd = row.odd.as_a(Oddity::VotesOf).by(*number);
             if compares && row.votes.is_some_and(|votes| votes != Some(*number)) {
@@ -204,7 +209,7 @@ impl ProjectOddities {
                 });
             }
         }
-        drop(supporters);
+        drop(approvals);
         Ok(())
     }
 
@@ -269,24 +274,17 @@ fn claimed(row: &Row<'_>, column: Option<usize>) -> Option<Option<u64>> {
     (!value.is_empty()).then_some(whole_number(value))
 }
 
-/// Whether an id is a number with zeros at its end, and without them that of another project.
-fn is_shortened(id: &str, projects: &Firsts) -> bool {
-    let short = id.trim_end_matches('0');
-    is_decimal(id) && short.len() < id.len() && projects.has(short)
-}
-
-/// How many ballots approve each project.
-fn supporters_of(alloc: Global, election: &Election) -> Result<Vec<u64>, AllocError> {
-    let mut counts = Vec::new(alloc);
-    counts.resize(election.projects().len(), 0u64)?;
-    for voter in election.voters() {
-        for place in voter.ballot.places() {
-            if let Some(count) = counts.get_mut(*place as usize) {
-                *count = count.saturating_add(1);
-            }
-        }
+/// Takes a project whose id has a comma; a count is told only where votes for it count for others.
+fn take_comma(odd: Odd, id: &str, projects: &Firsts, found: &mut Oddities) {
+    let are_others = names_other(id, &[], projects).is_some();
+    let form = if is_power(id) {
+        2
+    } else {
+        usize::from(are_others)
+    };
+    if id.contains(',') && (are_others || found.is_of_check()) {
+        found.take(odd.as_a(Oddity::CommaInId).in_form(form));
     }
-    Ok(counts)
 }
 
 /// Whether a text has a word for a total.

@@ -120,6 +120,10 @@ impl Projects {
         if !name.is_empty() {
             self.note(By::Name, name, place)?;
         }
+        // A vote is cut at the commas of a name.
+        for part in name.split(',').filter(|part| part.len() < name.len()) {
+            self.note(By::Name, part, place)?;
+        }
         for word in name.split(|c: char| c.is_whitespace() || "()[],;:/+".contains(c)) {
             if witness.unknown.place(word).is_some() {
                 self.note(By::Mention, word, place)?;

@@ -38,7 +38,7 @@ pub struct VoteRows {
     /// Whether a vote that is accepted names a project, or several, where some are refused for an unknown id;
     /// and whether one of these has a comma.
     pub(crate) has_bare: bool,
-    has_list: bool,
+    pub(crate) has_list: bool,
     pub(crate) has_comma: bool,
     /// How many commas the last vote with ids has, and whether all have as many.
     commas: Option<usize>,

@@ -32,6 +32,9 @@ pub(crate) fn swallows_row(
         return false;
     }
     for place in 0..record.len() {
+        if joins_two(record, place, names) {
+            return true;
+        }
         let (first, lines) = raw_text(record, place).split_once('\n').unwrap_or(("", ""));
         let lines = lines.strip_suffix('\n').unwrap_or(lines);
         let last = lines.split('\n').count();
@@ -51,6 +54,22 @@ pub(crate) fn swallows_row(
         }
     }
     false
+}
+
+/// Whether the lines of a field seem to be the end of a row and the beginning of another one: with them both rows have a
+/// field for each name, and a quotation mark is left over.
+fn joins_two(record: &ByteRecord, place: usize, names: usize) -> bool {
+    let field = raw_text(record, place);
+    let first = field.split_once('\n').map_or("", |(first, _)| first);
+    let last = field.rsplit('\n').next().unwrap_or("");
+    let (ends, begins) = (first.split(';').count(), last.split(';').count());
+    let behind = record.len().saturating_sub(place);
+    let is_left = field.split('"').count() % 2 == 0;
+    is_left
+        && ends > 1
+        && begins > 1
+        && place.saturating_add(ends) == names
+        && begins.saturating_add(behind) == names.saturating_add(1)
 }
 
 /// Whether a line seems to be a row of META that the count uses, of a project with a cost, or of a voter who

@@ -1,6 +1,6 @@
 //! The votes that are refused since they name an id that no project has, by that id.
 
-use crate::changed::is_in_brackets;
+use crate::changed::{is_empty_list, is_in_brackets};
 use crate::meta_oddities::whole_number;
 use crate::prelude::*;
 use pb_read::MOST_FAULTS;
@@ -84,6 +84,8 @@ pub struct UnknownIds {
     pub found: Vec<Unknown>,
     /// How many votes are refused for one of them.
     pub votes: u64,
+    /// Whether brackets are around one id alone.
+    pub(crate) has_one_in_brackets: bool,
 }
 
 impl UnknownIds {
@@ -93,6 +95,7 @@ impl UnknownIds {
             places: IdTable::new(alloc),
             found: Vec::new(alloc),
             votes: 0,
+            has_one_in_brackets: false,
         }
     }
 
@@ -106,6 +109,8 @@ impl UnknownIds {
     ) -> Result<(), AllocError> {
         self.votes = self.votes.saturating_add(1);
         let is_beside = id.len() < vote.len();
+        let is_one = is_in_brackets(vote) && !vote.contains(',') && !is_empty_list(vote);
+        self.has_one_in_brackets |= is_one;
         if self.places.get(id).is_none() && self.found.len() < MOST_FAULTS {
             let place = u32::try_from(self.found.len()).unwrap_or(u32::MAX);
             self.places.insert(alloc, id, place)?;

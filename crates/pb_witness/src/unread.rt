@@ -2,13 +2,19 @@
 //! and VOTES that are empty in most rows, and in values of META that name a project or a voter.
 
 use crate::behind_vote::OF_VOTERS;
-use crate::changed::{has_digit, is_one_of};
+use crate::changed::{has_digit, has_one_of, is_one_of};
 use crate::columns::MOST_COLUMNS;
+use crate::meta_oddities::whole_number;
 use crate::prelude::*;
 
 /// What columns are called whose texts say nothing of whether the row counts, beside those of voters.
 const USUAL: &str =
     "voter_id|vote|project_id|cost|comment|against|name|category|target|url|link|image|address|location|description";
+
+/// Words in a key that asks for so many votes, which no count uses.
+const LIMITS: &str = "min|minimum|quorum|threshold";
+
+const OF_VOTES: &str = "vote|votes|ballot|ballots|approvals|support|supporters|quorum|turnout";
 
 /// How many rows with a text may come before most rows have none.
 const MANY: u64 = 8;
@@ -107,8 +113,12 @@ impl UnreadKeys {
         }
     }
 
-    /// Takes a value that stands in the row that begins here.
-    pub(crate) fn take(&mut self, value: &str, mark: Mark) -> Result<(), AllocError> {
+    /// Takes a key with a value, whose row begins here.
+    pub(crate) fn take(
+        &mut self,
+        (key, value): (&str, &str),
+        mark: Mark,
+    ) -> Result<(), AllocError> {
         let place = u32::try_from(self.rows.len()).unwrap_or(u32::MAX);
         let mut has_ids = false;
         for word in value.split(|c: char| !c.is_alphanumeric() && c != '-' && c != '_') {
@@ -117,14 +127,16 @@ impl UnreadKeys {
                 has_ids = true;
             }
         }
-        if has_ids {
-            self.rows
-                .push(Odd::of_key(Oddity::ValidColumn, mark).in_form(1))?;
+        let is_limit = has_one_of(LIMITS, key) && has_one_of(OF_VOTES, key);
+        let sets_one = is_limit && whole_number(value).is_some_and(|number| number > 1);
+        if has_ids || sets_one {
+            let odd = Odd::of_key(Oddity::ValidColumn, mark);
+            self.rows.push(odd.in_form(usize::from(sets_one)))?;
         }
         Ok(())
     }
 
-    /// Takes the end of the file: of each id in one of them its row is odd.
+    /// Takes the end of the file: of each id in one of them its row is odd, and each that sets a limit.
     pub(crate) fn end(&self, election: &Election, found: &mut Oddities) -> Result<(), AllocError> {
         if self.rows.is_empty() {
             return Ok(());
@@ -138,7 +150,7 @@ impl UnreadKeys {
             self.say(voter.id.text(), &mut is_said);
         }
         for (odd, is_said) in self.rows.iter().zip(&is_said) {
-            if *is_said {
+            if *is_said || odd.form > 0 {
                 found.take_unread(*odd)?;
             }
         }

@@ -6,6 +6,7 @@ use crate::changed::{form_of, has_digit, has_one_of, without_hidden};
 use crate::columns::FurtherColumns;
 use crate::last_vote::LastVote;
 use crate::meta_oddities::whole_number;
+use crate::names_row::NamesRow;
 use crate::prelude::*;
 use crate::project_oddities::has_total;
 use crate::rankings::Rankings;
@@ -25,11 +26,13 @@ pub(crate) struct VoteOddities {
     /// Where the row of column names begins, and how many there are.
     header: Mark,
     pub(crate) names: usize,
+    first_row: NamesRow,
     further: FurtherColumns,
     behind: BehindVote,
     beside: BesideVote,
     unread: Unread,
-    /// The voters whose ids have a character at an end that can't be seen: the place among all, and the row.
+    /// The voters whose ids have a character at an end that can't be seen, or are e-mail addresses with capital letters:
+    /// the place among all, and the row.
     marked: Vec<(u32, Mark)>,
     /// Where the last row begins, and what it is.
     last_row: Option<(Mark, Part)>,
@@ -59,6 +62,7 @@ impl VoteOddities {
             alloc,
             header,
             names: names.len(),
+            first_row: NamesRow::of(names, header, Section::Votes, projects),
             further: FurtherColumns::of(alloc, names, header, Section::Votes)?,
             behind: BehindVote::of(alloc, names, header, projects)?,
             beside: BesideVote::of(alloc, names, header)?,
@@ -92,6 +96,7 @@ impl VoteOddities {
             found.take(row.odd(Oddity::TwiceInVote));
         }
         self.last_row = Some((row.mark, row.part));
+        self.first_row.take(row.record);
         self.beside.take(row);
         self.unread.take(row);
         self.take_id(row, found)?;
@@ -112,7 +117,8 @@ impl VoteOddities {
     fn take_id(&mut self, row: &Row<'_>, found: &mut Oddities) -> Result<(), AllocError> {
         let id = bytes_at(row.record, row.places().0);
         let is_plain = is_plain_end(id.first()) && is_plain_end(id.last());
-        if !is_plain && is_marked(row.id()) {
+        let is_address = id.contains(&b'@') && has_capital(row.id());
+        if is_address || (!is_plain && is_marked(row.id())) {
             let voters = row.election.voters().len().saturating_sub(1);
             let place = u32::try_from(voters).unwrap_or(u32::MAX);
             self.marked.push((place, row.mark))?;
@@ -223,6 +229,7 @@ impl VoteOddities {
             let odd = Odd::of_column(Oddity::VotesWithPoints, self.header, odd.value_place);
             found.take(odd.in_form(1).by(projects));
         }
+        self.first_row.end(found);
         self.further.end(found);
         self.behind.end(self.alloc, &self.beside, found)?;
         self.unread.end(found)?;
@@ -250,24 +257,29 @@ impl VoteOddities {
         Ok(true)
     }
 
-    /// Takes the rows of voters who are there twice but for a character that can't be seen.
+    /// Takes the rows of voters who are there twice but for a character that can't be seen, or for capital letters of
+    /// an e-mail address.
     fn take_marked(&self, election: &Election, found: &mut Oddities) -> Result<(), AllocError> {
         if self.marked.is_empty() {
             return Ok(());
         }
         let mut ids = IdTable::new(self.alloc);
+        let is_other = |id: &str| is_marked(id) || (id.contains('@') && has_capital(id));
         for voter in election
             .voters()
             .iter()
-            .filter(|voter| !is_marked(voter.id.text()))
+            .filter(|voter| !is_other(voter.id.text()))
         {
             let _ = ids.insert(self.alloc, voter.id.text(), 0)?;
         }
         for (place, mark) in &self.marked {
             let voter = election.voters().get(*place as usize);
-            let bare = voter.map_or("", |voter| without_hidden(voter.id.text()));
-            if let (Some(_), Some((_, part))) = (ids.insert(self.alloc, bare, 0)?, self.last_row) {
-                found.take(Odd::of_row(Oddity::HiddenCharacter, *mark, part));
+            let id = voter.map_or("", |voter| voter.id.text());
+            let bare = bare_id(self.alloc, id)?;
+            let before = ids.insert(self.alloc, bare.as_str(), 0)?;
+            if let (Some(_), Some((_, part))) = (before, self.last_row) {
+                let odd = Odd::of_row(Oddity::HiddenCharacter, *mark, part);
+                found.take(odd.in_form(usize::from(!is_marked(id))));
             }
         }
         drop(ids);
@@ -326,6 +338,25 @@ fn is_marked(id: &str) -> bool {
     let is_foreign = |byte: Option<&u8>| byte.is_some_and(|byte| !byte.is_ascii());
     let has_some = is_foreign(bytes.first()) || is_foreign(bytes.last());
     has_some && without_hidden(id).len() < id.len()
+}
+
+/// Whether a text has a capital letter of ASCII.
+fn has_capital(text: &str) -> bool {
+    text.contains(|c: char| c.is_ascii_uppercase())
+}
+
+/// An id without the characters at its ends that can't be seen, and an e-mail address in small letters.
+fn bare_id(alloc: Global, id: &str) -> Result<String, AllocError> {
+    let bare = without_hidden(id);
+    let mut out = String::new(alloc);
+    for c in bare.chars() {
+        out.push(if bare.contains('@') {
+            c.to_ascii_lowercase()
+        } else {
+            c
+        })?;
+    }
+    Ok(out)
 }
 
 /// Whether a text has white space in it.

@@ -144,7 +144,8 @@ impl Warnings {
                 self.meta.end_meta(found);
                 take_repeated(names, mark, [Column::ProjectId, Column::Cost], found);
                 let fewest = self.meta.fewest;
-                self.projects = Some(ProjectOddities::of(self.alloc, names, mark, fewest)?);
+                let ids = &self.witness.ids.projects;
+                self.projects = Some(ProjectOddities::of(self.alloc, names, mark, fewest, ids)?);
             }
             Section::Votes => {
                 if let Some(projects) = &self.projects {

@@ -3,6 +3,7 @@
 use crate::changed::is_nothing;
 use crate::faulty_record::{FaultyRecord, piece_of};
 use crate::ids::Ids;
+use crate::meta_oddities::has_thousands_mark;
 use crate::prelude::*;
 use crate::rows::VoteRows;
 use crate::seen::Seen;
@@ -20,6 +21,8 @@ pub struct Witness {
     /// The rows of VOTES.
     pub rows: VoteRows,
     pub refused: Vec<FaultyRecord>,
+    /// Whether an amount has three digits behind a mark, which may separate thousands.
+    pub has_thousands: bool,
     /// Whether all was kept: no memory was refused.
     pub is_whole: bool,
 }
@@ -34,6 +37,7 @@ impl Witness {
             unknown: UnknownIds::new(alloc),
             rows: VoteRows::new(alloc),
             refused: Vec::new(alloc),
+            has_thousands: false,
             is_whole: true,
         }
     }
@@ -61,6 +65,12 @@ impl Witness {
         if self.ids.take(record, mark, part).is_err() {
             self.is_whole = false;
         }
+        let amount = match part {
+            Part::Project(columns) => text_at(record, columns.cost),
+            Part::Key => text_at(record, 1),
+            _ => "",
+        };
+        self.has_thousands |= has_thousands_mark(amount);
         if let Part::Vote(columns) = part {
             self.rows.first = self.rows.first.or(Some(mark));
             self.rows.accepted = self.rows.accepted.saturating_add(1);

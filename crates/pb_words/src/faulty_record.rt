@@ -1,7 +1,7 @@
 //! What is wrong with a record of a .pb file, in words.
 
 use crate::prelude::*;
-use crate::read_rules::{amount_remedy, fine_remedy, put_broken, words_of};
+use crate::read_rules::{NO_AMOUNT, amount_remedy, fine_remedy, put_broken, words_of};
 use crate::section::{NO_NAMES, Names, missing, names_of, wrong_head};
 use pb_read::{Section, Stage};
 use pb_witness::fields::{column_of, has_more, place_of_no_text};
@@ -21,10 +21,14 @@ const NAMES_AND_ROW: &str =
 const NAMES_BELOW: &str =
     "The row of column names stands further below. Move it up, to the line below the heading. If what then stands below it is no row of the table, do what it says of other rows before you delete it.\n";
 
+/// What to do where each name has a field of the first row behind it.
+const NAMES_JOINED: &str =
+    "Behind each column name stands a field of the first row. Write the names alone on this line, and these fields as a row below it.\n";
+
 const NOTE_ABOVE: &str =
     "The row of column names stands further below. If this line says that rows are left out or not valid, or what signs or amounts mean, ask first. If not, delete it.\n";
 
-const LINE_ENDS: &str =
+pub(crate) const LINE_ENDS: &str =
     "The line ends are characters that the program does not read as such. Save the file again with those of Unix or Windows.\n";
 
 /// So many column names are shown.
@@ -68,8 +72,7 @@ impl<R: Files> Case<'_, R> {
             (ReadKind::MissingField, _) if self.faulty.is_invisible() =>
                 "Delete the line. (Some programs put such a character at the end of a file.)\n",
             (ReadKind::BadMoney, Stage::InProjects(_))
-                if self.faulty.is_id_alone() || self.faulty.value().starts_with("--") =>
-                "If it is a project, write its whole amount with digits only, like `1200` or `1200.50`. If it is a heading, a note or a line of dashes, do what it says of the rows above or below it before you delete it. If it begins another table, take all of that table out; if it has budgets of districts or the like, this program can't count the file.\n",
+                if self.faulty.is_id_alone() || self.faulty.value().starts_with("--") => NO_AMOUNT,
             (ReadKind::BadMoney, _) => amount_remedy(self.faulty.value()),
             (ReadKind::MoneyTooFine, _) => fine_remedy(self.faulty.value()),
             (ReadKind::MissingField, Stage::InProjects(_)) if is_one =>
@@ -89,6 +92,8 @@ impl<R: Files> Case<'_, R> {
             "Delete the invisible character before META, or type META anew.\n"
         } else if self.faulty.has_other_line_end() {
             LINE_ENDS
+        } else if first.is_empty() && column_of(&self.faulty.record, "META").is_some() {
+            "Each row begins with an empty field. Delete the first `;` of each row.\n"
         } else if first.starts_with('>') {
             "E-mail programs write `> ` before each line of a reply. Get the file again, as an attachment.\n"
         } else {
@@ -111,6 +116,8 @@ impl<R: Files> Case<'_, R> {
             BY_COLUMN
         } else if self.has_row_behind() {
             NAMES_AND_ROW
+        } else if self.faulty.has_row_in_names() {
+            NAMES_JOINED
         } else if self.has_note_above() {
             NOTE_ABOVE
         } else if self.has_names_below() {
@@ -141,7 +148,7 @@ impl<R: Files> Case<'_, R> {
     }
 
     /// Whether these are one field in place of column names, as a note is, and a row below has the names.
-    fn has_note_above(&self) -> bool {
+    pub(crate) fn has_note_above(&self) -> bool {
         let is_kind = self.faulty.kind() == ReadKind::MissingColumn;
         is_kind && !has_more(&self.faulty.record) && self.has_names_below()
     }
@@ -205,7 +212,9 @@ impl<R: Files> Case<'_, R> {
         let is_cut = self.faulty.record.len() > MOST_NAMES;
         out.put(if is_cut { ", and others.\n" } else { ".\n" });
         // Behind an odd line end the name would take the first row's field with it.
-        let has_other = self.faulty.has_other_line_end() || self.has_row_behind();
+        let has_other = self.faulty.has_other_line_end()
+            || self.has_row_behind()
+            || self.faulty.has_row_in_names();
         if !has_other && !self.known.witness.ids.are_columns(&self.faulty.record) {
             self.put_nearly(out, column);
         }

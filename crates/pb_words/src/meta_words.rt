@@ -67,6 +67,13 @@ impl<R: Files> Case<'_, R> {
         true
     }
 
+    /// Whether META's row of column names has two of its keys beside each other.
+    fn has_keys_beside(&self) -> bool {
+        let names = self.text.row_at(self.faulty.seen.names);
+        let is_key = |row: &ByteRecord| MetaKey::of(text_at(row, 1)).is_some();
+        names.is_some_and(|row| is_key(&row))
+    }
+
     /// Puts which key META lacks, and what to do.
     pub(crate) fn put_missing_key(&self, out: &mut WordsWriter) {
         let seen = &self.faulty.seen;
@@ -74,10 +81,12 @@ impl<R: Files> Case<'_, R> {
         let names = self.text.row_at(seen.names);
         if names.is_some_and(|row| text_at(&row, 0).eq_ignore_ascii_case(key.text())) {
             let _ = put_mark(out, self.text, seen.names);
-            return out.fill(
-                ": this row, with the key `{}`, was taken for META's row of column names.\nWrite `key;value` on a line of its own above it.\n",
-                &[Own(key.text())],
-            );
+            let form = if self.has_keys_beside() {
+                ": the keys of META stand beside each other here, as `{}`, and their values below.\nWrite a row `key;value`, and below it a row for each key, with its value behind `;`.\n"
+            } else {
+                ": this row, with the key `{}`, was taken for META's row of column names.\nWrite `key;value` on a line of its own above it.\n"
+            };
+            return out.fill(form, &[Own(key.text())]);
         }
         if put_like_key(out, self.text, key.text()) {
             return;
@@ -126,7 +135,9 @@ fn value_remedy(kind: ReadKind, value: &str) -> &'static str {
             "This program counts approval votes only. Use another program for this file.\n",
         (ReadKind::VoteType, _) if value.eq_ignore_ascii_case(ONE_CHOICE) =>
             "If each voter picks one project, the votes can be counted as approval votes: write `vote_type;approval`.\n",
-        (ReadKind::BadMoney, _) => amount_remedy(value),
+        (ReadKind::BadMoney, _) if value.contains(|c: char| c.is_ascii_digit()) => amount_remedy(
+            value,
+        ),
         (ReadKind::MoneyTooFine, _) => fine_remedy(value),
         _ => words_of(kind).1,
     }
@@ -246,7 +257,12 @@ pub(crate) fn put_odd_head<R: Files>(out: &mut WordsWriter, text: &Text<R>, odd:
     out.fill(
         form,
         &[Number(line_of(text, odd.mark)), Own(head_of(odd.section))],
-    )
+    );
+    let head = head_of(odd.section);
+    let is_it = |row: &ByteRecord| without_hidden(text_at(row, 0)).eq_ignore_ascii_case(head);
+    if text.row_at(odd.mark).is_some_and(|row| is_it(&row)) {
+        put_clean(out, text, "");
+    }
 }
 
 /// Puts what to do where META's head stands behind the record with this mark, and answers whether it does.

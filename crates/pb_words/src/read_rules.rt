@@ -17,6 +17,10 @@ const CURRENCIES: &str =
 const BESIDE: &str =
     "What stands beside the digits may make it another amount: one below 0, in thousands or cents, without tax, for a year or a piece, a calculation, or one that a program or a scanner changed. Don't just delete it. Find out the right amount, and write it with digits only, like `1200` or `1200.50`.\n";
 
+/// What to do about an amount without a digit.
+pub(crate) const NO_AMOUNT: &str =
+    "If it is a project, write its whole amount with digits only, like `1200` or `1200.50`. If the row has titles, units or types of the columns, or was only prepared, delete it. If it is a heading, a note or a line of dashes, do what it says of the rows above or below it before you delete it. If it begins another table, take all of that table out; if it has budgets of districts or the like, this program can't count the file.\n";
+
 /// What to do about an amount.
 pub(crate) fn amount_remedy(value: &str) -> &'static str {
     let is_of_number = |c: char| c.is_ascii_digit() || c.is_whitespace() || ".,".contains(c);
@@ -31,7 +35,9 @@ pub(crate) fn amount_remedy(value: &str) -> &'static str {
         NAMES_AGAIN
     } else if value.starts_with('#') {
         "A spreadsheet writes this where a column is too narrow, or a formula is wrong. Get the amount again.\n"
-    } else if is_grouped(value) || number.is_empty() {
+    } else if number.is_empty() {
+        NO_AMOUNT
+    } else if is_grouped(value) {
         words_of(ReadKind::BadMoney).1
     } else if is_broken || without_hidden(value).split(is_of_number).any(is_other) {
         BESIDE
@@ -89,7 +95,7 @@ pub(crate) fn clean_options(kind: ReadKind, value: &str) -> Option<&'static str>
 }
 
 /// Whether a value is the column's name, as where a row has the column names again.
-fn is_cost(value: &str) -> bool {
+pub(crate) fn is_cost(value: &str) -> bool {
     value.eq_ignore_ascii_case(Column::Cost.name())
 }
 

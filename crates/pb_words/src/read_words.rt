@@ -109,12 +109,13 @@ fn put_each_fault<'c, R: Files>(
     }
 }
 
-/// How many causes there are of which words are put once: those of repeated ids, and marks of conflicts.
-const MANY_CAUSES: usize = Repeat::COUNT + 1;
+/// How many causes there are of which words are put once: those of repeated ids, marks of conflicts, and a row that is meant
+/// as a head.
+const MANY_CAUSES: usize = Repeat::COUNT + 2;
 
 impl<R: Files> Case<'_, R> {
     /// The number of the cause of a record's fault, if words for it are put once: a voter's repeated id, a
-    /// mark of a merge conflict.
+    /// mark of a merge conflict, a row that is meant as a head.
     fn cause_number(&self) -> Option<usize> {
         match self.faulty.kind() {
             ReadKind::UnknownProject => None,
@@ -122,7 +123,12 @@ impl<R: Files> Case<'_, R> {
                 let repeat = self.known.repeat_of(self.text, self.faulty);
                 (repeat.is_shared() || self.text.is_file()).then_some(repeat as usize)
             }
-            _ => self.faulty.is_conflict().then_some(Repeat::COUNT),
+            _ if self.faulty.is_conflict() => Some(Repeat::COUNT),
+            _ if self.faulty.seen.swallowing.is_some() => None,
+            _ => self
+                .faulty
+                .odd_head()
+                .map(|_| Repeat::COUNT.saturating_add(1)),
         }
     }
 

@@ -6,12 +6,13 @@ use crate::meta_words::{
     VOTE, put_cleaning, put_joined, put_late_meta, put_odd_head, put_separate,
 };
 use crate::prelude::*;
-use crate::row_causes::CUT_CODE;
+use crate::read_rules::is_cost;
+use crate::row_causes::{ESCAPED, SPACED, cut_cause};
 use crate::section::{due_at_end, end_remedy};
 use crate::unknown_words::{LATE_PROJECT, is_cut_code, put_clean};
 use pb_read::Stage;
 use pb_witness::cause::Cause;
-use pb_witness::fields::JoinedBy;
+use pb_witness::fields::{JoinedBy, column_of};
 use pb_witness::heads::{head_of, section_of};
 use pb_witness::quote::{Span, span_of};
 
@@ -114,12 +115,14 @@ impl<R: Files> Case<'_, R> {
                 out.fill(": the text on line {}", &[Number(line)])
             }
             out.put(
-                " has `\\\"`, as some databases write a quotation mark, but in a .pb file two stand for one.\nWrite `\"\"` in place of each `\\\"`, or save the file again without such escapes.\n",
+                " has `\\\"`, as some databases write a quotation mark, but in a .pb file two stand for one.\n",
             );
+            out.put(ESCAPED);
         } else if self.faulty.is_spaced_quote() {
             out.put(
-                ": a space is before a quotation mark, so the mark is read as part of the text.\nDelete the space between `;` and the quotation mark.\n",
+                ": a space is before a quotation mark, so the mark is read as part of the text.\n",
             );
+            out.put(SPACED);
             put_clean(out, self.text, "");
         } else if put_unclosed(out, span) {
             out.put(CLOSE_IT);
@@ -210,11 +213,12 @@ impl<R: Files> Case<'_, R> {
                 out, self.text, joined,
             ),
             Some(_) => {}
-            None if self.is_hidden() => put_clean(out, self.text, ""),
+            None if self.is_hidden() || self.has_note_above() => put_clean(out, self.text, ""),
             None if self.faulty.is_by_project() => out.fill(
                 "If each voter has a row for each project, `pb_clean {} -o NEW.pb --repeated-voters merge` makes one ballot of a voter's rows. If each row is a person, call the column `vote`.\n",
                 &[Name(self.text.path)],
             ),
+            None if is_cost(self.faulty.value()) && !self.has_names_again() => {}
             None => put_cleaning(out, self.text, self.faulty.kind(), self.faulty.value()),
         }
     }
@@ -228,7 +232,11 @@ impl<R: Files> Case<'_, R> {
     /// Puts what to do about a row that seems to be none of its section, or half of one; answers whether it
     /// seems so.
     fn put_row_words(&self, out: &mut WordsWriter) -> bool {
-        if self.faulty.record.len() == 1 && self.faulty.at(0).starts_with('{') {
+        if self.faulty.is_numbered() {
+            out.put(
+                "Delete the number at the beginning of each line, with the tab or the space behind it.\n",
+            )
+        } else if self.faulty.record.len() == 1 && self.faulty.at(0).starts_with('{') {
             out.put(
                 "This row seems to be JSON. Get the rows again, with their fields in the order of the column names, and `;` between them.\n",
             )
@@ -270,7 +278,7 @@ impl<R: Files> Case<'_, R> {
                     "Check whether the first comma stands for `;`. If so, commas separate the fields of this row: write `;` between them, but keep the commas between the ids of a vote.\n",
             }
         } else if self.faulty.is_line_of_words() {
-            "If it says that rows are left out, get the whole file; a filter leaves rows out too. If it is a heading or a note, do what it says of the rows above or below it before you delete it. If it begins another table, take all of that table out; if it has budgets of districts or the like, this program can't count the file. If it is a vote, write all of its fields.\n"
+            "If it says that rows are left out, or that there are further pages, get the whole file; a filter leaves rows out too. If it is a heading or a note, do what it says of the rows above or below it before you delete it. If it begins another table, take all of that table out; if it has budgets of districts or the like, this program can't count the file. If it is a vote, write all of its fields.\n"
         } else if is_short && self.faulty.is_like_project(self.text) {
             LATE_PROJECT
         } else {
@@ -288,8 +296,9 @@ impl<R: Files> Case<'_, R> {
 
     /// Puts that a row has more fields than there are column names, and what to do.
     fn put_split(&self, out: &mut WordsWriter) {
-        if (0..self.faulty.record.len()).any(|place| is_cut_code(self.faulty.at(place))) {
-            return out.put(CUT_CODE);
+        let span = span_of(self.text, self.faulty.mark);
+        if let Some(words) = cut_cause(&self.faulty.record, span) {
+            return out.put(words);
         }
         let (fields, names) = (
             self.faulty.record.len() as u64,
@@ -326,11 +335,25 @@ impl<R: Files> Case<'_, R> {
         {
             return true;
         }
-        match self.faulty.seen.odd_head {
-            Some(odd) => put_odd_head(out, self.text, odd),
-            None => out.put(end_remedy(&self.faulty.stage)),
+        match (self.faulty.seen.odd_head, self.votes_beside()) {
+            (Some(odd), _) => put_odd_head(out, self.text, odd),
+            (None, Some(mark)) => out.fill(
+                "VOTES stands on line {} beside another heading. Write the tables below each other, each with its heading alone on a line.\n",
+                &[Number(line_of(self.text, mark))],
+            ),
+            (None, None) => out.put(end_remedy(&self.faulty.stage)),
         }
         true
+    }
+
+    /// Where VOTES stands behind the first field of a row, where its section is missing.
+    fn votes_beside(&self) -> Option<Mark> {
+        let is_there = |row: &ByteRecord| {
+            let is_head = text_at(row, 0).eq_ignore_ascii_case("PROJECTS");
+            is_head && column_of(row, "VOTES").is_some()
+        };
+        let found = self.text.find(Mark::start(), is_there)?;
+        matches!(self.faulty.stage, Stage::InProjects(_)).then_some(found.1)
     }
 }
 

@@ -111,7 +111,7 @@ impl<R: Files> Case<'_, R> {
             _ => out.fill(remedy_of(repeat, is_voter), &[Name(self.text.path)]),
         }
         match repeat {
-            Repeat::OtherPeople | Repeat::OneId => {
+            Repeat::OtherPeople | Repeat::OneId if !self.known.again.are_copies => {
                 put_clean(out, self.text, " --repeated-voters distinct")
             }
             Repeat::Unknown if is_voter => out.fill(

@@ -1,14 +1,47 @@
 //! What the row of a vote, or one of PROJECTS, shows of why ids of the vote are unknown.
 
+use crate::faulty_record::LINE_ENDS;
 use crate::prelude::*;
 use crate::unknown_words::{LATE_PROJECT, is_cut_code};
 use pb_core::money::Money;
 use pb_witness::cause::Cause;
-use pb_witness::faulty_record::FaultyRecord;
+use pb_witness::faulty_record::{FaultyRecord, has_other_line_end, is_spaced_mark};
+use pb_witness::fields::raw_text;
+use pb_witness::quote::Span;
 
 /// What to do about a row that a code of a web page has cut.
 pub(crate) const CUT_CODE: &str =
     "A code of a web page, such as `&amp;`, stands in the row, and its `;` has cut it. Get the file again, as text.\n";
+
+/// What to do about a mark that a database escaped.
+pub(crate) const ESCAPED: &str =
+    "Write `\"\"` in place of each `\\\"`, or save the file again without such escapes.\n";
+
+/// What to do about a space before a mark.
+pub(crate) const SPACED: &str = "Delete the space between `;` and the quotation mark.\n";
+
+/// What to do about a row with more fields than there are column names, if it shows why: line ends of another kind, a code
+/// of a web page, or quotation marks that are not read as such.
+pub(crate) fn cut_cause(record: &ByteRecord, span: Span) -> Option<&'static str> {
+    if has(record, |field| has_other_line_end(field)) {
+        Some(LINE_ENDS)
+    } else if has(record, |field| is_cut_code(field)) {
+        Some(CUT_CODE)
+    } else if span.escaped.is_some() {
+        Some(ESCAPED)
+    } else if has(record, |field| is_spaced_mark(field)) {
+        Some(SPACED)
+    } else {
+        None
+    }
+}
+
+/// Whether a field of a row is so.
+fn has<P: Fn(&str) -> bool>(record: &ByteRecord, is_so: P) -> bool
+    requires { P.IsAlwaysCallable is_so }
+{
+    (0..record.len()).any(|place| is_so(raw_text(record, place)))
+}
 
 impl<R: Files> Case<'_, R> {
     /// Puts what the row of a vote shows of why its ids are unknown, and what to do; answers whether it shows
@@ -45,6 +78,18 @@ impl<R: Files> Case<'_, R> {
             return false;
         }
         true
+    }
+
+    /// Whether the row has the same names as the section's row of column names.
+    pub(crate) fn has_names_again(&self) -> bool {
+        let is_same = |names: &ByteRecord| {
+            let is_it = |place: usize| text_at(names, place).eq_ignore_ascii_case(
+                self.faulty.at(place),
+            );
+            names.len() == self.faulty.record.len() && (0..names.len()).all(is_it)
+        };
+        let names = self.text.row_at(self.faulty.seen.names);
+        names.is_some_and(|names| is_same(&names))
     }
 
     /// Puts which column, the one at this place of VOTES or of PROJECTS, has all unknown ids.

@@ -7,6 +7,7 @@ use pb_read::Column;
 use pb_witness::cause::{Cause, odd_letter};
 use pb_witness::changed::Difference::{Hidden, Zeros};
 use pb_witness::changed::{Difference, without_hidden};
+use pb_witness::fields::column_of;
 use pb_witness::known::FoundCause;
 use pb_witness::unknown::Votes;
 
@@ -16,6 +17,9 @@ pub(crate) const LATE_PROJECT: &str =
 pub(crate) const NAMES_AGAIN: &str = "If this line has the column names again, delete it.\n";
 
 /// What to do about rows of VOTES whose ids are those of projects.
+const NAMES: &str =
+    "Votes have names of projects in place of ids. Write the ids, with `,` between them. A name may have a comma in it.\n";
+
 const LISTED: &str =
     "This row and one beside it have ids of projects in place of voters: they may be a list or a tally, and no votes. If so, delete all of its rows. If not, ask whoever made the file what is meant.\n";
 
@@ -78,7 +82,7 @@ fn remedy_of(cause: Cause) -> &'static str {
         Cause::Columns => BY_COLUMN,
         Cause::Alike(difference, is_project) => alike_remedy(difference, is_project),
         Cause::Name =>
-            "This is the name of project {} on line {}. If it is meant, write its id in the vote.\n",
+            "This is the name of project {} on line {}, or a part of it. If it is meant, write its id in the vote.\n",
         Cause::Mentioned =>
             "The name of project {} on line {} mentions this id, so the vote may be meant for that project. Ask whoever made the file.\n",
         Cause::OtherForm =>
@@ -133,6 +137,10 @@ fn bracket_remedy(cause: Cause) -> &'static str {
     match cause {
         Cause::Shifted =>
             "The votes may have other ids than PROJECTS: rows or places of a list (then each vote is wrong), a series that a spreadsheet continued, sums of ids, as a pivot table makes them, or ids that were joined where a text between them was replaced. Compare some votes with the ballots, also those of known ids. If they differ, get the votes again. If they agree, and the project was withdrawn, take its id out of the votes. If it was not, ask whoever made the file.\n",
+        Cause::Formula =>
+            "A spreadsheet writes this where a formula is wrong. Get the votes again.\n",
+        Cause::EmptyList =>
+            "Programs write an empty list so. If the voter approves no project, leave the field empty.\n",
         Cause::Brackets =>
             "Brackets are around the ids, as programs write lists. Write only the ids, with `,` between them.\n",
         Cause::SomeInBrackets =>
@@ -190,6 +198,7 @@ fn is_mended(cause: Cause) -> bool {
         cause,
         Cause::Bars
             | Cause::Brackets
+            | Cause::EmptyList
             | Cause::Quotes
             | Cause::PointZero
             | Cause::NamesAgain
@@ -275,6 +284,7 @@ impl<R: Files> Case<'_, R> {
                 return out.put(remedy);
             }
             Cause::Cut => out.fill(remedy, &[Number(place.line)]),
+            Cause::Name if self.known.ids_for(Cause::Name) > 1 => out.put(NAMES),
             Cause::Swallowed if put_swallowing(out, self.text, place.mark) => {}
             Cause::Swallowed => out.fill(
                 "The row on line {} may be this project. Correct that line first.\n",
@@ -293,6 +303,7 @@ impl<R: Files> Case<'_, R> {
             Some(DROP_UNKNOWN) if self.loses_by_dropping(&place) => {}
             Some(DROP_UNKNOWN) if self.put_unnamed(out, &place) => {}
             Some("") if !self.mends_all() => {}
+            Some("") if found.cause == Cause::NamesAgain && !self.has_names_again() => {}
             Some(options) => put_clean(out, self.text, options),
             None => {}
         }
@@ -305,7 +316,7 @@ impl<R: Files> Case<'_, R> {
         (place.id == "0" && projects.end_in_zero())
             || (place.cause == Cause::Beside && rows.differ)
             || rows.would_empty()
-            || self.known.has(Cause::Shifted)
+            || self.known.ids_for(Cause::Shifted) > 0
     }
 
     /// Puts which project no vote names, so that an unknown id may be meant for it, if there is one; answers
@@ -354,8 +365,16 @@ impl<R: Files> Case<'_, R> {
                 .is_some_and(|row| is_other(row.id.as_str())))
     }
 
-    /// Whether `pb_clean` mends all votes that are refused for an unknown id, without an option.
+    /// Whether `pb_clean` mends all votes that are refused for an unknown id, without an option: it asks for one where a mark
+    /// may separate thousands, and takes no points.
     fn mends_all(&self) -> bool {
+        let names = self.text.row_at(self.faulty.seen.names);
+        let is_points = |names: &ByteRecord| ["points", "score"]
+            .iter()
+            .any(|name| column_of(names, name).is_some());
+        if self.known.witness.has_thousands || names.is_some_and(|names| is_points(&names)) {
+            return false;
+        }
         let mut refused = self.known.witness.refused.iter();
         refused.all(|it| match self.known.cause_of(it.piece()) {
             Some(found) => is_mended(found.cause),
@@ -382,7 +401,12 @@ impl<R: Files> Case<'_, R> {
         let (project, mark) = match (found.cause, row) {
             (Cause::LeftOut, _) => (id, ids.left_out.mark(id)),
             (Cause::Cut, _) => (id, ids.pieces.mark(id)),
-            (Cause::Swallowed, _) => (id, ids.swallowed.mark(id)),
+            (Cause::Swallowed, _) => (
+                id,
+                ids.swallowed
+                    .mark(id)
+                    .or(Some(self.faulty.seen.project_names)),
+            ),
             (Cause::NoProjects, _) => ("", Some(self.faulty.seen.project_names)),
             (_, Some(row)) => (row.id.as_str(), Some(row.mark)),
             (_, None) => (id, None),
@@ -424,6 +448,7 @@ impl<R: Files> Case<'_, R> {
         if votes.count > 1 {
             let reason = match found.cause {
                 Cause::NoProjects | Cause::OtherElection | Cause::Columns => "this",
+                Cause::Name if self.known.ids_for(Cause::Name) < 2 => "this",
                 cause if cause.is_shared() && cause != Cause::ChangedProject => "ids like this",
                 _ => "this",
             };

@@ -11,6 +11,10 @@ pub(crate) const BESIDE_DECIMALS: &str =
     delete it where three digits follow it, and nowhere else. Otherwise write two decimals.\n";
 
 /// What is said of a row without a vote in which another field seems to be it.
+const STRAY_ID: &str = "{value} stands in place of a voter's id, and the vote is empty
+ids of projects stand in place of a voter's id, and the vote is empty
+Find out whose vote it is. If the row above has no vote, look at that voter's ballot: if this is its vote, write it there, and delete this row.";
+
 const STRAY_VOTE: &str = "the vote is empty, but {value} stands in column {column}
 the vote is empty, but another field of the row names projects
 If the voter chose these projects, write their ids into the column `vote`.";
@@ -80,21 +84,20 @@ Look at some ballots first. If a field before the vote is too many, such as a nu
     If names of projects stand there, write the ids of all of them into the vote, with `,` between them.",
     ],
     &[TOO_LONG, TOO_COSTLY],
-    &[TOO_SHORT, STRAY_VOTE, TOO_CHEAP],
+    &[TOO_SHORT, STRAY_VOTE, TOO_CHEAP, STRAY_ID],
     &[
         "the ballot is empty
 It is counted, and by equal shares its voter gets a share of the budget. Look at the ballot. If an empty field means \
     the vote above, or programs read an id such as `NA` as nothing, get the votes again. If the ballot is empty, your rules \
     do not allow it, and no other warning is about the row, delete the row.",
         STRAY_VOTE,
+        STRAY_ID,
+        STRAY_ID,
     ],
     &[
         "no vote names this project
 no vote names the project
 Check whether votes for it are missing, or whether votes name it by another id.",
-        "no vote names this project. A spreadsheet turns its id into {short}, which is another project's
-no vote names the project. A spreadsheet turns its id into that of another project
-Check whether votes for that project are meant for this one. If so, get the votes again, as text.",
     ],
     &[
         "{value} is more than the budget, so the project can't win
@@ -105,6 +108,12 @@ Check whether the amount has too many digits, or is in another unit (cents, for 
         "the id has a comma, so no vote can name the project
 the project's id has a comma, so no vote can name it
 Give the project another id.",
+        "the id has a comma, and its parts are ids of other projects: votes for it count for these
+a project's id has a comma, and its parts are ids of other projects: votes for it count for these
+Give the project another id. Find out by the ballots which votes are meant for it, and write that id there.",
+        "a spreadsheet shortened the id
+a spreadsheet shortened a project's id
+Get the ids again, as text, in the votes too.",
     ],
     &[
         "{value} is read as {amount}, because a point or a comma begins the decimals
@@ -127,6 +136,9 @@ If so, correct the key. If not, give it another name.",
 no vote names a project, and it has the name of another one
 A lookup by name finds only one of the two. Compare votes for the other one with the ballots. If they differ, get the votes \
     again. If not, write in both names how the projects differ.",
+        "no vote names it alone, and a spreadsheet turns its id into {short}, which is another project's
+no vote names a project alone, and a spreadsheet turns its id into that of another project
+Check whether votes for that project are meant for this one. If so, get the votes again, as text.",
     ],
     &[
         "its cost, {value}, is the sum of all costs above
@@ -197,6 +209,9 @@ If each line should be a row of its own, delete the quotation marks.",
         "this row is taken for META's row of column names, so its value is ignored
 the first row of META is taken for its row of column names, so its value is ignored
 Write `key;value` on a line of its own above it.",
+        "{value} stands behind the column names, as the first row would on the same line
+the first row seems to stand behind the column names, on the same line
+If so, begin a new line where the row begins.",
     ],
     &[
         "{value}, in column {column}, names a project too, but is not counted. This concerns {rows}
@@ -209,6 +224,13 @@ Look at some ballots first. If these are numbers of another list, find out which
         "the vote is empty, but {value} stands in column {column}. This concerns {rows}
 the vote is empty, but another field of the row names projects. This concerns {rows}
 If the voter chose these projects, write their ids into the column `vote`. If not, and it is not the column `voter_id`, give it the name `comment`.",
+        "{value} stands in place of a voter's id, and the vote is empty. This concerns {rows}
+ids of projects stand in place of a voter's id, and the vote is empty. This concerns {rows}
+Find out whose vote it is. If the row above has no vote, look at that voter's ballot: if this is its vote, write it there, and delete this row.",
+        "{value} stands in column {column}, and the vote does not name this project. This concerns {rows}
+a column has marks for a project that the vote does not name. This concerns {rows}
+The vote may be a formula that was not filled down. Look at some ballots. If the voters chose this project too, write its id into \
+    the column `vote`.",
     ],
     &[
         "the vote names {twice} more than once, which counts once
@@ -276,7 +298,7 @@ If they are budgets of districts or categories, make a file for each: its budget
     &[
         "the row has {fields} fields, but the number of column names is {number}
 the row has too many fields: the number of column names is {number}
-If a `;` in the name has cut it, put the name in quotation marks: `\"Park; north\"`. If the decimal comma \
+If a `;` in the name or another text has cut it, put the text in quotation marks: `\"Park; north\"`. If the decimal comma \
     of an amount has become `;`, write the amount in one field, like `12000,50`. Then check the cost. If the last \
     field says that the project was withdrawn, take its row out, and its id out of the votes.",
         "the row has {value} in it, like a vote
@@ -287,6 +309,9 @@ If it is a vote, move it below VOTES.",
         "this id begins or ends with an invisible character. Without it, the id is another row's, so the voter is counted twice
 a voter's id begins or ends with an invisible character. Without it, the id is another row's, so the voter is counted twice
 Delete it, or type the id anew.",
+        "but for capital letters this e-mail address is that of another row, so the voter may be counted twice
+but for capital letters a voter's e-mail address is that of another row, so the voter may be counted twice
+Find out whether these are one voter, and which of the two ballots is valid.",
     ],
     &[
         "all projects together cost {sum}, which is less than a hundredth of it

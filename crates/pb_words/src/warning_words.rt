@@ -2,6 +2,7 @@
 
 use crate::mark_words::CLOSE_IT;
 use crate::prelude::*;
+use crate::row_causes::cut_cause;
 use crate::warning_texts::{BESIDE_DECIMALS, forms_of};
 use pb_core::money::Money;
 use pb_read::Oddity;
@@ -156,7 +157,14 @@ fn put_odd<R: Files>(out: &mut WordsWriter, text: &Text<R>, odd: &Odd, oddities:
     let form = if row.is_some() { what } else { alone };
     put_text(out, text, odd, (form, row.as_ref()));
     out.fill(" ({}).\n", &[Own(odd.oddity.name())]);
-    put_odd_remedy(out, text, odd, oddities)
+    let is_cut = matches!(odd.oddity, Oddity::CutName | Oddity::SurplusFields) && odd.number > 0;
+    match row
+        .filter(|_| is_cut)
+        .and_then(|row| cut_cause(&row, span_of(text, odd.mark)))
+    {
+        Some(words) => out.put(words),
+        None => put_odd_remedy(out, text, odd, oddities),
+    }
 }
 
 /// Puts what to do about an odd record.
@@ -175,7 +183,7 @@ fn put_odd_remedy<R: Files>(out: &mut WordsWriter, text: &Text<R>, odd: &Odd, od
         (None, Oddity::ThousandsMark) if oddities.has_decimals => out.put(BESIDE_DECIMALS),
         _ => {
             put_text(out, text, odd, (said_of(odd).2, None));
-            let are_many = odd.oddity == Oddity::TwiceInVote && oddities.count(odd.oddity) > 2;
+            let are_many = odd.oddity == Oddity::TwiceInVote && oddities.count(odd.oddity) > 1;
             out.put(if are_many { MANY_TWICE } else { "\n" });
         }
     }
@@ -199,6 +207,10 @@ fn put_unread<R: Files>(out: &mut WordsWriter, text: &Text<R>, odd: &Odd) {
                 &[Number(odd.number), Count(rows, "row"), Quoted(value)],
             )
         }
+        None if odd.form == 1 => out.fill(
+            ", key {}: {} sets a limit, which no count uses.\nIf your rules have it, see whether the result keeps it.\n",
+            &[Quoted(key), Quoted(value)],
+        ),
         None => out.fill(
             ", key {}: {} names a project or a voter, and the program does not read it.\nLook whether it says that something does not count.\n",
             &[Quoted(key), Quoted(value)],
