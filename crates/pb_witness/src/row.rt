@@ -1,6 +1,6 @@
 //! A row of PROJECTS or VOTES that is accepted.
 
-use crate::changed::plain;
+use crate::changed::{has_digit, plain};
 use crate::prelude::*;
 use pb_read::MetaKey;
 
@@ -58,7 +58,7 @@ impl<'a> Row<'a> {
 
     /// Whether its id is a key of META that the count uses, as where a row of META stands in this section.
     pub(crate) fn has_key(&self) -> bool {
-        MetaKey::of(self.id()).is_some()
+        !has_digit(self.id()) && MetaKey::of(self.id()).is_some()
     }
 
     /// Whether a text is the name of a project before it, or differs by case and white space.
