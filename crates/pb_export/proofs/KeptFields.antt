@@ -37,8 +37,9 @@ module _ (row : Fields) (places : List ℕ) (i place : ℕ) (more : i < length p
       let here : texts_at row (drop i places) ≡ trim (field row place) ∷ rest = left ∙ rw (lt-ltb place (length row) within) refl in
       ap (λ (t : Fields). t ++ rest) new_is ∙ append_assoc kept (trim (field row place) ∷ []) rest ∙ sym (ap (λ (t : Fields). kept ++ t) here) ∙ so_far
 
-  -- the record ends
-  pub kept_all : length row ≤ place → kept ≡ texts_at row places
-  kept_all past =
-      let here : texts_at row (drop i places) ≡ [] = left ∙ rw (le-ltb place (length row) past) refl in
-      sym (append-nil kept) ∙ sym (ap (λ (t : Fields). kept ++ t) here) ∙ so_far
+  -- a field that the record does not have
+  pub kept_same : length row ≤ place → kept ++ texts_at row (drop (i + 1) places) ≡ texts_at row places
+  kept_same past =
+      let rest = texts_at row (drop (i + 1) places) in
+      let here : texts_at row (drop i places) ≡ rest = left ∙ rw (le-ltb place (length row) past) refl in
+      sym (ap (λ (t : Fields). kept ++ t) here) ∙ so_far

@@ -1,10 +1,13 @@
 //! Who looks on while a .pb file is read, and keeps what the count does not use.
 
-ghost use Rattle.std.specs.Prelude.{◌≡◌, IfOk, OnOk};
+ghost use Rattle.std.specs.Prelude.{◌≡◌, ◌≢◌, ◌∷◌, ◌++◌, [], filter, length, map, nat_lt, true, IfOk, OnOk};
 ghost use Rattle.std.specs.Str.{IsUtf8, trim};
 ghost use Rattle.csv.specs.Records.{AllText, fields_of};
 ghost use Rattle.pb_read.specs.Rows.{field};
-ghost use Rattle.pb_export.specs.Inner.Carried.{texts_at, with_project};
+ghost use Rattle.pb_read.specs.declared.columns.ProjectColumns.{ProjectColumns};
+ghost use Rattle.pb_read.specs.declared.section.Section.TheVariants.{Projects};
+ghost use Rattle.pb_read.specs.declared.watch.Part.TheVariants.{Names, Project};
+ghost use Rattle.pb_export.specs.Inner.Carried.{Kept, texts_at};
 
 use crate::further::Further;
 use crate::further_keys::FurtherKey;
@@ -106,7 +109,10 @@ pub struct Carried {
 
 impl Carried {
     /// Nothing was seen yet.
-    pub fn new(alloc: Global, keeps_voters: bool) -> Carried {
+    pub fn new(alloc: Global, keeps_voters: bool) -> Carried
+        ensures rows { result.further.projects.items ≡ [] }
+        ensures columns { result.of_projects.items ≡ [] }
+    {
         let keys = NamesSoFar::of(alloc, &[]).ok();
         let is_whole = keys.is_some();
         Carried {
@@ -130,7 +136,8 @@ impl Carried {
 
     /// What was kept, if no memory was refused.
     pub fn further(&self) -> Result<&Further, NoMemory>
-        ensures { IfOk result (λ further. further.now ≡ self.now.further) }
+        ensures further { IfOk result (λ further. further.now ≡ self.now.further) }
+        ensures whole { OnOk result (self.now.is_whole ≡ true) }
     {
         if self.is_whole {
             Ok(&self.further)
@@ -141,9 +148,7 @@ impl Carried {
 
     /// Takes a record of this part, which is text.
     fn keep(&mut self, record: &ByteRecord, part: Part) -> Result<(), NoMemory>
-        ensures { AllText (fields_of record.now) → OnOk result (self.new.further.projects.items
-            ≡ with_project part self.old.further.projects.items
-            (texts_at (fields_of record.now) self.old.of_projects.items)) }
+        ensures { OnOk result (Kept part (fields_of record.now) self.old self.new) }
     {
         match part {
             Part::Other | Part::Head(_) => Ok(()),
@@ -160,7 +165,7 @@ impl Carried {
 
     /// Takes the row of column names of this section.
     fn keep_names(&mut self, record: &ByteRecord, section: Section) -> Result<(), NoMemory>
-        ensures { self.new.further.projects.items ≡ self.old.further.projects.items }
+        ensures { OnOk result (Kept (Names section) (fields_of record.now) self.old self.new) }
     {
         match section {
             Section::Meta => Ok(()),
@@ -184,7 +189,9 @@ impl Carried {
 
     /// Takes a row of META. Of a repeated key the last value counts.
     fn keep_key(&mut self, record: &ByteRecord) -> Result<(), NoMemory>
-        ensures { self.new.further.projects.items ≡ self.old.further.projects.items }
+        ensures rows { self.new.further.projects.items ≡ self.old.further.projects.items }
+        ensures columns { self.new.of_projects.items ≡ self.old.of_projects.items }
+        ensures names { self.new.further.project_names ≡ self.old.further.project_names }
     {
         let (name, value) = (text_at(record, 0), text_at(record, 1));
         if name.eq_ignore_ascii_case("comment") {
@@ -215,7 +222,9 @@ impl Carried {
 
     /// Takes a row of VOTES.
     fn keep_voter(&mut self, record: &ByteRecord, columns: VoteColumns) -> Result<(), NoMemory>
-        ensures { self.new.further.projects.items ≡ self.old.further.projects.items }
+        ensures rows { self.new.further.projects.items ≡ self.old.further.projects.items }
+        ensures columns { self.new.of_projects.items ≡ self.old.of_projects.items }
+        ensures names { self.new.further.project_names ≡ self.old.further.project_names }
     {
         if self.of_votes.is_empty() {
             return Ok(());
@@ -230,7 +239,22 @@ impl Carried {
 }
 
 impl Watch for Carried {
-    fn see(&mut self, record: &ByteRecord, _at: u32, part: Part, _election: &Election) {
+    /// Unless memory is refused, a row of PROJECTS adds a row: its own fields in the further columns, as many of
+    /// them as it has. No other record adds or changes one, and the columns are those of the row of column names.
+    fn see(&mut self, record: &ByteRecord, _at: u32, part: Part, _election: &Election)
+        ensures row { (columns : ProjectColumns) → part ≡ Project columns → AllText (fields_of record.now)
+            → self.new.is_whole ≡ true → self.new.further.projects.items ≡ self.old.further.projects.items
+            ++ map (λ place. trim (field (fields_of record.now) place))
+            (filter (λ place. nat_lt place (length (fields_of record.now))) self.old.of_projects.items) ∷ [] }
+        ensures no_other { ((columns : ProjectColumns) → part ≢ Project columns) → self.new.is_whole ≡ true
+            → self.new.further.projects.items ≡ self.old.further.projects.items }
+        ensures names { part ≡ Names Projects → AllText (fields_of record.now) → self.new.is_whole ≡ true
+            → self.new.further.project_names ≡ map (λ place. trim (field (fields_of record.now) place))
+            (filter (λ place. nat_lt place (length (fields_of record.now))) self.new.of_projects.items) }
+        ensures columns { part ≢ Names Projects → self.new.is_whole ≡ true
+            → (self.new.of_projects.items ≡ self.old.of_projects.items)
+            × (self.new.further.project_names ≡ self.old.further.project_names) }
+    {
         if self.is_whole && self.keep(record, part).is_err() {
             self.is_whole = false;
         }
@@ -264,17 +288,16 @@ fn new_places(
     Ok(places)
 }
 
-/// The fields of a record at these places, which rise: as many of them as the record has.
+/// The fields of a record at these places; it passes over those that the record does not have.
 fn fields_at(alloc: Global, record: &ByteRecord, places: &[usize]) -> Result<TextRow, NoMemory>
     ensures { AllText (fields_of record.now)
         → IfOk result (λ row. row ≡ texts_at (fields_of record.now) places.now) }
 {
     let mut fields = TextRow::new(alloc);
     for place in places {
-        if *place >= record.len() {
-            return Ok(fields);
+        if *place < record.len() {
+            fields.push(alloc, text_at(record, *place))?;
         }
-        fields.push(alloc, text_at(record, *place))?;
     }
     Ok(fields)
 }

@@ -28,11 +28,13 @@ pub struct Further {
 }
 
 impl Further {
-    ghost use Rattle.std.specs.Prelude.{◌≡◌, string_bytes};
+    ghost use Rattle.std.specs.Prelude.{◌≡◌, [], string_bytes};
     ghost use Rattle.pb_export.specs.Inner.Behind.{behind, of_project, of_voter};
 
     /// Nothing further.
-    pub fn none(alloc: Global) -> Further {
+    pub fn none(alloc: Global) -> Further
+        ensures { result.projects.items ≡ [] }
+    {
         Further {
             comment: String::new(alloc),
             keys: FurtherKeys::none(alloc),
