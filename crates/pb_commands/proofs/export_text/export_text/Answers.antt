@@ -41,7 +41,7 @@ returns-clause-ok c e election is_put =
       told = (
         x,
         (refl, is_put, (x.counted.outcome, is.is_count, is.is_filled_up)),
-        rw (file, c.word.ensures, c.as_str.ensures.value, c.in_ok-comment.ensures, c.comment.ensures, c.as_slice.ensures.value, c.in_ok-votes.ensures, c.as_slice-2.ensures.value, c.in_ok-selected.ensures, c.in_ok-further.ensures, c.rule-rule.ensures) at c.in_ok-text.ensures.text,
+        rw (file, c.word.ensures, c.as_str.ensures.value, c.in_ok-comment.ensures, c.comment.ensures, c.as_slice.ensures.value, c.in_ok-votes.ensures, c.as_slice-2.ensures.value, c.in_ok-selected.ensures, c.in_ok-further.ensures.further, c.rule-rule.ensures) at c.in_ok-text.ensures.text,
       );
       can = rw file at c.in_ok-text.ensures.ok;
       reads_back = rw file at c.in_ok-text.ensures.reads_back;
