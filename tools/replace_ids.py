@@ -201,7 +201,7 @@ def shuffle_votes(rows):
 
 def program_of(named=None, more=': without it nothing is written', why=''):
     """The path of pb_app: the named one, or beside this tool, or on the PATH."""
-    beside = os.path.dirname(os.path.abspath(__file__))
+    beside = os.path.dirname(os.path.abspath(sys.argv[0]))
     found = shutil.which(named) if named else shutil.which('pb_app', path=beside) or shutil.which('pb_app')
     if not found:
         raise Refused(f'there is no program {named}' if named else
