@@ -12,9 +12,15 @@ TEMPORARY = 'clerks-window-'
 
 def own_folder():
     """A temporary folder, which this process has locked as long as it runs, however it ends."""
-    folder = tempfile.TemporaryDirectory(prefix=TEMPORARY)
-    fcntl.flock(os.open(folder.name, os.O_RDONLY | os.O_DIRECTORY), fcntl.LOCK_EX)
-    return folder
+    for _ in range(20):
+        folder = tempfile.TemporaryDirectory(prefix=TEMPORARY)
+        # A window that starts at the same moment may delete it before it is locked.
+        with contextlib.suppress(FileNotFoundError):
+            fcntl.flock(os.open(folder.name, os.O_RDONLY | os.O_DIRECTORY), fcntl.LOCK_EX)
+            os.stat(folder.name)
+            return folder
+        folder.cleanup()
+    raise FileNotFoundError(folder.name)
 
 
 def clear_folders():
