@@ -1,5 +1,5 @@
 """The roll: who may have a ballot, told before one is ticked. It may have columns, also with names."""
-import contextlib, csv, fcntl, os, shutil, tempfile
+import contextlib, csv, fcntl, glob, os, shutil, tempfile
 
 import disk
 from election import SPACE, Fault, plain
@@ -12,30 +12,24 @@ TEMPORARY = 'clerks-window-'
 
 def own_folder():
     """A temporary folder, which this process has locked as long as it runs, however it ends."""
-    for _ in range(20):
+    for _ in range(20):     # A window that starts at the same moment may delete one before it is locked.
         folder = tempfile.TemporaryDirectory(prefix=TEMPORARY)
-        # A window that starts at the same moment may delete it before it is locked.
         with contextlib.suppress(FileNotFoundError):
             fcntl.flock(os.open(folder.name, os.O_RDONLY | os.O_DIRECTORY), fcntl.LOCK_EX)
             os.stat(folder.name)
             return folder
-        folder.cleanup()
     raise FileNotFoundError(folder.name)
 
 
 def clear_folders():
     """Deletes the temporary folders that a window of this account has left when it was killed."""
-    for name in os.listdir(tempfile.gettempdir()):
-        if name.startswith(TEMPORARY):
-            with contextlib.suppress(OSError):
-                path = os.path.join(tempfile.gettempdir(), name)
-                number = os.open(path, os.O_RDONLY | os.O_DIRECTORY | os.O_NOFOLLOW)
-                try:
-                    fcntl.flock(number, fcntl.LOCK_EX | fcntl.LOCK_NB)      # Fails where a window uses it.
-                    if os.fstat(number).st_uid == os.getuid():
-                        shutil.rmtree(path, ignore_errors=True)
-                finally:
-                    os.close(number)
+    for path in glob.glob(glob.escape(os.path.join(tempfile.gettempdir(), TEMPORARY)) + '*'):
+        with contextlib.suppress(OSError), contextlib.ExitStack() as left:
+            number = os.open(path, os.O_RDONLY | os.O_DIRECTORY | os.O_NOFOLLOW)
+            left.callback(os.close, number)
+            fcntl.flock(number, fcntl.LOCK_EX | fcntl.LOCK_NB)      # Fails where a window uses it.
+            if os.fstat(number).st_uid == os.getuid():
+                shutil.rmtree(path, ignore_errors=True)
 
 
 def names_of(path):
