@@ -16,6 +16,7 @@ pub mod TableColumns
 pub mod PaymentsInFile
 pub mod PaymentsText
 pub mod CheckWritten
+mod FrontsWritten
 pub mod CheckedAgainst
 pub mod BallotsRuns
 pub mod LastGiven

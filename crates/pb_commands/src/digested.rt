@@ -1,6 +1,6 @@
 //! The digests of what was read, and by which rule it was counted, above a report.
 
-ghost use Rattle.std.specs.Prelude.{◌≡◌, ◌++◌, ◌∷◌, ◌⊎◌, [], IfErr, OnOk, codes};
+ghost use Rattle.std.specs.Prelude.{◌≡◌, ◌++◌, ◌∷◌, ◌⊎◌, ℕ, [], IfErr, IfOk, OnOk, codes, take};
 ghost use Rattle.std.specs.Io.KnownBytes.{Appends};
 ghost use Rattle.std.specs.Option.{option_map_or};
 ghost use Rattle.pb_faults.specs.declared.fault.AppFault.TheVariants.{Memory, Write};
@@ -31,14 +31,36 @@ pub fn write_digested<W: Write>(
     report: &[u8],
     writer: &mut W,
 ) -> Result<(), AppFault>
-    ensures ok { OnOk result (Appends (W.contents writer.old) (W.contents writer.new)
-        (text_of_row (codes "digest" ∷ codes "file" ∷ codes "sha256" ∷ digests.now.file.now ∷ [])
+    // The text goes out whole; where the writer fails, its front.
+    ensures written { let text = text_of_row (codes "digest" ∷ codes "file" ∷ codes "sha256" ∷ digests.now.file.now ∷ [])
         ++ (option_map_or (λ journal.
         text_of_row (codes "digest" ∷ codes "journal" ∷ codes "sha256" ∷ journal.now ∷ []))
         digests.now.journal []
         ++ (option_map_or (λ rule. text_of_row (codes "rule" ∷ profile_name rule.now ∷ [])) counted_by.entry []
-        ++ report.now)))) }
+        ++ report.now)) in
+        OnOk result (Appends (W.contents writer.old) (W.contents writer.new) text)
+        × IfErr result (λ fault. fault ≡ Write → (n : ℕ)
+        × Appends (W.contents writer.old) (W.contents writer.new) (take n text)) }
     ensures fault { IfErr result (λ fault. (fault ≡ Write) ⊎ (fault ≡ Memory) × (writer.new ≡ writer.old)) }
+{
+    let text = digested_text(alloc, digests, counted_by, report)?;
+    write_out(writer, text.as_slice(), AppFault::Write)
+}
+
+/// The rows of the digests and of the rule, and below them the report.
+fn digested_text(
+    alloc: Global,
+    digests: &Digests<'_>,
+    counted_by: Option<&Rule>,
+    report: &[u8],
+) -> Result<Vec<u8>, NoMemory>
+    ensures { IfOk result (λ text. text.items
+        ≡ text_of_row (codes "digest" ∷ codes "file" ∷ codes "sha256" ∷ digests.now.file.now ∷ [])
+        ++ (option_map_or (λ journal.
+        text_of_row (codes "digest" ∷ codes "journal" ∷ codes "sha256" ∷ journal.now ∷ []))
+        digests.now.journal []
+        ++ (option_map_or (λ rule. text_of_row (codes "rule" ∷ profile_name rule.now ∷ [])) counted_by.entry []
+        ++ report.now))) }
 {
     let mut rows = RowsWriter::start(alloc);
     rows.put_row(&["digest", "file", "sha256", digests.file])?;
@@ -48,7 +70,7 @@ pub fn write_digested<W: Write>(
     put_counted_by(alloc, &mut rows, counted_by)?;
     let mut text = rows.finish()?;
     text.extend_from_slice(report)?;
-    write_out(writer, text.as_slice(), AppFault::Write)
+    Ok(text)
 }
 
 /// Puts a row with the name of this rule, if there is one.

@@ -10,7 +10,7 @@ ghost use Rattle.pb_script.specs.Admission.{open_to_all};
 ghost use Rattle.pb_script.specs.EntryCounts.{counts_of};
 ghost use Rattle.pb_commands.specs.DeskRun.{DeskRefuses, DeskWrites, admission_on};
 ghost use Rattle.pb_commands.specs.Inner.DeskRun.{unserved};
-ghost use Rattle.pb_commands.specs.Ends.{Runs};
+ghost use Rattle.pb_commands.specs.Ends.{IfBothKnown, Runs};
 
 use crate::inputs::own_election;
 use pb_core::election::Election;
@@ -110,8 +110,13 @@ pub fn run_admitted_desk<
     ensures runs { Runs (λ bytes rows. DeskWrites rules bytes rows clerks shuts)
         (λ _ rows. DeskRefuses rules rows clerks)
         (P.remaining file) (S.remaining script) None W.contents writer.old writer.new result }
+
+    // The counts are those of the journal that is written, which also where the writer does not tell its bytes is
+    // one that file and script allow.
     ensures counts { OnOk result ((journal : List EntryView) × (counts.new.counts ≡ counts_of journal)
-        × Appends (W.contents writer.old) (W.contents writer.new) (journal_text Two journal)) }
+        × Appends (W.contents writer.old) (W.contents writer.new) (journal_text Two journal)
+        × IfBothKnown (P.remaining file) (S.remaining script)
+        (λ bytes rows. DeskWrites rules bytes rows clerks shuts (journal_text Two journal))) }
 {
     let election = match own_election(alloc, file, &mut NoWatch) {
         Ok(election) => election,

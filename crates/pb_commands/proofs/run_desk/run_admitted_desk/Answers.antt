@@ -1,4 +1,4 @@
-use Rattle.std.proofs.Common.{◌∙◌, IfSome, None, subst}
+use Rattle.std.proofs.Common.{◌∙◌, IfSome, List, None, ℕ, subst}
 use Rattle.std.proofs.lemmas.Result.{on_ok_weaker}
 use Rattle.std.specs.Io.KnownBytes.{Appends}
 use Rattle.pb_rows.specs.Reading.{records_of}
@@ -7,6 +7,7 @@ use Rattle.pb_script.specs.declared.admission.Admission.{Admission}
 use Rattle.pb_commands.proofs.DeskRuns.{desk_known, own_passes, script_ends}
 use Rattle.pb_commands.proofs.Endings.{memory_end, run_ended, run_written}
 use Rattle.pb_commands.specs.DeskRun.{DeskRefuses, DeskWrites}
+use Rattle.pb_commands.specs.Ends.{IfBothKnown}
 use Rattle.pb_faults.specs.declared.fault.AppFault.TheVariants.{Memory}
 use Rattle.pb_commands.proofs.run_desk.run_admitted_desk.Goals as goal
 
@@ -49,7 +50,18 @@ returns-clause-runs g c =
 
 pub returns-clause-counts : goal.returns-clause-counts
 returns-clause-counts g c =
+    let files = g.P.Read.remaining c.args.file in
+    let scripts = g.S.Read.remaining c.args.script in
+    let e = c.in-Ok.election in
+    let text = c.in-Ok-served.field-0.text.items in
     let counted = c.in-Ok-served.ensures.counts in
     let old = g.W.Write.contents c.args.writer.now in
     let new = g.W.Write.contents c.write_out.new.writer in
-    on_ok_weaker c.write_out.result (λ said. (counted.0, counted.2, subst (Appends old new) (c.as_slice.ensures.value ∙ counted.1) said)) c.write_out.ensures.ok
+    let allowed = desk_known c.args.rules c.args.clerks c.args.shuts files scripts e c.in-Ok.ensures.ok text
+    (subst (λ (a : Admission). IfSome scripts (λ rows. IsServed a e c.args.clerks c.args.shuts (records_of rows) text)) c.in-Ok-admission_of.ensures c.in-Ok-served.ensures.ok) in
+    on_ok_weaker c.write_out.result (λ said. (
+      counted.0,
+      counted.2,
+      subst (Appends old new) (c.as_slice.ensures.value ∙ counted.1) said,
+      subst (λ (t : List ℕ). IfBothKnown files scripts (λ bytes rows. DeskWrites c.args.rules bytes rows c.args.clerks c.args.shuts t)) counted.1 allowed,
+    )) c.write_out.ensures.ok
