@@ -92,3 +92,14 @@ outside_fails IsIt rule app (inr is) = subst (λ x. CheckFails IsIt rule x) (sym
 pub outside_refused : {T : Type 0} (IsIt : ElectionView → Type 0) (rule : Rule) (r : Result T AppFault) → IfErr r (λ app. (app ≡ Write) ⊎ (app ≡ Memory)) → IfErr r (CheckFails IsIt rule)
 outside_refused IsIt rule (Ok done) out = tt
 outside_refused IsIt rule (Err app) out = outside_fails IsIt rule app out
+
+-- none of these is the writer's
+count_reads : (fault : CountFault) → merged (Count fault) ≢ Write
+count_reads count.NoMemory is = cc is
+count_reads count.WorkerCount is = cc is
+count_reads count.StepRange is = cc is
+count_reads count.RaisesRange is = cc is
+count_reads count.RaisesSpent is = cc is
+
+pub count_unwritten : {T : Type 0} (fault : CountFault) (r : Result T AppFault) → IsErrAnd r (λ app. app ≡ merged (Count fault)) → IfErr r (λ app. app ≢ Write)
+count_unwritten fault r from = given_fault (λ app. app ≢ Write) r (merged (Count fault)) from (count_reads fault)

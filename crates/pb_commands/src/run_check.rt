@@ -1,7 +1,7 @@
 //! The command `check`: all that is wrong with a file, and what is probably not meant.
 
 ghost use Rattle.std.specs.Prelude.{◌≡◌, ◌≢◌, ◌⊎◌, ◌++◌, ℕ, List, [], None, Some, IfErr, IfOk, IfSome, OnOk, map};
-ghost use Rattle.std.specs.Prelude.{slice_index};
+ghost use Rattle.std.specs.Prelude.{slice_index, take};
 ghost use Rattle.std.specs.Io.KnownBytes.{Appends};
 ghost use Rattle.pb_core.specs.Election.{ElectionView};
 ghost use Rattle.pb_reasons.specs.Counted.{winners_of};
@@ -13,7 +13,7 @@ ghost use Rattle.pb_read.specs.StandsFor.{StandsFor};
 ghost use Rattle.pb_commands.specs.Checked.{IsTextOfCheck, warning_row};
 ghost use Rattle.pb_commands.specs.Closed.{Gives};
 ghost use Rattle.pb_commands.specs.Inner.Checked.{CheckFails, fault_row};
-ghost use Rattle.pb_commands.specs.Inner.Written.{HasWritten};
+ghost use Rattle.pb_commands.specs.Inner.Written.{HasBegun, HasWritten};
 
 use crate::counting::{Counting, counted};
 use crate::report::{put_row, whole};
@@ -52,8 +52,15 @@ pub fn run_check<R: Read + Drop, W: Write, N: Warn>(
     // writer's.
     ensures fault { IfErr result (λ fault. (fault ≡ AppFault.Write) ⊎ (fault ≡ AppFault.Memory)) }
     ensures unchanged { IfErr result (λ fault. fault ≢ AppFault.Write → writer.new ≡ writer.old) }
+
+    // Where the writer fails, what went out is the front of such a text.
+    ensures front { IfErr result (λ fault. fault ≡ AppFault.Write → (faults : List ReadFault)
+        × IfSome (R.remaining reader) (λ bytes. AreListed 0 (records_of bytes) faults)
+        × (text : List ℕ) × (n : ℕ) × IsTextOfCheck faults (N.warns notes.new) text
+        × Appends (W.contents writer.old) (W.contents writer.new) (take n text)) }
 {
-    let faults = check_pb(alloc, reader, notes)?.into_faults();
+    let checked = check_pb(alloc, reader, notes)?;
+    let faults = checked.into_faults();
     match put_out(alloc, writer, faults.as_slice(), notes) {
         Ok(()) => Ok(faults),
         Err(fault) => {
@@ -95,6 +102,12 @@ pub fn run_check_against<T: Threads + Sync, R: Read + Drop, G: Gate, W: Write, N
         ⊎ ((why : CountFault) × (fault ≡ AppFault.Count why) × (why ≢ CountFault.NoMemory)
         × Gives (IsFaultIn counting.now.rule.now) bytes None why))) }
     ensures unchanged { IfErr result (λ fault. fault ≢ AppFault.Write → writer.new ≡ writer.old) }
+
+    // Where the writer fails, what went out is the front of such a text.
+    ensures front { IfErr result (λ fault. fault ≡ AppFault.Write → (faults : List ReadFault)
+        × IfSome (R.remaining reader) (λ bytes. AreListed 0 (records_of bytes) faults)
+        × (text : List ℕ) × (n : ℕ) × IsTextOfCheck faults (N.warns notes.new) text
+        × Appends (W.contents writer.old) (W.contents writer.new) (take n text)) }
 {
     let checked = check_pb(counting.alloc, reader, notes)?;
     let Checked { faults, election } = checked;
@@ -122,6 +135,8 @@ fn put_checked<T: Threads + Sync, G: Gate, W: Write, N: Compare>(
         × N.has_compared notes.new (map (slice_index x.order) (winners_of x.counted)))) }
     ensures fault { IfErr result (CheckFails (λ e. election ≡ Some e) counting.now.rule.now) }
     ensures unchanged { IfErr result (λ fault. fault ≢ AppFault.Write → writer.new ≡ writer.old) }
+    ensures front { IfErr result (λ fault. fault ≡ AppFault.Write
+        → HasBegun (IsTextOfCheck faults.now (N.warns notes.new)) (W.contents writer.old) (W.contents writer.new)) }
 {
     let warnings = warnings_against(counting, election, notes)?;
     let put = put_rows(counting.alloc, writer, faults, warnings.as_slice());
@@ -140,6 +155,7 @@ fn warnings_against<T: Threads + Sync, G: Gate, N: Compare>(
         × N.has_compared notes.new (map (slice_index x.order) (winners_of x.counted)))) }
     ensures rows { IfOk result (λ rows. N.warns notes.new rows.items) }
     ensures fault { IfErr result (CheckFails (λ e. election ≡ Some e) counting.now.rule.now) }
+    ensures reads { IfErr result (λ fault. fault ≢ AppFault.Write) }
 {
     let Some(election) = election else {
         return Ok(notes.warnings()?);
@@ -163,6 +179,8 @@ fn put_out<W: Write, N: Warn>(
         (W.contents writer.new)) }
     ensures fault { IfErr result (λ fault. (fault ≡ AppFault.Write) ⊎ (fault ≡ AppFault.Memory)) }
     ensures unchanged { IfErr result (λ fault. fault ≢ AppFault.Write → writer.new ≡ writer.old) }
+    ensures front { IfErr result (λ fault. fault ≡ AppFault.Write
+        → HasBegun (IsTextOfCheck faults.now (N.warns notes.new)) (W.contents writer.old) (W.contents writer.new)) }
 {
     let warnings = notes.warnings()?;
     let put = put_rows(alloc, writer, faults, warnings.as_slice());
@@ -181,6 +199,8 @@ fn put_rows<W: Write>(
         (W.contents writer.new)) }
     ensures fault { IfErr result (λ fault. (fault ≡ AppFault.Write) ⊎ (fault ≡ AppFault.Memory)) }
     ensures unchanged { IfErr result (λ fault. fault ≢ AppFault.Write → writer.new ≡ writer.old) }
+    ensures front { IfErr result (λ fault. fault ≡ AppFault.Write
+        → HasBegun (IsTextOfCheck faults.now (λ rows. rows ≡ warnings.now)) (W.contents writer.old) (W.contents writer.new)) }
 {
     let text = check_text(alloc, faults, warnings)?;
     write_out(writer, text.as_slice(), AppFault::Write)

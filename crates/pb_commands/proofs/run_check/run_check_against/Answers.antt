@@ -4,6 +4,9 @@ use Rattle.std.proofs.lemmas.Option.{IfSome_then}
 use Rattle.pb_reasons.specs.Counted.{winners_of}
 use Rattle.pb_reasons.specs.CountedElection.{IsCountIn}
 use Rattle.pb_commands.proofs.CheckedAgainst.{known_fails, known_has, memory_refused}
+use Rattle.pb_commands.specs.Checked.{IsTextOfCheck}
+use Rattle.pb_commands.specs.Inner.Written.{HasBegun}
+use Rattle.pb_commands.proofs.FrontsWritten.{memory_refused as memory_unwritten}
 use Rattle.pb_commands.proofs.run_check.run_check_against.Goals as goal
 
 pub returns-in_err-checked-clause-fault : goal.returns-in_err-checked-clause-fault
@@ -22,3 +25,13 @@ returns-in-Err-clause-faults g c = IfSome_then (g.R.Read.remaining c.args.reader
 
 pub returns-in-Err-clause-compared : goal.returns-in-Err-clause-compared
 returns-in-Err-clause-compared g c = IfSome_then (g.R.Read.remaining c.args.reader) c.in_ok-checked.ensures.faults (λ bytes listed. tt)
+
+pub returns-in_err-checked-clause-front : goal.returns-in_err-checked-clause-front
+returns-in_err-checked-clause-front g c = memory_unwritten _ c.from_residual.result c.from_residual.ensures.1
+
+pub returns-in-Err-clause-front : goal.returns-in-Err-clause-front
+returns-in-Err-clause-front g c = λ write.
+    let faults = c.in_ok-checked.checked.faults.items in
+    let begun : HasBegun (IsTextOfCheck faults (g.N.Warn.warns c.put_checked.new.notes)) (g.W.Write.contents c.args.writer.now) (g.W.Write.contents c.put_checked.new.writer) =
+    rw c.as_slice.ensures.value at c.in-Err.ensures.front write in
+    (faults, c.in_ok-checked.ensures.faults, begun.0, begun.1, begun.2, begun.3)

@@ -1,0 +1,14 @@
+use Rattle.pb_commands.proofs.FrontsWritten.{memory_refused}
+use Rattle.pb_commands.specs.Checked.{IsTextOfCheck}
+use Rattle.pb_commands.specs.Inner.Written.{HasBegun}
+use Rattle.pb_commands.proofs.run_check.run_check.Goals as goal
+
+pub returns-in_err-checked-clause-front : goal.returns-in_err-checked-clause-front
+returns-in_err-checked-clause-front g c = memory_refused _ c.from_residual.result c.from_residual.ensures.1
+
+pub returns-in-Err-clause-front : goal.returns-in-Err-clause-front
+returns-in-Err-clause-front g c = λ write.
+    let faults = c.in_ok-checked.checked.faults.items in
+    let begun : HasBegun (IsTextOfCheck faults (g.N.Warn.warns c.put_out.new.notes)) (g.W.Write.contents c.args.writer.now) (g.W.Write.contents c.put_out.new.writer) =
+    rw (← c.into_faults-faults.ensures) (rw c.as_slice.ensures.value at c.in-Err.ensures.front write) in
+    (faults, c.in_ok-checked.ensures.faults, begun.0, begun.1, begun.2, begun.3)
