@@ -1,5 +1,5 @@
 -- The answers to rows of the input, batch by batch.
-use Rattle.std.proofs.Common.{◌≡◌, ◌∙◌, ℕ, suc, ◌+◌, ◌<◌, ◌^◌, List, [], ◌∷◌, ◌++◌, length, map, Option, Some, None, IfSome, IsSome, Result, Ok, Err, refl, sym, ap, subst, arith, append_assoc, length-append}
+use Rattle.std.proofs.Common.{◌≡◌, ◌∙◌, ℕ, suc, ◌+◌, ◌<◌, ◌^◌, List, [], ◌∷◌, ◌++◌, length, map, take, Option, Some, None, IfSome, IsSome, Result, Ok, Err, refl, sym, ap, subst, arith, append_assoc, length-append}
 use Rattle.std.specs.List.{AllZip, filter_map}
 use Rattle.std.specs.Result.{result_err, result_ok}
 use Rattle.std.specs.Io.KnownBytes.{Appends}
@@ -266,6 +266,59 @@ rows_are (Some rows) (Some rest) gone served unserved have = have ∙ ap (λ (l 
 abbrev pub text_so_far : (ad : Admission) (all left : Option (List Fields)) (old now : List EntryView) (before after : Option (List ℕ)) (row bad : ℕ) (whys : List ℕ) → Progress ad all left old now before after row bad whys → List ℕ
 text_so_far ad all left old now before after row bad whys p = answers_from (length old + 1) 1 p.became
 
+-- and that of those behind them
+abbrev pub text_behind : (ad : Admission) (all left : Option (List Fields)) (old now : List EntryView) (before after : Option (List ℕ)) (row bad : ℕ) (whys : List ℕ) → Progress ad all left old now before after row bad whys → List Outcome → List ℕ
+text_behind ad all left old now before after row bad whys p became = answers_from (length old + 1 + length (added p.became)) (1 + length p.became) became
+
+-- what was written is the front of this text
+abbrev pub Begun : Option (List ℕ) → Option (List ℕ) → List ℕ → Type 0
+Begun before after text = (n : ℕ) × Appends before after (take n text)
+
+front_behind : (a b : List ℕ) (n : ℕ) → (m : ℕ) × (a ++ take n b ≡ take m (a ++ b))
+front_behind [] b n = (n, refl)
+front_behind (x ∷ a) b n = let rest = front_behind a b n in (suc rest.0, ap (λ (t : List ℕ). x ∷ t) rest.1)
+
+front_more : (a b : List ℕ) (n : ℕ) → (m : ℕ) × (take n a ≡ take m (a ++ b))
+front_more [] b zero = (0, refl)
+front_more [] b (suc n) = (0, refl)
+front_more (x ∷ a) b zero = (0, refl)
+front_more (x ∷ a) b (suc n) = let rest = front_more a b n in (suc rest.0, ap (λ (t : List ℕ). x ∷ t) rest.1)
+
+pub begun_behind : (before mid after : Option (List ℕ)) (a b : List ℕ) → Appends before mid a → Begun mid after b → Begun before after (a ++ b)
+begun_behind before mid after a b first begun =
+    let front = front_behind a b begun.0 in
+    (front.0, subst (Appends before after) front.1 (Appends-trans before mid after a (take begun.0 b) first begun.1))
+
+pub begun_more : (before after : Option (List ℕ)) (a b : List ℕ) → Begun before after a → Begun before after (a ++ b)
+begun_more before after a b begun = let front = front_more a b begun.0 in (front.0, subst (Appends before after) front.1 begun.1)
+
+-- of the entries of a batch, and of what is behind them
+pub batch_begun : (ad : Admission) (all left : Option (List Fields)) (old now : List EntryView) (before mid after : Option (List ℕ)) (row bad : ℕ) (whys : List ℕ) (p : Progress ad all left old now before mid row bad whys) (entries : List EntryView) (became : List Outcome)
+    → Begun mid after (text_of_rows (rows_from (length now + 1) entries))
+    → Begun before after (text_so_far ad all left old now before mid row bad whys p ++ text_behind ad all left old now before mid row bad whys p (map Ok entries ++ became))
+batch_begun ad all left old now before mid after row bad whys p entries became begun =
+    let size = ap length p.journal ∙ length-append old (added p.became) in
+    let entry : length old + 1 + length (added p.became) ≡ length now + 1 = omega (arith, size) in
+    let first = length old + 1 + length (added p.became) in
+    let at = 1 + length p.became in
+    let rows = text_of_rows (rows_from (length now + 1) entries) in
+    let rest = answers_from (first + length (added (map Ok entries))) (at + length (let done : List Outcome = map Ok entries in done)) became in
+    let text : rows ++ rest ≡ answers_from first at (map Ok entries ++ became) =
+    ap (λ (t : List ℕ). t ++ rest) (sym (answers-some (length now + 1) at entries) ∙ ap (λ (k : ℕ). answers_from k at (map Ok entries)) (sym entry))
+    ∙ sym (answers-append first at (map Ok entries) became) in
+    begun_behind before mid after _ _ p.said (subst (Begun mid after) text (begun_more mid after rows rest begun))
+
+-- of the line of a refused row
+pub refused_begun : (ad : Admission) (all left : Option (List Fields)) (old now : List EntryView) (before mid after : Option (List ℕ)) (row bad : ℕ) (whys : List ℕ) (p : Progress ad all left old now before mid row bad whys) (why : RowRefusal) (number : ℕ)
+    → number ≡ row + 1 → Begun mid after (line (told (Script (fault_of_row why number))).1)
+    → Begun before after (text_so_far ad all left old now before mid row bad whys p ++ text_behind ad all left old now before mid row bad whys p (Err why ∷ []))
+refused_begun ad all left old now before mid after row bad whys p why number is begun =
+    let known = p.row_is in
+    let here : number ≡ 1 + length p.became = omega (arith, known, is) in
+    let text : line (told (Script (fault_of_row why number))).1 ≡ text_behind ad all left old now before mid row bad whys p (Err why ∷ []) =
+    ap (λ (k : ℕ). line (told (Script (fault_of_row why k))).1) here ∙ sym (append-nil _) in
+    begun_behind before mid after _ _ p.said (subst (Begun mid after) text begun)
+
 -- what was not stopped has not failed
 pub not_stopped : (rows : RowsView) → rows.fault ≡ None → ¬ HasFailed rows
 not_stopped rows is failed = cc (subst (λ (fault : Option RecordsFault). IsSome fault) is failed.0)
@@ -279,7 +332,7 @@ pub halts : (ad : Admission) (fault : AppFault) (start end : RowsView) (left aft
     → (p : Progress ad start.left left old now w0 w1 row bad whys) → HaveGone left (served ++ unserved) after → AllZip (Becomes ad) served became → last ≡ now ++ added became
     → HasGiven start end (row + (length served + length unserved)) → ((answered : ℕ) → answered ≡ row → IsBehind fault answered (length served) (length unserved))
     → (¬ HasFailed start → HasFailed end → served ++ unserved ≡ [] → IsTold fault)
-    → Halts ad fault start end old now last (text_so_far ad start.left left old now w0 w1 row bad whys p)
+    → Halts ad fault start end old now last (text_so_far ad start.left left old now w0 w1 row bad whys p) (text_behind ad start.left left old now w0 w1 row bad whys p became)
 halts ad fault start end left after old now last w0 w1 row bad whys served unserved became p gone each grown given behind told_so =
     let size : length p.gone ≡ row = zip-length (Becomes ad) p.gone p.became p.each ∙ p.row_is in
     let sizes : row + (length served + length unserved) ≡ length (p.gone ++ served ++ unserved) = omega (arith, size, length-append (p.gone ++ served) unserved, length-append p.gone served) in (
@@ -289,7 +342,6 @@ halts ad fault start end left after old now last w0 w1 row bad whys served unser
       rest_of after,
       p.became,
       became,
-      answers_from (length old + 1 + length (added p.became)) (1 + length p.became) became,
       rows_are start.left after p.gone served unserved (gone-append start.left left after p.gone (served ++ unserved) p.have_gone gone),
       subst (λ (n : ℕ). HasGiven start end n) sizes given,
       (p.each, p.journal, refl),
@@ -310,13 +362,13 @@ nothing_gone (Some rows) = refl
 pub halts_here : (ad : Admission) (fault : AppFault) (start end : RowsView) (left : Option (List Fields)) (old now : List EntryView) (w0 w1 : Option (List ℕ)) (row bad : ℕ) (whys : List ℕ)
     → (p : Progress ad start.left left old now w0 w1 row bad whys) → HasGiven start end row → ((answered : ℕ) → answered ≡ row → IsBehind fault answered 0 0)
     → (¬ HasFailed start → HasFailed end → IsTold fault)
-    → Halts ad fault start end old now now (text_so_far ad start.left left old now w0 w1 row bad whys p)
+    → Halts ad fault start end old now now (text_so_far ad start.left left old now w0 w1 row bad whys p) []
 halts_here ad fault start end left old now w0 w1 row bad whys p given behind told_so =
     let same : row ≡ row + (0 + 0) = omega arith in
     halts ad fault start end left left old now now w0 w1 row bad whys [] [] [] p (nothing_gone left) tt (sym (append-nil now)) (subst (λ (n : ℕ). HasGiven start end n) same given) behind (λ sound failed none. told_so sound failed)
 
 -- nothing was read
-pub halts_unbegun : (ad : Admission) (fault : AppFault) (start : RowsView) (old : List EntryView) → IsBehind fault 0 0 0 → Halts ad fault start start old old old []
+pub halts_unbegun : (ad : Admission) (fault : AppFault) (start : RowsView) (old : List EntryView) → IsBehind fault 0 0 0 → Halts ad fault start start old old old [] []
 unfolding started
 halts_unbegun ad fault start old behind =
     halts_here ad fault start start start.left old old None None 0 0 (refusals_of []) (started ad start.left old None) (λ fits. omega arith) (λ answered is. subst (λ (n : ℕ). IsBehind fault n 0 0) (sym is) behind)
@@ -328,7 +380,7 @@ with_nil (Some rows) records are = are ∙ sym (append-nil (records ++ [] ++ [])
 
 -- all rows were read and answered
 pub halts_behind_all : (ad : Admission) (fault : AppFault) (start end : RowsView) (old now : List EntryView) (text : List ℕ) (records : List Fields) (became : List Outcome) → IfSome start.left (λ left. left ≡ records)
-    → HasGiven start end (length records) → Answers ad records became old now text → ((answered : ℕ) → IsBehind fault answered 0 0) → ¬ HasFailed end → Halts ad fault start end old now now text
+    → HasGiven start end (length records) → Answers ad records became old now text → ((answered : ℕ) → IsBehind fault answered 0 0) → ¬ HasFailed end → Halts ad fault start end old now now text []
 halts_behind_all ad fault start end old now text records became are given answers behind sound =
     let all : records ≡ records ++ [] = sym (append-nil records) in
     let answers_all : Answers ad (records ++ []) (became ++ []) old now (text ++ []) = subst (λ (t : List ℕ). Answers ad (records ++ []) (became ++ []) old now t) (sym (append-nil text))
@@ -338,7 +390,6 @@ halts_behind_all ad fault start end old now text records became are given answer
       [],
       [],
       became,
-      [],
       [],
       with_nil start.left records are,
       subst (λ (r : List Fields). HasGiven start end (length r)) (all ∙ sym (append-nil (records ++ []))) given,

@@ -34,6 +34,12 @@ output_not_write output write = cc
 pub output_not_read : {why : AppFault} {i : ℕ} → why ≡ Serving Output → why ≡ Script (ReadFailed i) → ⊥
 output_not_read output read = cc
 
+pub output_not_script : {why : AppFault} {fault : ScriptFault} → why ≡ Serving Output → why ≡ Script fault → ⊥
+output_not_script output script = cc
+
+pub output_not_memory : Memory ≡ Serving Output → ⊥
+output_not_memory is = cc
+
 pub memory_not_more : ends.NoMemory ≡ ends.More → ⊥
 memory_not_more is = cc
 

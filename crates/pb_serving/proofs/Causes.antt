@@ -10,7 +10,7 @@ use Rattle.pb_durable.specs.declared.device_fault.DeviceFault.{DeviceFault}
 use Rattle.pb_durable.specs.declared.device_fault.DeviceFault.TheVariants as device
 use Rattle.pb_durable.specs.declared.durable_fault.DurableFault.{DurableFault}
 use Rattle.pb_durable.specs.declared.durable_fault.DurableFault.TheVariants as durable
-use Rattle.pb_serving.proofs.Apart.{same_err}
+use Rattle.pb_serving.proofs.Apart.{memory_not_read, memory_not_write, output_not_read, output_not_write, same_err}
 use Rattle.pb_serving.specs.Answered.{IsBehind}
 use Rattle.pb_serving.specs.Inner.Room.{HasNoRoom}
 use Rattle.pb_faults.specs.declared.fault.AppFault.{AppFault}
@@ -28,6 +28,24 @@ pub behind_durable : (why : DurableFault) (answered served unserved : ℕ) → s
 behind_durable (durable.Desk desk.NoMemory) answered served unserved few = (few, inl refl)
 behind_durable (durable.Desk desk.JournalFull) answered served unserved few = (few, inr refl)
 behind_durable (durable.Device why) answered served unserved few = behind_device why answered served unserved few
+
+-- a refused row is not answered: the writer failed, or memory was refused
+pub behind_refused : {why : AppFault} → (why ≡ Serving Output) ⊎ (why ≡ Memory) → (answered : ℕ) → IsBehind why answered 1 0
+behind_refused (inl is) answered = subst (λ (fault : AppFault). IsBehind fault answered 1 0) (sym is) (omega arith, refl)
+behind_refused (inr is) answered = subst (λ (fault : AppFault). IsBehind fault answered 1 0) (sym is) (omega arith, inl refl)
+
+pub refused_not_read : {why : AppFault} {i : ℕ} → (why ≡ Serving Output) ⊎ (why ≡ Memory) → why ≡ Script (ReadFailed i) → ⊥
+refused_not_read (inl is) read = output_not_read is read
+refused_not_read (inr is) read = memory_not_read (sym is ∙ read)
+
+pub refused_not_write : {why : AppFault} → (why ≡ Serving Output) ⊎ (why ≡ Memory) → why ≡ Write → ⊥
+refused_not_write (inl is) write = output_not_write is write
+refused_not_write (inr is) write = memory_not_write (sym is ∙ write)
+
+pub device_not_output : (why : DeviceFault) → of_device why ≡ Serving Output → ⊥
+device_not_output device.NoMemory is = cc is
+device_not_output device.Failed is = cc is
+device_not_output device.Full is = cc is
 
 pub not_failed : (before now : ℕ) → before ≤ now → (before < now → ⊥) → now ≡ before
 not_failed before now later none = elim (cases_lt before now) [

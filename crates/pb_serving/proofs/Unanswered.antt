@@ -6,9 +6,11 @@ use Rattle.std.proofs.lemmas.List.{append-nil}
 use Rattle.std.proofs.lemmas.List.Elements.{filter_map-append}
 use Rattle.pb_core.specs.Request.{EntryView}
 use Rattle.pb_core.specs.declared.answer.Answer.{Answer}
+use Rattle.pb_desk.specs.Rows.{rows_from}
 use Rattle.pb_durable.specs.Inner.Entries.{entries_of}
 use Rattle.pb_durable.specs.declared.clerk_request.ClerkRequest.{ClerkRequest}
 use Rattle.pb_rows.specs.Reading.{Fields}
+use Rattle.pb_rows.specs.Writing.{text_of_rows}
 use Rattle.pb_script.specs.RowsView.{HasGiven, RowsView}
 use Rattle.pb_script.specs.declared.admission.Admission.{Admission}
 use Rattle.pb_script.specs.Inner.ScriptReading.{HaveGone}
@@ -20,7 +22,7 @@ use Rattle.pb_serving.specs.declared.batch.BatchEnd.TheVariants.{More, Refused, 
 use Rattle.pb_faults.specs.declared.fault.AppFault.{AppFault}
 use Rattle.pb_faults.specs.declared.fault.AppFault.TheVariants.{Serving}
 use Rattle.pb_faults.specs.declared.serving_fault.ServingFault.TheVariants.{Output}
-use Rattle.pb_serving.proofs.Answering.{added, added-some, halts, text_so_far, zip-append, zip-length, Outcome, Progress}
+use Rattle.pb_serving.proofs.Answering.{added, added-some, batch_begun, halts, text_behind, text_so_far, Begun, zip-append, zip-length, Outcome, Progress}
 use Rattle.pb_serving.proofs.Causes.{output_or}
 
 -- the rows that were read behind those that ask
@@ -84,8 +86,10 @@ module _ (ad : Admission) (fault : AppFault) (start end : RowsView) (left after 
     (rows : List Fields) (asks : List ClerkRequest) (answers : List Answer) (why : BatchEnd) (p : Progress ad start.left left old now w0 w1 row bad counts) (each : AllZip (IsRowAsking ad) rows asks)
     (ends : EndsBy ad why left rows after) (few : length asks ≤ 4096) (some : 0 < length asks) (grown : last ≡ now ++ entries_of asks answers) (full : fault ≡ Serving Output → length answers ≡ length asks)
     (given : HasGiven start end (row + (length asks + refused why)))
-    (behind : (answered served unserved : ℕ) → served + unserved ≤ 4097 → (fault ≡ Serving Output → unserved ≡ 0) → IsBehind fault answered served unserved) where
-  pub unanswered : Halts ad fault start end old now last (text_so_far ad start.left left old now w0 w1 row bad counts p)
+    (behind : (answered served unserved : ℕ) → served + unserved ≤ 4097 → (fault ≡ Serving Output → unserved ≡ 0) → IsBehind fault answered served unserved)
+    (w2 : Option (List ℕ)) (begun : fault ≡ Serving Output → Begun w1 w2 (text_of_rows (rows_from (length now + 1) (entries_of asks answers)))) where
+  pub unanswered : (unsaid : List ℕ) × Halts ad fault start end old now last (text_so_far ad start.left left old now w0 w1 row bad counts p) unsaid
+      × (fault ≡ Serving Output → Begun w0 w2 (text_so_far ad start.left left old now w0 w1 row bad counts p ++ unsaid))
   unanswered =
       let first = part ad rows asks answers each in
       let b = behind_of ad why left after rows ends in
@@ -100,22 +104,28 @@ module _ (ad : Admission) (fault : AppFault) (start end : RowsView) (left after 
             let all : rows ≡ first.served = first.is ∙ ap (λ (l : List Fields). first.served ++ l) none ∙ append-nil first.served in
             let served = first.served ++ b.behind in
             let long = length-append first.served b.behind in
-            let here : length rows ≡ length first.served = ap length all in
-            halts ad fault start end left b.after old now last w0 w1 row bad counts served [] (map Ok entries ++ b.whys) p
-            (subst (λ (l : List Fields). HaveGone left l b.after) (ap (λ (l : List Fields). l ++ b.behind) all ∙ sym (append-nil served)) b.gone)
-            (zip-append (Becomes ad) first.served b.behind (map Ok entries) b.whys first.each b.each)
-            (grown ∙ ap (λ (l : List EntryView). now ++ l) (sym (filter_map-append result_ok (map Ok entries) b.whys ∙ ap (λ (l : List EntryView). added (map Ok entries) ++ l) b.none ∙ append-nil (added (map Ok entries)) ∙ added-some entries)))
-            (subst (λ (n : ℕ). HasGiven start end n) (omega (arith, size, here, long, count)) given)
-            (λ answered is. behind answered (length served) 0 (omega (arith, size, here, long, count, one, few)) (λ same. refl))
-            (λ sound failed empty. absurd (omega (arith, size, here, long, some, ap length empty, length-append served [])))
+            let here : length rows ≡ length first.served = ap length all in (
+              text_behind ad start.left left old now w0 w1 row bad counts p (map Ok entries ++ b.whys),
+              halts ad fault start end left b.after old now last w0 w1 row bad counts served [] (map Ok entries ++ b.whys) p
+                  (subst (λ (l : List Fields). HaveGone left l b.after) (ap (λ (l : List Fields). l ++ b.behind) all ∙ sym (append-nil served)) b.gone)
+                  (zip-append (Becomes ad) first.served b.behind (map Ok entries) b.whys first.each b.each)
+                  (grown ∙ ap (λ (l : List EntryView). now ++ l) (sym (filter_map-append result_ok (map Ok entries) b.whys ∙ ap (λ (l : List EntryView). added (map Ok entries) ++ l) b.none ∙ append-nil (added (map Ok entries)) ∙ added-some entries)))
+                  (subst (λ (n : ℕ). HasGiven start end n) (omega (arith, size, here, long, count)) given)
+                  (λ answered is. behind answered (length served) 0 (omega (arith, size, here, long, count, one, few)) (λ same. refl))
+                  (λ sound failed empty. absurd (omega (arith, size, here, long, some, ap length empty, length-append served []))),
+              λ same. batch_begun ad start.left left old now w0 w1 w2 row bad counts p entries b.whys (begun output),
+            )
         | inr other ↦
             let unserved = first.unserved ++ b.behind in
-            let long = length-append first.unserved b.behind in
-            halts ad fault start end left b.after old now last w0 w1 row bad counts first.served unserved (map Ok entries) p
-            (subst (λ (l : List Fields). HaveGone left l b.after) (ap (λ (l : List Fields). l ++ b.behind) first.is ∙ append_assoc first.served first.unserved b.behind) b.gone)
-            first.each
-            (grown ∙ ap (λ (l : List EntryView). now ++ l) (sym (added-some entries)))
-            (subst (λ (n : ℕ). HasGiven start end n) (omega (arith, size, sizes, long, count)) given)
-            (λ answered is. behind answered (length first.served) (length unserved) (omega (arith, size, sizes, long, count, one, few)) (λ same. absurd (other same)))
-            (λ sound failed empty. absurd (omega (arith, size, sizes, long, some, ap length empty, length-append first.served unserved)))
+            let long = length-append first.unserved b.behind in (
+              text_behind ad start.left left old now w0 w1 row bad counts p (map Ok entries),
+              halts ad fault start end left b.after old now last w0 w1 row bad counts first.served unserved (map Ok entries) p
+                  (subst (λ (l : List Fields). HaveGone left l b.after) (ap (λ (l : List Fields). l ++ b.behind) first.is ∙ append_assoc first.served first.unserved b.behind) b.gone)
+                  first.each
+                  (grown ∙ ap (λ (l : List EntryView). now ++ l) (sym (added-some entries)))
+                  (subst (λ (n : ℕ). HasGiven start end n) (omega (arith, size, sizes, long, count)) given)
+                  (λ answered is. behind answered (length first.served) (length unserved) (omega (arith, size, sizes, long, count, one, few)) (λ same. absurd (other same)))
+                  (λ sound failed empty. absurd (omega (arith, size, sizes, long, some, ap length empty, length-append first.served unserved))),
+              λ same. absurd (other same),
+            )
       ]

@@ -58,12 +58,12 @@ IsBehind (Serving Output) answered served unserved = (served ≤ 4097) × (unser
 IsBehind fault answered served unserved = (served + unserved ≤ 4097) × ((fault ≡ Memory) ⊎ (fault ≡ Write))
 
 -- Where a run has ended early: some first rows were answered by this text, with which the journal had come so
--- far. Those that are served behind them are what the journal has besides; those that are not served left
--- nothing in it. All these were read, and no others. That the input failed is told, unless a row that was
--- read before has no answer.
-abbrev pub Halts : Admission → AppFault → RowsView → RowsView → (old kept now : List EntryView) → List ℕ → Type 0
-Halts a fault before after old kept now text = (answered served unserved rest : List Fields)
-    × (became more : List (Result EntryView RowRefusal)) × (unsaid : List ℕ)
+-- far. Those that are served behind them, whose answers are unsaid, are what the journal has besides; those that
+-- are not served left nothing in it. All these were read, and no others. That the input failed is told, unless
+-- a row that was read before has no answer.
+abbrev pub Halts : Admission → AppFault → RowsView → RowsView → (old kept now : List EntryView) → (text unsaid : List ℕ) → Type 0
+Halts a fault before after old kept now text unsaid = (answered served unserved rest : List Fields)
+    × (became more : List (Result EntryView RowRefusal))
     × IfSome before.left (λ rows. rows ≡ answered ++ served ++ unserved ++ rest)
     × HasGiven before after (length (answered ++ served ++ unserved))
     × Answers a answered became old kept text × Answers a (answered ++ served) (became ++ more) old now (text ++ unsaid)

@@ -5,7 +5,7 @@ ghost use Rattle.std.specs.Prelude.{◌≡◌, ◌≢◌, ◌⊎◌, ◌+◌, �
 ghost use Rattle.std.specs.Prelude.{filter_map, map, Result};
 ghost use Rattle.std.specs.List.{count_by, range_with_len};
 ghost use Rattle.std.specs.Result.{result_err};
-ghost use Rattle.std.specs.Prelude.{drop, length, min, true, IfErr, IfOk, IfSome, IsErrOf, OnOk};
+ghost use Rattle.std.specs.Prelude.{drop, length, min, take, true, IfErr, IfOk, IfSome, IsErrOf, OnOk};
 ghost use Rattle.std.specs.Io.KnownBytes.{Appends};
 ghost use Rattle.pb_core.specs.Request.{EntryView};
 ghost use Rattle.pb_core.specs.declared.answer.Answer.{Answer};
@@ -37,6 +37,7 @@ use crate::refused_rows::RefusedRows;
 use crate::rows_at_hand::RowsAtHand;
 use crate::session::Session;
 use pb_core::answer::Answer;
+use pb_core::no_memory::NoMemory;
 use pb_desk::DeskFault;
 use pb_durable::{ClerkRequest, Device, DurableDesk, DurableFault, Recorded};
 use pb_faults::{AppFault, ServingFault, write_out, write_refused_row};
@@ -100,14 +101,18 @@ pub fn run_serve<D: Device, R: Read, P: RowsAtHand, N: Notice, W: Write>(
         (Only (D.seen desk.new.file.device) (D.may_leave desk.new.file.device)) }
 
     // Where it ends early, some first rows have their answers, and nothing else was said, unless the writer
-    // failed; before its first words nothing was done. What was answered stands in what a crash leaves.
-    ensures stopped { IfErr result (λ fault. (kept : List EntryView) × (text : List ℕ)
+    // failed: then what went out is the front of the text of the answers. Before its first words nothing was
+    // done. What was answered stands in what a crash leaves.
+    ensures stopped { IfErr result (λ fault. (kept : List EntryView) × (text unsaid : List ℕ)
         × Halts session.now.admission.now fault rows.old rows.new desk.old.desk.journal kept
-        desk.new.desk.journal text
+        desk.new.desk.journal text unsaid
         × (fault ≢ AppFault.Serving ServingFault.Output
         → Appends (W.contents writer.old) (W.contents writer.new)
         (heading session.now.torn desk.old.desk ++ text)
         ⊎ ((writer.new ≡ writer.old) × (rows.new ≡ rows.old) × (desk.new ≡ desk.old)))
+        × (fault ≡ AppFault.Serving ServingFault.Output
+        → (n : ℕ) × Appends (W.contents writer.old) (W.contents writer.new)
+        (take n (heading session.now.torn desk.old.desk ++ text ++ unsaid)))
         × (D.tells → (c : List ℕ) → D.may_leave desk.new.file.device c
         → StandsWithin desk.new.desk.opening.version kept desk.new.desk.journal c)) }
 
@@ -173,11 +178,13 @@ fn serve_rows<D: Device, R: Read, P: RowsAtHand, N: Notice, W: Write>(
     ensures blame { (i : ℕ) → IsErrOf result (AppFault.Script (ReadFailed i)) → HasFailed rows.new }
     ensures read { OnOk result (rows.new.fault ≡ None) }
     ensures grown { AddsAdmitted session.now.admission.now desk.old.desk.journal desk.new.desk.journal }
-    ensures stopped { IfErr result (λ fault. (kept : List EntryView) × (text : List ℕ)
+    ensures stopped { IfErr result (λ fault. (kept : List EntryView) × (text unsaid : List ℕ)
         × Halts session.now.admission.now fault rows.old rows.new desk.old.desk.journal kept
-        desk.new.desk.journal text
+        desk.new.desk.journal text unsaid
         × (fault ≢ AppFault.Serving ServingFault.Output → Appends (W.contents writer.old)
         (W.contents writer.new) text)
+        × (fault ≡ AppFault.Serving ServingFault.Output → (n : ℕ) × Appends (W.contents writer.old)
+        (W.contents writer.new) (take n (text ++ unsaid)))
         × (D.tells → (c : List ℕ) → D.may_leave desk.new.file.device c
         → StandsWithin desk.new.desk.opening.version kept desk.new.desk.journal c)) }
     ensures steady { D.tells → D.failures desk.old.file.device ≤ D.failures desk.new.file.device }
@@ -206,7 +213,7 @@ fn serve_rows<D: Device, R: Read, P: RowsAtHand, N: Notice, W: Write>(
             BatchEnd::Refused(why) => {
                 row += 1;
                 refused.add(why);
-                say_refused(writer, why, row)?;
+                say_refused(alloc, writer, why, row)?;
             }
         }
     }
@@ -255,7 +262,9 @@ fn answer<D: Device, N: Notice, W: Write>(
         → W.contents writer.new ≡ W.contents writer.old) }
     ensures asked { (answers : List Answer)
         × (desk.new.desk.journal ≡ desk.old.desk.journal ++ entries_of asks.items answers)
-        × (IsErrOf result (AppFault.Serving ServingFault.Output) → length answers ≡ length asks.items) }
+        × (IsErrOf result (AppFault.Serving ServingFault.Output) → (length answers ≡ length asks.items)
+        × (n : ℕ) × Appends (W.contents writer.old) (W.contents writer.new) (take n
+        (text_of_rows (rows_from (length desk.old.desk.journal + 1) (entries_of asks.items answers))))) }
     ensures legal { IsLegal desk.new.desk.opening desk.new.desk.journal }
     ensures opening { desk.new.desk.opening ≡ desk.old.desk.opening }
     ensures any_moment { D.tells → LeavesOnly D.moment D.left_since desk.old.file.device desk.new.file.device
@@ -299,13 +308,40 @@ fn tell<N: Notice>(notice: &N, answers: &[Answer]) {
 }
 
 /// Says why this row, from 1, is refused.
-fn say_refused<W: Write>(writer: &mut W, why: RowRefusal, row: u64) -> Result<(), AppFault>
+fn say_refused<W: Write>(
+    alloc: Global,
+    writer: &mut W,
+    why: RowRefusal,
+    row: u64,
+) -> Result<(), AppFault>
     ensures ok { OnOk result (Appends (W.contents writer.old) (W.contents writer.new)
         (line (told (AppFault.Script (fault_of_row why row))).1)) }
-    ensures fault { IfErr result (λ fault. fault ≡ AppFault.Serving ServingFault.Output) }
+    ensures fault { IfErr result (λ fault. (fault ≡ AppFault.Serving ServingFault.Output)
+        ⊎ (fault ≡ AppFault.Memory)) }
+    ensures unsaid { IfErr result (λ fault. fault ≢ AppFault.Serving ServingFault.Output
+        → W.contents writer.new ≡ W.contents writer.old) }
+    ensures front { IfErr result (λ fault. fault ≡ AppFault.Serving ServingFault.Output
+        → (n : ℕ) × Appends (W.contents writer.old) (W.contents writer.new)
+        (take n (line (told (AppFault.Script (fault_of_row why row))).1))) }
 {
-    if write_refused_row(writer, why, row).is_err() || writer.flush().is_err() {
-        return Err(AppFault::Serving(ServingFault::Output));
+    let said = refused_line(alloc, why, row)?;
+    write_out(
+        writer,
+        said.as_slice(),
+        AppFault::Serving(ServingFault::Output),
+    )
+}
+
+/// The line of why this row, from 1, is refused.
+fn refused_line(alloc: Global, why: RowRefusal, row: u64) -> Result<Vec<u8>, NoMemory>
+    ensures { IfOk result (λ text. text.items ≡ line (told (AppFault.Script (fault_of_row why row))).1) }
+{
+    let mut text = Vec::new(alloc);
+    match write_refused_row(&mut text, why, row) {
+        Ok(()) => Ok(text),
+        Err(_) => {
+            drop(text);
+            Err(NoMemory)
+        }
     }
-    Ok(())
 }

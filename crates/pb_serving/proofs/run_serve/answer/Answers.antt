@@ -15,7 +15,7 @@ use Rattle.std.specs.Io.KnownBytes.{Appends}
 use Rattle.pb_desk.specs.declared.version.Version.TheVariants.{One}
 use Rattle.pb_durable.specs.Inner.Entries.{entries_of}
 use Rattle.pb_serving.proofs.Apart.{ok_not_err, output_not_read, same_err}
-use Rattle.pb_serving.proofs.Answering.{nothing_said, said_rows}
+use Rattle.pb_serving.proofs.Answering.{nothing_said, said_rows, Begun}
 use Rattle.pb_durable.specs.declared.clerk_request.ClerkRequest.{ClerkRequest}
 use Rattle.std.proofs.lemmas.List.{append-nil, nil_from_length}
 use Rattle.std.proofs.lemmas.Grind.{common_steps}
@@ -71,7 +71,15 @@ returns-in-Err-clause-asked g c =
 pub returns-in_err-write_out-clause-asked : goal.returns-in_err-write_out-clause-asked
 returns-in_err-write_out-clause-asked g c =
     let answered = c.in-Ok.ensures.answered in
-    (c.in-Ok.recorded.answers.items, answered.1, λ said. answered.0)
+    let recorded = c.in-Ok.recorded in
+    let rows = said_rows c.args.desk.now.desk.journal c.serve_all.new.self.desk.journal (entries_of c.args.asks.items recorded.answers.items) recorded.rows.items answered.1 (c.in-Ok.ensures.rows One) in (
+      recorded.answers.items,
+      answered.1,
+      λ said. (
+        answered.0,
+        subst (Begun (g.W.Write.contents c.args.writer.now) (g.W.Write.contents c.write_out.new.writer)) (c.as_slice.ensures.value ∙ rows) c.in_err-write_out.ensures.front,
+      ),
+    )
 
 pub returns-in-Err-clause-not_read : goal.returns-in-Err-clause-not_read
 returns-in-Err-clause-not_read g c = λ i said.
@@ -114,7 +122,7 @@ returns-clause-steady g c = λ tells. c.serve_all.ensures.steady tells
 pub returns-clause-asked : goal.returns-clause-asked
 returns-clause-asked g c =
     let answered = c.in-Ok.ensures.answered in
-    (c.in-Ok.recorded.answers.items, answered.1, λ said. answered.0)
+    (c.in-Ok.recorded.answers.items, answered.1, λ said. absurd (ok_not_err said))
 
 pub returns-clause-told : goal.returns-clause-told
 returns-clause-told g c = λ tells failed. absurd (ok_not_err (sym c.in-Ok.is ∙ c.serve_all.ensures.told tells failed))

@@ -1,4 +1,4 @@
-use Rattle.std.proofs.Common.{◌≡◌, ◌∙◌, ◌++◌, ℕ, drop, length, inl, inr, [], Err, IsErrAnd, refl, ap, sym, subst, arith}
+use Rattle.std.proofs.Common.{◌≡◌, ◌∙◌, ◌++◌, ℕ, append_assoc, drop, length, inl, inr, [], Err, IsErrAnd, refl, ap, sym, subst, arith}
 use Rattle.std.specs.Io.KnownBytes.{Appends}
 use Rattle.std.proofs.KnownBytes.{Appends-trans}
 use Rattle.pb_desk.specs.Desk.{DeskView}
@@ -13,10 +13,10 @@ use Rattle.pb_faults.specs.declared.fault.AppFault.{AppFault}
 use Rattle.pb_faults.specs.declared.fault.AppFault.TheVariants.{Memory, Serving, Write}
 use Rattle.pb_faults.specs.declared.serving_fault.ServingFault.TheVariants.{Output}
 use Rattle.pb_desk.specs.Replay.{IsLegal}
-use Rattle.pb_serving.proofs.Answering.{halts_behind_all, halts_unbegun, not_stopped, HasAnswered}
-use Rattle.pb_serving.proofs.Apart.{ok_not_err, output_not_read, output_not_write, same_err}
+use Rattle.pb_serving.proofs.Answering.{begun_behind, begun_more, halts_behind_all, halts_unbegun, not_stopped, Begun, HasAnswered}
+use Rattle.pb_serving.proofs.Apart.{ok_not_err, output_not_memory, output_not_read, output_not_write, same_err}
 use Rattle.pb_serving.proofs.Batches.{adds_none}
-use Rattle.pb_serving.proofs.Causes.{behind_device, err_is, not_durable, not_output, told_is}
+use Rattle.pb_serving.proofs.Causes.{behind_device, device_not_output, err_is, not_durable, not_output, told_is}
 use Rattle.pb_serving.specs.Inner.Admitted.{AddsAdmitted}
 use Rattle.pb_serving.proofs.Standings.{begins, closes, kept_all, kept_closing}
 use Rattle.pb_serving.proofs.run_serve.run_serve.Goals as goal
@@ -27,8 +27,10 @@ returns-in_err-opened-clause-stopped g c =
     if_err c.from_residual.result Memory _ c.from_residual.ensures.1 (
       old.desk.journal,
       [],
+      [],
       halts_unbegun c.args.session.now.admission.now Memory c.args.rows.now old.desk.journal (omega arith, inl refl),
       λ other. inr (refl, refl, refl),
+      λ output. absurd (output_not_memory output),
       λ tells f left. kept_all g.D.Device.moment g.D.Device.left_since g.D.Device.seen g.D.Device.may_leave old (c.requires tells) f left,
     )
 
@@ -40,12 +42,18 @@ returns-in_err-write_out-clause-stopped g c =
     let old = c.args.desk.now in
     let why = c.in_err-write_out.field-0.0 in
     let is : why ≡ Serving Output = c.in_err-write_out.ensures.fault in
+    let before = g.W.Write.contents c.args.writer.now in
+    let after = g.W.Write.contents c.write_out.new.writer in
+    let head = heading c.args.session.now.torn old.desk in
+    let head_is : c.as_slice.result.now ≡ head = c.as_slice.ensures.value ∙ c.in_ok-opened.ensures ∙ ap (λ (d : DeskView). heading c.args.session.now.torn d) c.desk-2.ensures in
     if_err c.from_residual-in_err-write_out.result why _ c.from_residual-in_err-write_out.ensures.1 (
       old.desk.journal,
       [],
-      subst (λ (fault : AppFault). Halts c.args.session.now.admission.now fault c.args.rows.now c.args.rows.now old.desk.journal old.desk.journal old.desk.journal []) (sym is)
+      [],
+      subst (λ (fault : AppFault). Halts c.args.session.now.admission.now fault c.args.rows.now c.args.rows.now old.desk.journal old.desk.journal old.desk.journal [] []) (sym is)
           (halts_unbegun c.args.session.now.admission.now (Serving Output) c.args.rows.now old.desk.journal (omega arith, refl)),
       λ other. absurd (other is),
+      λ output. begun_more before after (head ++ []) [] (begun_more before after head [] (subst (Begun before after) head_is c.in_err-write_out.ensures.front)),
       λ tells f left. kept_all g.D.Device.moment g.D.Device.left_since g.D.Device.seen g.D.Device.may_leave old (c.requires tells) f left,
     )
 
@@ -62,8 +70,15 @@ returns-in_err-refused-clause-stopped g c =
     let head_is : c.as_slice.result.now ≡ head = c.as_slice.ensures.value ∙ c.in_ok-opened.ensures ∙ ap (λ (d : DeskView). heading c.args.session.now.torn d) c.desk-2.ensures in
     let opened = subst (Appends before mid) head_is c.in_ok-write_out.ensures.ok in
     let s = c.in_err-refused.ensures.stopped in
-    if_err c.from_residual-in_err-refused.result c.in_err-refused.field-0.0 _ c.from_residual-in_err-refused.ensures.1
-    (s.0, s.1, s.2, λ other. inl (Appends-trans before mid after head s.1 opened (s.3 other)), s.4)
+    if_err c.from_residual-in_err-refused.result c.in_err-refused.field-0.0 _ c.from_residual-in_err-refused.ensures.1 (
+      s.0,
+      s.1,
+      s.2,
+      s.3,
+      λ other. inl (Appends-trans before mid after head s.1 opened (s.4 other)),
+      λ output. subst (Begun before after) (sym (append_assoc head s.1 s.2)) (begun_behind before mid after head (s.1 ++ s.2) opened (s.5 output)),
+      s.6,
+    )
 
 pub returns-in_err-close-clause-stopped : goal.returns-in_err-close-clause-stopped
 returns-in_err-close-clause-stopped g c =
@@ -83,8 +98,10 @@ returns-in_err-close-clause-stopped g c =
     if_err c.from_residual-in_err-close.result why _ c.from_residual-in_err-close.ensures.1 (
       now.desk.journal,
       a.2,
-      subst (λ (d : DeskView). Halts c.args.session.now.admission.now why c.args.rows.now c.serve_rows.new.rows old.desk.journal now.desk.journal d.journal a.2) (sym c.close.ensures.desk) halts,
+      [],
+      subst (λ (d : DeskView). Halts c.args.session.now.admission.now why c.args.rows.now c.serve_rows.new.rows old.desk.journal now.desk.journal d.journal a.2 []) (sym c.close.ensures.desk) halts,
       λ other. inl (Appends-trans before mid after head a.2 opened a.6),
+      λ output. absurd (device_not_output c.in_err-close.field-0.0 output),
       λ tells f here. subst (λ (d : DeskView). StandsWithin d.opening.version now.desk.journal d.journal f) (sym c.close.ensures.desk)
           (kept_closing g.D.Device.moment g.D.Device.left_since g.D.Device.seen g.D.Device.may_leave g.met.D.Device.counts_now now end.file.device (c.close.ensures.any_moment tells) f here),
     )

@@ -4,17 +4,19 @@ use Rattle.std.specs.Io.KnownBytes.{Appends}
 use Rattle.pb_durable.proofs.Openings.{if_err}
 use Rattle.pb_durable.specs.Inner.Entries.{entries_of}
 use Rattle.pb_script.specs.RowsView.{HasGiven}
-use Rattle.pb_serving.specs.Answered.{IsBehind}
+use Rattle.pb_desk.specs.Rows.{rows_from}
+use Rattle.pb_rows.specs.Writing.{text_of_rows}
+use Rattle.pb_serving.specs.Answered.{answers_from, IsBehind}
 use Rattle.pb_serving.specs.Inner.Admitted.{AddsAdmitted}
 use Rattle.pb_serving.specs.Inner.Batch.{refused, EndsBy}
 use Rattle.pb_serving.specs.Inner.Refused.{refusals_of, with_refusal}
 use Rattle.pb_serving.specs.declared.refused_rows.RefusedRows.{RefusedRows}
 use Rattle.pb_serving.specs.declared.batch.BatchEnd.{BatchEnd}
 use Rattle.pb_serving.specs.declared.batch.BatchEnd.TheVariants as end
-use Rattle.pb_serving.proofs.Answering.{bad_more, batch_more, done, gives, gone_mid, halts, halts_here, moved, started, text_so_far, Outcome}
-use Rattle.pb_serving.proofs.Apart.{cons_not_nil, memory_not_failed, memory_not_read, memory_not_write, more_not_failed, ok_not_err, output_not_read, output_not_write, refused_not_failed, same_err, script_not_write}
+use Rattle.pb_serving.proofs.Answering.{bad_more, batch_more, done, gives, gone_mid, halts, halts_here, moved, refused_begun, started, text_behind, text_so_far, Begun, Outcome}
+use Rattle.pb_serving.proofs.Apart.{cons_not_nil, memory_not_failed, memory_not_read, memory_not_write, more_not_failed, ok_not_err, output_not_memory, output_not_script, refused_not_failed, same_err, script_not_write}
 use Rattle.pb_serving.proofs.Batches.{adds_more, adds_none, asks_clerks, entries_admitted}
-use Rattle.pb_serving.proofs.Causes.{err_is, has_cause, not_failed, told_is}
+use Rattle.pb_serving.proofs.Causes.{behind_refused, err_is, has_cause, not_failed, refused_not_read, refused_not_write, told_is}
 use Rattle.pb_serving.proofs.Standings.{begins, goes_on, kept_all, kept_first}
 use Rattle.pb_serving.proofs.Unanswered.{unanswered}
 use Rattle.pb_script.specs.declared.script_fault.ScriptFault.TheVariants.{TooManyRows}
@@ -63,16 +65,21 @@ returns-in_err-answer-clause-stopped g c =
     let end = c.next_batch-end.result in
     let some : 0 < length asks = c.in_err-answer.ensures.some in
     let grown : new.desk.journal ≡ mid.desk.journal ++ entries_of asks asked.0 = asked.1 in
-    let full : why ≡ Serving Output → length asked.0 ≡ length asks = λ is. asked.2 (c.in_err-answer.was ∙ ap (λ (f : AppFault). Err f) is) in
+    let full : why ≡ Serving Output → length asked.0 ≡ length asks = λ is. (asked.2 (c.in_err-answer.was ∙ ap (λ (f : AppFault). Err f) is)).0 in
+    let begun : why ≡ Serving Output → Begun (g.W.Write.contents c.loop.writer) (g.W.Write.contents c.answer.new.writer) (text_of_rows (rows_from (length mid.desk.journal + 1) (entries_of asks asked.0))) =
+    λ is. let more = asked.2 (c.in_err-answer.was ∙ ap (λ (f : AppFault). Err f) is) in (more.1, more.2) in
     let given : HasGiven c.args.rows.now c.next_batch-end.new.rows (c.loop.row + (length asks + refused end)) = gives c.args.rows.now c.loop.rows c.next_batch-end.new.rows c.loop.row (length asks + refused end) inv.given c.next_batch-end.ensures.given in
+    let left = unanswered c.args.session.now.admission.now why c.args.rows.now c.next_batch-end.new.rows c.loop.rows.left c.next_batch-end.new.rows.left old.desk.journal mid.desk.journal new.desk.journal (g.W.Write.contents c.args.writer.now) (g.W.Write.contents c.loop.writer) c.loop.row c.loop.refused.all c.loop.refused.counts
+    batch.rows asks asked.0 end inv.progress batch.each batch.goes_on c.next_batch-end.ensures.few some grown full given c.in_err-answer.ensures.other (g.W.Write.contents c.answer.new.writer) begun in
     if_err c.from_residual.result why _ c.from_residual.ensures.1 (
       mid.desk.journal,
       text_so_far c.args.session.now.admission.now c.args.rows.now.left c.loop.rows.left old.desk.journal mid.desk.journal (g.W.Write.contents c.args.writer.now) (g.W.Write.contents c.loop.writer) c.loop.row c.loop.refused.all c.loop.refused.counts inv.progress,
-      unanswered c.args.session.now.admission.now why c.args.rows.now c.next_batch-end.new.rows c.loop.rows.left c.next_batch-end.new.rows.left old.desk.journal mid.desk.journal new.desk.journal (g.W.Write.contents c.args.writer.now) (g.W.Write.contents c.loop.writer) c.loop.row c.loop.refused.all c.loop.refused.counts
-          batch.rows asks asked.0 end inv.progress batch.each batch.goes_on c.next_batch-end.ensures.few some grown full given c.in_err-answer.ensures.other,
+      left.0,
+      left.1,
       λ other. subst (λ (w : Option (List ℕ)). Appends (g.W.Write.contents c.args.writer.now) w (text_so_far c.args.session.now.admission.now c.args.rows.now.left c.loop.rows.left old.desk.journal mid.desk.journal (g.W.Write.contents c.args.writer.now) (g.W.Write.contents c.loop.writer) c.loop.row c.loop.refused.all c.loop.refused.counts inv.progress))
           (sym (c.in_err-answer.ensures.unsaid other)) inv.progress.said,
-      λ tells f left. kept_first g.D.Device.moment g.D.Device.left_since g.D.Device.seen g.D.Device.may_leave g.met.D.Device.counts_now mid new (entries_of c.next_batch-end.new.asks.items asked.0) c.answer.ensures.opening asked.1 (c.answer.ensures.any_moment tells) f left,
+      left.2,
+      λ tells f there. kept_first g.D.Device.moment g.D.Device.left_since g.D.Device.seen g.D.Device.may_leave g.met.D.Device.counts_now mid new (entries_of c.next_batch-end.new.asks.items asked.0) c.answer.ensures.opening asked.1 (c.answer.ensures.any_moment tells) f there,
     )
 
 pub returns-in_err-answer-clause-any_moment : goal.returns-in_err-answer-clause-any_moment
@@ -155,11 +162,13 @@ returns-in-ReadFailed-clause-stopped g c =
     let sizes : c.loop.row + (length asks + 0) ≡ c.loop.row + length asks = omega arith in (
       new.desk.journal,
       text_so_far c.args.session.now.admission.now c.args.rows.now.left ends.0 old.desk.journal new.desk.journal (g.W.Write.contents c.args.writer.now) (g.W.Write.contents c.answer.new.writer) (c.loop.row + length asks) c.loop.refused.all c.loop.refused.counts so_far,
+      [],
       halts_here c.args.session.now.admission.now c.read_failed.result c.args.rows.now c.next_batch-end.new.rows ends.0 old.desk.journal new.desk.journal (g.W.Write.contents c.args.writer.now) (g.W.Write.contents c.answer.new.writer) (c.loop.row + length asks) c.loop.refused.all c.loop.refused.counts so_far
           (subst (λ (n : ℕ). HasGiven c.args.rows.now c.next_batch-end.new.rows n) sizes given)
           (λ answered is. subst (λ (fault : AppFault). IsBehind fault answered 0 0) (sym c.read_failed.ensures) (omega (arith, size, is), refl))
           (λ sound failed. (_, c.read_failed.ensures)),
       λ other. so_far.said,
+      λ output. absurd (output_not_script output c.read_failed.ensures),
       λ tells f left. kept_all g.D.Device.moment g.D.Device.left_since g.D.Device.seen g.D.Device.may_leave new (c.in_ok-answer.ensures.durable tells) f left,
     )
 
@@ -183,11 +192,13 @@ returns-in-NoMemory-clause-stopped g c =
     let sizes : c.loop.row + (length asks + 0) ≡ c.loop.row + length asks = omega arith in (
       new.desk.journal,
       text_so_far c.args.session.now.admission.now c.args.rows.now.left ends.0 old.desk.journal new.desk.journal (g.W.Write.contents c.args.writer.now) (g.W.Write.contents c.answer.new.writer) (c.loop.row + length asks) c.loop.refused.all c.loop.refused.counts so_far,
+      [],
       halts_here c.args.session.now.admission.now Memory c.args.rows.now c.next_batch-end.new.rows ends.0 old.desk.journal new.desk.journal (g.W.Write.contents c.args.writer.now) (g.W.Write.contents c.answer.new.writer) (c.loop.row + length asks) c.loop.refused.all c.loop.refused.counts so_far
           (subst (λ (n : ℕ). HasGiven c.args.rows.now c.next_batch-end.new.rows n) sizes given)
           (λ answered is. (omega arith, inl refl))
           (λ sound failed. absurd (memory_not_failed c.in-NoMemory.is (c.next_batch-end.ensures.told (inv.sound sound) failed))),
       λ other. so_far.said,
+      λ output. absurd (output_not_memory output),
       λ tells f left. kept_all g.D.Device.moment g.D.Device.left_since g.D.Device.seen g.D.Device.may_leave new (c.in_ok-answer.ensures.durable tells) f left,
     )
 
@@ -283,10 +294,12 @@ returns-clause-stopped g c =
     let mid = c.loop.desk in (
       mid.desk.journal,
       text_so_far c.args.session.now.admission.now c.args.rows.now.left c.loop.rows.left old.desk.journal mid.desk.journal (g.W.Write.contents c.args.writer.now) (g.W.Write.contents c.loop.writer) c.loop.row c.loop.refused.all c.loop.refused.counts inv.progress,
+      [],
       halts_here c.args.session.now.admission.now (Script TooManyRows) c.args.rows.now c.loop.rows c.loop.rows.left old.desk.journal mid.desk.journal (g.W.Write.contents c.args.writer.now) (g.W.Write.contents c.loop.writer) c.loop.row c.loop.refused.all c.loop.refused.counts inv.progress
           inv.given (λ answered is. let many = inv.many in (omega (arith, is, many, c.loop-test.false), refl))
           (λ sound failed. absurd (inv.sound sound failed)),
       λ other. inv.progress.said,
+      λ output. absurd (output_not_script output refl),
       λ tells f left. kept_all g.D.Device.moment g.D.Device.left_since g.D.Device.seen g.D.Device.may_leave mid (inv.durable tells) f left,
     )
 
@@ -311,16 +324,20 @@ returns-in_err-say_refused-in-Refused-clause-stopped g c =
     let given = gives c.args.rows.now c.loop.rows c.next_batch-end.new.rows c.loop.row (length asks + refused (end.Refused c.in-Refused.why)) inv.given (subst (λ (e : BatchEnd). HasGiven c.loop.rows c.next_batch-end.new.rows (length asks + refused e)) c.in-Refused.is c.next_batch-end.ensures.given) in
     let sizes : c.loop.row + (length asks + 1) ≡ c.loop.row + length asks + (1 + 0) = omega arith in
     let why = c.in_err-say_refused-in-Refused.field-0.0 in
-    let is : why ≡ Serving Output = c.in_err-say_refused-in-Refused.ensures.fault in
+    let size : c.len-asking.result ≡ length asks = c.len-asking.ensures ∙ c.next_batch-end.new.asks.ok.0 in
+    let cause = c.in_err-say_refused-in-Refused.ensures.fault in
     let whys : List Outcome = Err c.in-Refused.why ∷ [] in
     if_err c.from_residual-in_err-say_refused-in-Refused.result why _ c.from_residual-in_err-say_refused-in-Refused.ensures.1 (
       new.desk.journal,
       text_so_far ad c.args.rows.now.left between.0 old.desk.journal new.desk.journal (contents c.args.writer.now) (contents c.answer.new.writer) (c.loop.row + length asks) c.loop.refused.all c.loop.refused.counts so_far,
+      text_behind ad c.args.rows.now.left between.0 old.desk.journal new.desk.journal (contents c.args.writer.now) (contents c.answer.new.writer) (c.loop.row + length asks) c.loop.refused.all c.loop.refused.counts so_far whys,
       halts ad why c.args.rows.now c.next_batch-end.new.rows between.0 c.next_batch-end.new.rows.left old.desk.journal new.desk.journal new.desk.journal (contents c.args.writer.now) (contents c.answer.new.writer) (c.loop.row + length asks) c.loop.refused.all c.loop.refused.counts
           (here.0 ∷ []) [] whys so_far between.2 (here.1, tt) (sym (append-nil new.desk.journal)) (subst (λ (n : ℕ). HasGiven c.args.rows.now c.next_batch-end.new.rows n) sizes given)
-          (λ answered same. subst (λ (fault : AppFault). IsBehind fault answered 1 0) (sym is) (omega arith, refl))
+          (λ answered same. behind_refused cause answered)
           (λ sound failed none. absurd (cons_not_nil none)),
-      λ other. absurd (other is),
+      λ other. subst (λ (w : Option (List ℕ)). Appends (contents c.args.writer.now) w (answers_from (length old.desk.journal + 1) 1 so_far.became)) (sym (c.in_err-say_refused-in-Refused.ensures.unsaid other)) so_far.said,
+      λ output. refused_begun ad c.args.rows.now.left between.0 old.desk.journal new.desk.journal (contents c.args.writer.now) (contents c.answer.new.writer) (contents c.say_refused.new.writer) (c.loop.row + length asks) c.loop.refused.all c.loop.refused.counts so_far
+          c.in-Refused.why (c.loop.row + c.len-asking.result + 1) (omega (arith, size)) (c.in_err-say_refused-in-Refused.ensures.front output),
       λ tells f left. kept_all g.D.Device.moment g.D.Device.left_since g.D.Device.seen g.D.Device.may_leave new (c.in_ok-answer.ensures.durable tells) f left,
     )
 
@@ -472,10 +489,10 @@ pub returns-in-ReadFailed-clause-blame : goal.returns-in-ReadFailed-clause-blame
 returns-in-ReadFailed-clause-blame g c = λ i said. c.next_batch-end.ensures.blame c.in-ReadFailed.is
 
 pub returns-in_err-say_refused-in-Refused-clause-blame : goal.returns-in_err-say_refused-in-Refused-clause-blame
-returns-in_err-say_refused-in-Refused-clause-blame g c = λ i said. absurd (output_not_read c.in_err-say_refused-in-Refused.ensures.fault (told_is c.from_residual-in_err-say_refused-in-Refused.ensures.1 said))
+returns-in_err-say_refused-in-Refused-clause-blame g c = λ i said. absurd (refused_not_read c.in_err-say_refused-in-Refused.ensures.fault (told_is c.from_residual-in_err-say_refused-in-Refused.ensures.1 said))
 
 pub returns-in_err-say_refused-in-Refused-clause-write : goal.returns-in_err-say_refused-in-Refused-clause-write
-returns-in_err-say_refused-in-Refused-clause-write g c = λ tells said. absurd (output_not_write c.in_err-say_refused-in-Refused.ensures.fault (told_is c.from_residual-in_err-say_refused-in-Refused.ensures.1 said))
+returns-in_err-say_refused-in-Refused-clause-write g c = λ tells said. absurd (refused_not_write c.in_err-say_refused-in-Refused.ensures.fault (told_is c.from_residual-in_err-say_refused-in-Refused.ensures.1 said))
 
 pub returns-in_err-say_refused-in-Refused-clause-output : goal.returns-in_err-say_refused-in-Refused-clause-output
 returns-in_err-say_refused-in-Refused-clause-output g c = λ tells said. c.in_ok-answer.ensures.durable tells
