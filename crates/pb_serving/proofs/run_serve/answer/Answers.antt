@@ -72,14 +72,9 @@ pub returns-in_err-write_out-clause-asked : goal.returns-in_err-write_out-clause
 returns-in_err-write_out-clause-asked g c =
     let answered = c.in-Ok.ensures.answered in
     let recorded = c.in-Ok.recorded in
-    let rows = said_rows c.args.desk.now.desk.journal c.serve_all.new.self.desk.journal (entries_of c.args.asks.items recorded.answers.items) recorded.rows.items answered.1 (c.in-Ok.ensures.rows One) in (
-      recorded.answers.items,
-      answered.1,
-      λ said. (
-        answered.0,
-        subst (Begun (g.W.Write.contents c.args.writer.now) (g.W.Write.contents c.write_out.new.writer)) (c.as_slice.ensures.value ∙ rows) c.in_err-write_out.ensures.front,
-      ),
-    )
+    let rows = said_rows c.args.desk.now.desk.journal c.serve_all.new.self.desk.journal (entries_of c.args.asks.items recorded.answers.items) recorded.rows.items answered.1 (c.in-Ok.ensures.rows One) in
+    let begun = subst (Begun (g.W.Write.contents c.args.writer.now) (g.W.Write.contents c.write_out.new.writer)) (c.as_slice.ensures.value ∙ rows) c.in_err-write_out.ensures.front in
+    (recorded.answers.items, answered.1, λ said. (answered.0, begun.0, begun.1))
 
 pub returns-in-Err-clause-not_read : goal.returns-in-Err-clause-not_read
 returns-in-Err-clause-not_read g c = λ i said.
