@@ -22,20 +22,21 @@ GROUPS = re.compile(r'[1-9][0-9]{0,2}([.,])[0-9]{3}((?:\1[0-9]{3})*)(?:(?!\1)([.
 SMALL = re.compile('[1-9][0-9]{0,2}(?:[.,][0-9]{1,2})?')
 # Ids that a spreadsheet shortened, or made dates of.
 CHANGED = re.compile(r'[0-9]+([.,][0-9]+)?E\+[0-9]+|[0-9]{15}0+|[0-9]{4}-[0-9]{2}-[0-9]{2} 00:00:00', re.I)
-# What a log says was done to a vote begins so.
-DONE = 'insert', 'updat', 'delet', 'remov', 'cancel', 'revok', 'withdr'
+# A time, and how that begins which a log says was done to a vote.
+TIME = re.compile('[0-9]:[0-9]').search
+DONE = re.compile('insert|updat|delet|remov|cancel|revok|withdr', re.IGNORECASE).match
 # What a count reads of META, and the columns that a section needs.
 NEEDED = 'budget', 'vote_type', 'max_length'
 COLUMNS = {'projects': [{'project_id', 'cost'}], 'votes': [{'voter_id', 'vote'}, {'voter_id', 'project_id'}]}
-# The tables that `--template` makes, and their rows.
-TEMPLATE = {'projects': [['project_id', 'cost', 'name'], ['P1', '12000', 'Trees for the market square'],
-                         ['P2', '8500', 'Bicycle stands']],
-            'votes': [['voter_id', 'vote'], ['example1', 'P1,P2'], ['example2', 'P2']]}
+# The tables that `--template` makes.
+TEMPLATE = {'projects': 'project_id;cost;name\r\nP1;12000;Trees for the market square\r\nP2;8500;Bicycle stands\r\n',
+            'votes': 'voter_id;vote\r\nexample1;P1,P2\r\nexample2;P2\r\n'}
 WRITER = csv.writer(types.SimpleNamespace(write=str), delimiter=';')
 
 def seen(text):
     """The text without white space, and without what nobody sees, at its ends."""
-    return text.strip(EDGES)
+    # Most texts are printable ASCII, where only spaces can't be seen: this takes less time.
+    return text.strip(' ' if text.isascii() and text.isprintable() else EDGES)
 
 def name_of(field):
     """A heading, a key of META or the name of a column, as it is compared."""
@@ -46,9 +47,10 @@ def shown(text):
     text = ''.join(it if it.isprintable() else f'\\u{{{ord(it):x}}}' for it in text[:61])
     return '`' + (text if len(text) <= 60 else text[:60] + '..') + '`'
 
+@functools.lru_cache(1 << 16)
 def ids_of(vote):
     """The ids that a vote names."""
-    return [*filter(None, map(trimmed, vote.split(',')))]
+    return tuple(filter(None, map(trimmed, vote.split(','))))
 
 def records(text, separator=';', spaces=False):
     """The rows of a text. Empty lines are no rows."""
@@ -63,9 +65,10 @@ def label_of(names, column):
     name = names[column] if column < len(names) else ''
     return name if name and names.count(name) == 1 and not name.isdigit() else str(column + 1)
 
-def is_columns(names, section):
-    """Whether these are column names of a section."""
-    return any(it <= {*names} for it in COLUMNS.get(section, ()))
+def columns_of(fields, sections=SECTIONS):
+    """The names of columns, where these fields are such names of one of the sections, else none."""
+    names = [*map(name_of, fields)]
+    return names if any(it <= {*names} for section in sections for it in COLUMNS.get(section, ())) else []
 
 @dataclasses.dataclass(slots=True, eq=False)
 class Row:
@@ -77,13 +80,15 @@ class Row:
     names: list = ()
 
     def edit(self, column, what, after):
-        self.log = [*self.log, (label_of(self.names, column), what, self.fields[column], after)]
-        self.fields[column] = after
+        """Changes a field, unless it says this already."""
+        if after != trimmed(self.fields[column]):
+            self.log = [*self.log, (label_of(self.names, column), what, self.fields[column], after)]
+            self.fields[column] = after
 
     def edit_unseen(self, column):
         """Takes what nobody sees from the ends of a field."""
-        if column < len(self.fields) and seen(self.fields[column]) != trimmed(self.fields[column]):
-            self.edit(column, UNSEEN, seen(self.fields[column]))
+        if column < len(self.fields) and (after := seen(self.fields[column])) != self.fields[column]:
+            self.edit(column, UNSEEN, after)
 
     def leave_out(self, what):
         self.log, self.fields = [*self.log, ('', what, row_text(self.fields), '')], []
@@ -110,9 +115,9 @@ class Section:
         """The place of a column: the first of this name; beyond each row if there is none."""
         return self.names.index(name) if name in self.names else 1 << 30
 
-    def rows(self, *columns):
-        """The rows that are not left out, and have these columns."""
-        return [row for row in self.below if max(columns) < len(row.fields)]
+    def rows(self, column):
+        """The rows that are not left out, and have this column."""
+        return [row for row in self.below if column < len(row.fields)]
 
 class Cleaner:
     """Mends the rows of an election, and says by row why some are refused."""
@@ -120,8 +125,6 @@ class Cleaner:
         self.rows, self.given = [*added_rows(rows, given)] if given.projects else rows, given
         self.is_cut = any(it[2] == 'separator' for it in reading)
         self.votes, self.vote = Section(), 0
-        # Ids repeat: what is found of one is kept.
-        self.mended_piece = functools.lru_cache(1 << 16)(self.mended_piece)
 
     def clean(self):
         parts = self.parts()
@@ -137,7 +140,8 @@ class Cleaner:
                 # A spreadsheet fills the row of names up with empty ones.
                 self.refuse_cut(section.below, max(at for at, it in enumerate(section.names, 1) if it))
             below = [*self.projects.below, *self.votes.below]
-            examples = [row for row in below if any([*filter(None, row.fields)] in it for it in TEMPLATE.values())]
+            made = {tuple(row) for table in TEMPLATE.values() for row in records(table)}
+            examples = [row for row in below if (*filter(None, row.fields),) in made]
             for row in examples if len(examples) < len(below) else ():
                 row.refuse('this row is an example of `--template`: delete it')
             self.clean_amounts()
@@ -160,11 +164,11 @@ class Cleaner:
             elif section.names:
                 row.names = section.names
                 section.below.append(row)
-            elif is_columns(names := [*map(name_of, row.fields)], last):
+            elif names := columns_of(row.fields, [last]):
                 section.head, section.names = row, names
                 for column in range(len(names)):
                     row.edit_unseen(column)
-            elif self.given.projects and any(is_columns(names, it) for it in COLUMNS):
+            elif self.given.projects and columns_of(row.fields):
                 row.refuse('these are the column names of the other table: `--projects` and `--votes` are exchanged')
             else:
                 section.above.append(row)
@@ -186,37 +190,34 @@ class Cleaner:
     def refuse_cut(self, rows, width):
         """Refuses rows that a separator within a field has cut."""
         for row in rows if self.is_cut else ():
-            if any(map(seen, row.fields[width:])):
+            if len(row.fields) > width and any(map(seen, row.fields[width:])):
                 row.refuse('the row has more fields than there are column names: put quotation marks around the field '
                            'that has the separator in it')
 
     def clean_amounts(self):
         """Takes groups of thousands out where only one reading is possible, and rounds what is asked for."""
-        cost, marks, shows, texts = self.projects.column('cost'), self.given.marks, {}, {}
+        cost, marks, texts, shows = self.projects.column('cost'), self.given.marks, {}, {'.': {}, ',': {}}
         places = [(row, 1) for key, row in self.meta.items() if key == 'budget' and len(row.fields) > 1]
         places += [(row, cost) for row in self.projects.rows(cost)]
         for row, column in places:
             row.edit_unseen(column)
             for what, form, gives in AMOUNT_REPAIRS:
-                if form.search(trimmed(row.fields[column])):
-                    row.edit(column, what, form.sub(gives, trimmed(row.fields[column])))
+                row.edit(column, what, form.sub(gives, trimmed(row.fields[column])))
             texts[row] = trimmed(row.fields[column])
             # The first row that shows a mark to be one of thousands, or of decimals.
             groups, decimals = GROUPS.fullmatch(texts[row]), re.fullmatch('[0-9]+([.,])([0-9]+)', texts[row])
             mark = groups[3] if groups else decimals and decimals[1]
             if mark:
-                shows.setdefault((mark, 'decimals'), row)
+                shows[mark].setdefault('decimals', row)
             if groups and (groups[2] or groups[3]):
-                shows.setdefault((groups[1], 'thousands'), row)
+                shows[groups[1]].setdefault('thousands', row)
             elif marks and decimals and len(decimals[2]) == 3:
-                shows.setdefault((decimals[1], marks), row)
+                shows[decimals[1]].setdefault(marks, row)
         if not self.refuse_small(texts):
-            for mark in '.,':
-                both = [shows.get((mark, it)) for it in ('thousands', 'decimals')]
-                if None not in both:
-                    first, last = sorted(both, key=self.rows.index)
-                    last.refuse(f'`{mark}` marks thousands and decimals, here and in record {first.key}, whatever '
-                                '`--marks` says: write all amounts alike')
+            for mark, (first, *others) in [(it, rows.values()) for it, rows in shows.items() if rows]:
+                for row in others:
+                    row.refuse(f'`{mark}` marks thousands and decimals, here and in record {first.key}, whatever '
+                               '`--marks` says: write all amounts alike')
         for row, column in places:
             self.clean_amount(row, column, shows)
 
@@ -234,18 +235,17 @@ class Cleaner:
     def clean_amount(self, row, column, shows):
         """Takes out what marks thousands. Rounds what a sum left, and more if the option asks for it."""
         groups = GROUPS.fullmatch(trimmed(row.fields[column]))
-        if groups and (groups[1], 'thousands') in shows:
+        if groups and 'thousands' in shows[groups[1]]:
             what = '--marks' if self.given.marks and not groups[2] and not groups[3] else GROUPED
             row.edit(column, what, groups[0].replace(groups[1], ''))
-        elif groups and (groups[1], 'decimals') not in shows:
+        elif groups and 'decimals' not in shows[groups[1]]:
             row.refuse(f'the amount {shown(groups[0])} can be {groups[0].replace(groups[1], "")} or {groups[0][:-1]}: '
                        'name `--marks thousands` or `--marks decimals`')
         parts = re.fullmatch('([0-9]{1,20})([.,])([0-9]{3,40})', trimmed(row.fields[column]))
         if parts and parts[3][2:].strip('0'):
             exact = decimal.Decimal(f'{parts[1]}.{parts[3]}')
             is_dust = abs(exact - round(exact, 2)) * 10**8 <= 1
-            way = 'half-up' if is_dust else self.given.round
-            if way:
+            if way := 'half-up' if is_dust else self.given.round:
                 amount = exact.quantize(decimal.Decimal('0.01'), 'ROUND_' + way.replace('-', '_').upper())
                 row.edit(column, 'float dust' if is_dust else '--round', str(amount).replace('.', parts[2]))
 
@@ -276,12 +276,12 @@ class Cleaner:
             head.edit(names.index('project_id'), 'heading of rows to join', 'vote')
             names[names.index('project_id')] = 'vote'
         self.voter, self.vote = map(self.votes.column, ('voter_id', 'vote'))
-        rows, voters = self.votes.rows(self.voter, self.vote), collections.defaultdict(list)
+        rows, voters = self.votes.rows(max(self.voter, self.vote)), collections.defaultdict(list)
         # How many ids a vote has at most that needs nothing: beside lists other signs may say something else.
         self.most, faulty = 0, []
         for row in rows:
             row.edit_unseen(self.voter)
-            voters[trimmed(row.fields[self.voter])].append(row)
+            voters[trimmed(row.fields[self.voter]) if way else ''].append(row)
             if self.ids.issuperset(ids := {*ids_of(row.fields[self.vote])}):
                 self.most = max(self.most, len(ids))
             # A line end may part two ballots, and in a row of more fields than names the vote may stand elsewhere.
@@ -292,9 +292,9 @@ class Cleaner:
             if kinds:
                 row.edit(self.vote, ', '.join(kinds), after)
         self.take_out(self.zero, '--drop-zero-cost')
-        repeated = {name: same for name, same in voters.items() if way and name and len(same) > 1}
+        repeated = {name: same for name, same in voters.items() if name and len(same) > 1}
         # Where other rows of a voter differ, or the id is a time, equal rows may be of different people.
-        self.are_copies = all(len({row_text(row.fields) for row in same}) == 1 and not re.search('[0-9]:[0-9]', name)
+        self.are_copies = all(len({row_text(row.fields) for row in same}) == 1 and not TIME(name)
                               for name, same in repeated.items())
         for name, same in repeated.items():
             self.clean_repeated(name, same, voters)
@@ -319,6 +319,7 @@ class Cleaner:
         pieces = [*map(self.mended_piece, text.split(','))]
         return ','.join(it for it, _ in pieces if it), sorted(kinds.union(*(it for _, it in pieces)))
 
+    @functools.lru_cache(1 << 16)        # ids repeat
     def mended_piece(self, piece):
         """What stands between commas in a vote as it is mended, and what had to be mended in it."""
         text = seen(piece)
@@ -330,18 +331,20 @@ class Cleaner:
     def clean_repeated(self, name, rows, voters):
         """Joins the rows of a voter, keeps one of them, or makes different voters of them."""
         (first, *more), what, way = rows, '--repeated-voters', self.given.repeated_voters
-        for at, said in enumerate(itertools.zip_longest(*(map(seen, row.fields) for row in rows), fillvalue='')):
-            done = [it for it in said if it.lower().startswith(DONE)]
-            if done and len({*map(str.lower, said)}) > 1:
+        if name in self.ids and not any(seen(row.fields[self.vote]) for row in rows):
+            first.refuse('the rows have no vote, and the voter is called as a project: each project of a ballot may '
+                         'stand in a row of its own, below its voter. Look at the ballots')
+        columns = enumerate(itertools.zip_longest(*(row.fields for row in rows), fillvalue=''))
+        columns = ((at, [*map(seen, fields)]) for at, fields in columns if len({*fields}) > 1)
+        for at, said in (it for it in columns if len({*it[1]}) > 1):
+            if (done := [*filter(DONE, said)]) and len({*map(str.lower, said)}) > 1:
                 first.refuse(f'a row says {shown(done[0])}, so the rows may be a log of what was done to votes: get '
                              'the votes as they are at its end')
-            column, are_times = shown(label_of(self.votes.names, at)), all(re.search('[0-9]:[0-9]', it) for it in said)
-            is_falling = len({*said}) > 1 and [*said] == sorted(said, reverse=True)
-            if way == 'last' and is_falling and are_times and all(it[:4].isdigit() for it in said):
-                first.refuse(f'the column {column} says that the rows go from the latest to the earliest: '
-                             '`--repeated-voters first` keeps the latest')
-            if way == 'merge' and at not in (self.voter, self.vote) and len({*said}) > 1 and not are_times:
-                first.refuse(f'rows to join differ in the column {column}, which says '
+            if way == 'last' and all(TIME(it) and it[:4].isdigit() for it in said) and said == sorted(said)[::-1]:
+                first.refuse(f'the column {shown(label_of(self.votes.names, at))} says that the rows go from the '
+                             'latest to the earliest: `--repeated-voters first` keeps the latest')
+            if way == 'merge' and at not in (self.voter, self.vote) and not all(map(TIME, said)):
+                first.refuse(f'rows to join differ in the column {shown(label_of(self.votes.names, at))}, which says '
                              f'{", ".join(map(shown, dict.fromkeys(said)))}: if some such rows are no votes, delete '
                              'them; if they are other people, name `--repeated-voters distinct`; if it says something '
                              'else, delete the column')
@@ -352,19 +355,24 @@ class Cleaner:
             first.refuse(f'record {more[0].key} is the same in all fields, so it may be a copy: look at the ballots; '
                          'delete it, or give it another id')
         if way == 'merge':
-            after = ','.join(dict.fromkeys(it for row in rows for it in ids_of(row.fields[self.vote])))
-            if after != trimmed(first.fields[self.vote]):
-                first.edit(self.vote, what, after)
+            ids = dict.fromkeys(it for row in rows for it in ids_of(row.fields[self.vote]))
+            first.edit(self.vote, what, ','.join(ids))
         for row in more if way in ('merge', 'first') else rows[:-1] if way == 'last' else ():
             row.leave_out(what)
         others = (it for it in (f'{name}-{number}' for number in itertools.count(2)) if it not in voters)
         for row, other in zip(more if way == 'distinct' else (), others):
             row.edit(self.voter, what, other)
 
+    def refuse_emptied(self):
+        """Refuses votes of which none names a project, if rows were joined or left out, or ids taken out."""
+        done = {what for row in self.votes.below for _, what, *_ in row.log if what[:4] in ('--re', '--dr')}
+        if done and not any(ids_of(row.fields[self.vote]) for row in self.votes.rows(self.vote)):
+            self.votes.head.refuse(f'with `{"` and `".join(sorted(done))}` no vote names a project: they may be of '
+                                   'another election, or ids stand in another column or row. Look at the ballots')
+
     def take_out(self, ids, what):
         """Takes ids out of the votes, and answers whether one had some of them."""
-        found = [row for row in (self.votes.rows(self.vote) if ids else ())
-                 if not ids.isdisjoint(ids_of(row.fields[self.vote]))]
+        found = ids and [it for it in self.votes.rows(self.vote) if not ids.isdisjoint(ids_of(it.fields[self.vote]))]
         for row in found:
             row.edit(self.vote, what, ','.join(it for it in ids_of(row.fields[self.vote]) if it not in ids))
         return found

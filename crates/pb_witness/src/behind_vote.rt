@@ -256,10 +256,7 @@ impl VoteColumn {
             place,
             is_before: false,
             is_named: !name.is_empty(),
-            holds_none: is_one_of(OTHERS, name)
-                || is_one_of(NUMBERS, name)
-                || is_of_validity(name)
-                || has_one_of(OF_BEFORE, name),
+            holds_none: holds_none(name),
             is_of_notes: is_one_of(NOTES, name),
             is_of_voters,
             is_of_persons: is_one_of(OF_PERSONS, name),
@@ -329,6 +326,14 @@ impl VoteColumn {
         self.is_open = self.is_shown || first.number < MOST_SINGLE;
         true
     }
+}
+
+/// Whether the name of a column says that it holds no votes of the voter, or notes.
+pub(crate) fn holds_none(name: &str) -> bool {
+    is_one_of(OTHERS, name)
+        || is_one_of(NUMBERS, name)
+        || is_of_validity(name)
+        || has_one_of(OF_BEFORE, name)
 }
 
 /// Whether a text that names projects is several ids, or one with a digit and another character.

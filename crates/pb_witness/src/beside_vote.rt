@@ -1,12 +1,16 @@
 //! Columns of VOTES that no count reads, beside the vote of each row: what all rows show of them.
 
 use crate::behind_vote::{OF_VOTES, names_other};
-use crate::changed::{has_part, is_one_of, plain};
+use crate::changed::{has_part, is_one_of};
+use crate::choices::{Choices, Named};
 use crate::columns::MOST_COLUMNS;
 use crate::prelude::*;
 
 /// The fewest rows by which something is so of all.
 const FEWEST: u64 = 8;
+
+/// The fewest rows above those that were only prepared.
+const FEWEST_ABOVE: u64 = 3;
 
 /// What columns are called that name projects which the voter is against.
 const AGAINST: &str = "against|rejected|veto|contra";
@@ -28,6 +32,10 @@ struct OtherColumn {
     /// too, measured by how many there are.
     names_it: bool,
     more: Option<Odd>,
+    /// The names of projects in it.
+    choices: Choices,
+    /// Whether just the rows with a vote have a text in it.
+    is_of_votes: bool,
 }
 
 /// The columns of VOTES beside the voter's id and the vote.
@@ -40,6 +48,11 @@ pub(crate) struct BesideVote {
     /// How many rows were read, and whether a vote names several projects.
     rows: u64,
     has_list: bool,
+    /// The first row without a vote, measured by how many there are, and whether one has a text beside its id.
+    blank: Option<Odd>,
+    blank_has_more: bool,
+    /// Whether each row above has a vote.
+    pub(crate) are_last: bool,
     /// Whether something may be true of a column.
     pub(crate) is_open: bool,
 }
@@ -58,7 +71,7 @@ impl BesideVote {
                 .iter()
                 .any(|read| name.eq_ignore_ascii_case(read));
             if !is_read && !is_one_of(AGAINST, name) {
-                columns.push(OtherColumn::of(place, !has_part(OF_VOTES, name)))?;
+                columns.push(OtherColumn::of(place, name))?;
             }
         }
         Ok(BesideVote {
@@ -68,6 +81,9 @@ impl BesideVote {
             columns,
             rows: 0,
             has_list: false,
+            blank: None,
+            blank_has_more: false,
+            are_last: true,
         })
     }
 
@@ -75,17 +91,33 @@ impl BesideVote {
     pub(crate) fn take(&mut self, row: &Row<'_>) {
         self.rows = self.rows.saturating_add(1);
         self.has_list |= row.ballot().len() > 1;
+        if row.ballot().is_empty() {
+            let odd = row.odd(Oddity::NoteRows).in_form(4);
+            self.blank = Some(odd.behind(self.blank));
+            self.blank_has_more |= row.has_more();
+        } else {
+            self.are_last &= self.blank.is_none();
+        }
         if !self.is_open {
             return;
         }
         self.is_open = false;
-        let odd = row.odd(Oddity::IdBehindVote).named_in(self.header);
         for column in self.columns.iter_mut() {
             if column.is_open() {
-                column.take(self.alloc, row, odd.at(column.place));
+                column.take(self.alloc, row, self.header);
                 self.is_open |= column.is_open();
             }
         }
+    }
+
+    /// The first of the last rows, which have no vote, if each row above has one and a text in a column in which none of
+    /// these has one; two or more if they have something beside their ids.
+    pub(crate) fn prepared(&self) -> Option<Odd> {
+        let column = self.columns.iter().find(|column| column.is_of_votes)?;
+        let has_above = |odd: &Odd| odd.number.saturating_add(FEWEST_ABOVE) <= self.rows;
+        let odd = self.blank.filter(|odd| self.are_last && has_above(odd))?;
+        let are_enough = odd.number > 1 || !self.blank_has_more;
+        are_enough.then_some(odd.at(column.place).named_in(self.header))
     }
 
     /// Takes the end of the file, and adds the columns that seem to hold votes to these.
@@ -103,7 +135,7 @@ impl BesideVote {
                 .instead
                 .filter(|odd| column.is_instead && odd.number > 1);
             let more = column.more.filter(|odd| column.names_it && is_many(odd));
-            if let Some(odd) = instead.or(more) {
+            if let Some(odd) = instead.or(more).or(column.choices.other_than_votes()) {
                 if !all.iter().any(|other| other.value_place == odd.value_place) {
                     all.push(odd)?;
                 }
@@ -114,31 +146,41 @@ impl BesideVote {
 }
 
 impl OtherColumn {
-    /// A column of which nothing was read, and that may be joined into the vote or not.
-    fn of(place: usize, may_join: bool) -> OtherColumn {
+    /// A column of this name, of which nothing was read. One that says it holds votes is not joined into them.
+    fn of(place: usize, name: &str) -> OtherColumn {
         OtherColumn {
             place,
-            ends: may_join,
+            ends: !has_part(OF_VOTES, name),
             first: None,
             differ: false,
             is_instead: true,
             instead: None,
             names_it: true,
             more: None,
+            choices: Choices::of(name),
+            is_of_votes: true,
         }
     }
 
-    /// Whether something may be true of it.
+    /// Whether something may be true of it; and of its texts.
     fn is_open(&self) -> bool {
-        self.ends || self.is_instead || self.names_it
+        self.is_of_votes || self.is_of_text()
     }
 
-    /// Takes a row, in which the value of this oddity stands in the column.
-    fn take(&mut self, alloc: Global, row: &Row<'_>, odd: Odd) {
-        let (value, vote) = (row.at(self.place), row.value());
+    fn is_of_text(&self) -> bool {
+        self.ends || self.is_instead || self.names_it || self.choices.is_open
+    }
+
+    /// Takes a row below the column names, which begin here.
+    fn take(&mut self, alloc: Global, row: &Row<'_>, header: Mark) {
         let has_vote = !row.ballot().is_empty();
+        self.is_of_votes &= bytes_at(row.record, self.place).is_empty() != has_vote;
+        if !self.is_of_text() {
+            return;
+        }
+        let value = row.at(self.place);
         if self.ends {
-            self.ends &= is_it(vote.rsplit(',').next(), value);
+            self.ends &= is_it(row.value().rsplit(',').next(), value);
             let project = row.projects.place(value);
             self.differ |= self.first.is_some() && self.first != project;
             self.first = project;
@@ -147,14 +189,29 @@ impl OtherColumn {
             self.is_instead = has_vote;
         } else if self.is_instead {
             self.is_instead = !has_vote && names_other(value, &[], row.projects).is_some();
-            self.instead = Some(odd.in_form(1).behind(self.instead));
+            let odd = self.odd(row, header).in_form(1);
+            self.instead = Some(odd.behind(self.instead));
         }
-        if self.names_it {
-            match names_more(alloc, row, value) {
-                Some(true) => self.more = Some(odd.behind(self.more)),
-                Some(false) => {}
-                None => self.names_it = false,
-            }
+        if self.names_it || self.choices.is_open {
+            self.take_names(alloc, row, self.odd(row, header));
+        }
+    }
+
+    /// A row, as odd for its value in the column.
+    fn odd(&self, row: &Row<'_>, header: Mark) -> Odd {
+        let odd = row.odd(Oddity::IdBehindVote).named_in(header);
+        odd.at(self.place)
+    }
+
+    /// Takes what the value of this oddity names.
+    fn take_names(&mut self, alloc: Global, row: &Row<'_>, odd: Odd) {
+        let value = row.at(self.place);
+        let named = Named::of(alloc, row, value);
+        self.choices.take(row, &named, odd);
+        let length = row.ballot().len();
+        self.names_it &= length == 0 || (length == 1 && named.has_own);
+        if length == 1 && named.has_other {
+            self.more = Some(odd.behind(self.more));
         }
     }
 }
@@ -162,31 +219,4 @@ impl OtherColumn {
 /// Whether a piece of a vote is this text, and not empty.
 fn is_it(piece: Option<&str>, text: &str) -> bool {
     !text.is_empty() && piece.is_some_and(|piece| piece.trim() == text)
-}
-
-/// Whether a text names other projects beside the one that the vote names, if it names this one and the vote
-/// no other.
-fn names_more(alloc: Global, row: &Row<'_>, text: &str) -> Option<bool> {
-    let own = match row.ballot() {
-        [] => return Some(false),
-        [own] => *own,
-        _ => return None,
-    };
-    let its = row.projects.mark_at(own)?.at;
-    let (mut has_own, mut has_other) = (false, false);
-    for piece in text.split(',') {
-        let name = plain(alloc, piece).ok()?;
-        if let Some(mark) = row.names.mark(name.as_str()).filter(|_| !name.is_empty()) {
-            has_own |= mark.at == its;
-            has_other |= mark.at != its;
-            continue;
-        }
-        for word in piece.split(|c: char| !c.is_alphanumeric() && c != '-' && c != '_') {
-            if let Some(place) = row.projects.place(word) {
-                has_own |= place == own;
-                has_other |= place != own;
-            }
-        }
-    }
-    has_own.then_some(has_other)
 }

@@ -37,7 +37,10 @@ pub enum Difference {
 
 /// Whether a text is one of these words, with `|` between them, in any case.
 pub fn is_one_of(words: &str, text: &str) -> bool {
-    words.split('|').any(|word| text.eq_ignore_ascii_case(word))
+    let (words, text) = (words.as_bytes(), text.as_bytes());
+    words
+        .split(|byte| *byte == b'|')
+        .any(|word| word.eq_ignore_ascii_case(text))
 }
 
 /// Whether a text says that there is no value, as programs write it.

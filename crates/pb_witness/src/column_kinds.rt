@@ -1,6 +1,6 @@
 //! What a column of PROJECTS or VOTES may have that no count reads, as its name says.
 
-use crate::changed::{begins, has_one_of, has_word, is_one_of};
+use crate::changed::{begins, has_one_of, has_part, has_word, is_one_of};
 use crate::prelude::*;
 
 /// What columns of VOTES are called that have points, and then those that say how many ballots a row is.
@@ -45,6 +45,11 @@ const CURRENCIES: &str =
 const LATER: &str =
     "after|corrected|correction|verified|verification|revised|updated|new|amended|changed";
 
+/// Parts of the name of a column that may have the dates of the votes, and of one that has other dates.
+const OF_DATES: &str = "date|time|day|submit|voted|cast|created|data|datum|czas|zeit|fecha";
+
+const OF_OTHER_DATES: &str = "birth|born|regist|since|member|expir";
+
 /// What stands in a column.
 #[derive(Clone, Copy, PartialEq, Eq)]
 pub(crate) enum Has {
@@ -55,6 +60,10 @@ pub(crate) enum Has {
     Valid,
     ValidOrMore,
     Currencies,
+    /// Perhaps units of the costs.
+    Units,
+    /// Perhaps dates of votes.
+    Dates,
     /// Costs that may be later ones.
     Costs,
     /// Rounds of votes.
@@ -86,7 +95,20 @@ impl Has {
         match self {
             Has::Currencies => 2,
             Has::Rounds => 4,
+            Has::Units => 5,
+            Has::Dates => 6,
             _ => usize::from(is_vote),
+        }
+    }
+
+    /// What a column of another name may have.
+    fn of_others(name: &str, is_votes: bool) -> Option<Has> {
+        if !is_votes {
+            Some(Has::Units)
+        } else if has_part(OF_DATES, name) && !has_part(OF_OTHER_DATES, name) {
+            Some(Has::Dates)
+        } else {
+            None
         }
     }
 
@@ -111,7 +133,7 @@ impl Has {
         } else if !is_votes && is_later && !has_one_of("of", name) {
             Some(Has::Costs)
         } else {
-            None
+            Has::of_others(name, is_votes)
         }
     }
 }

@@ -3,6 +3,10 @@
 use crate::changed::{is_digits, is_one_of};
 use crate::column_kinds::{Has, NUMBERS, POINTS};
 use crate::prelude::*;
+use crate::row::{Limits, day_of};
+
+/// The fewest dates of votes that META excludes.
+const FEWEST_DATES: u64 = 5;
 
 /// How many columns of a section are looked at: an office's sheet has fewer.
 pub(crate) const MOST_COLUMNS: usize = 100;
@@ -15,6 +19,13 @@ const STATES: &str =
     vrai|faux|vero|falso|not approved|not accepted|feasible|unfeasible|infeasible|not feasible|positive|\
     negative|pozytywna|negatywna|missing|preview|survey preview|spam";
 
+/// Words for currencies, and for how many of them an amount is.
+const UNITS: &str =
+    "pln|zl|zł|złoty|złotych|eur|euro|euros|usd|gbp|chf|czk|kč|huf|ft|forint|ron|lei|bgn|sek|nok|dkk|kr|\
+    kronor|isk|uah|rub|try|cad|aud|jpy|cny|inr|brl|dollar|dollars|pound|pounds|franc|francs|€|$|£|in|of|cent|\
+    cents|grosz|grosze|groszy|hundred|hundreds|thousand|thousands|million|millions|mln|mio|tys|tsd|tausend|\
+    tis|tisíc|mille|k€|keur|kpln|kusd|kczk|khuf|teur|tpln|t€";
+
 /// A column that no count reads.
 #[derive(Drop)]
 struct FurtherColumn {
@@ -25,9 +36,10 @@ struct FurtherColumn {
     /// How many of its values were looked at, and how many of them are others than the cost.
     count: u64,
     other: u64,
-    /// The first row, and what it says.
+    /// The first row, and what it says; and the first with another unit, or a date that META excludes.
     first: Option<Odd>,
     value: String,
+    further: Option<Odd>,
 }
 
 /// The columns of a section that no count reads.
@@ -85,6 +97,7 @@ impl FurtherColumns {
             other: 0,
             first: None,
             value: String::new(self.alloc),
+            further: None,
         })?;
         Ok(())
     }
@@ -109,6 +122,10 @@ impl FurtherColumns {
                 let odd = Odd::of_column(Oddity::RepeatedColumn, self.header, column.place);
                 found.take(odd.in_form(2).by(column.other))
             }
+            let are_many = column.other >= FEWEST_DATES
+                && column.other.saturating_mul(10) >= column.count.saturating_mul(9);
+            let is_told = column.is_open && (column.has != Has::Dates || are_many);
+            found.take_some(column.further.filter(|_| is_told));
         }
     }
 }
@@ -127,18 +144,23 @@ impl FurtherColumn {
         let odd = odd.in_form(self.has.form(is_vote));
         let of_column = |oddity: Oddity| Odd::of_column(oddity, header, place);
         match self.has {
-            Has::Points if has_points(value) => {
+            Has::Points if value.contains(',') && has_points(value) => {
                 self.tell(of_column(Oddity::VotesWithPoints), found)
             }
+            Has::Points => {
+                return self.take_state(value, of_column(Oddity::VotesWithPoints), found);
+            }
+            Has::Units if !is_money(value) => self.is_open = value.is_empty(),
             Has::Ballots if is_number(value, row.ballot().len() as u64) => {
                 self.tell(of_column(Oddity::SeveralBallots), found)
             }
-            Has::Points | Has::Ballots => {}
+            Has::Ballots => {}
             Has::Currencies if value.is_empty() => {}
-            Has::Valid | Has::ValidOrMore | Has::Rounds | Has::Currencies => {
+            Has::Valid | Has::ValidOrMore | Has::Rounds | Has::Currencies | Has::Units => {
                 return self.take_state(value, odd, found);
             }
             Has::Costs => self.take_cost(value, Money::read(row.value()).ok()),
+            Has::Dates => self.take_date(value, row.limits, odd),
         }
         Ok(())
     }
@@ -163,7 +185,12 @@ impl FurtherColumn {
             }
             Some(first) if self.is_other(value) => {
                 let before = Some(first.mark);
-                self.tell(Odd { before, ..odd }, found)
+                let odd = Odd { before, ..odd };
+                if self.has != Has::Units {
+                    self.tell(odd, found);
+                } else if self.further.is_none() {
+                    self.further = Some(odd);
+                }
             }
             Some(_) => {}
         }
@@ -177,9 +204,22 @@ impl FurtherColumn {
         let is_state = is_one_of(STATES, value) || is_one_of(STATES, first);
         let differs = !value.eq_ignore_ascii_case(first);
         match self.has {
-            Has::Currencies => differs,
+            Has::Currencies | Has::Units => differs,
+            Has::Points => differs && (has_points(value) || has_points(first)),
             Has::ValidOrMore => differs && is_state && !is_number(value) && !is_number(first),
             _ => differs && (is_state || value.is_empty() != first.is_empty()),
+        }
+    }
+
+    /// Takes a value that may be the date of a vote, which META excludes.
+    fn take_date(&mut self, value: &str, limits: &Limits, odd: Odd) {
+        let is_outside = day_of(value).is_some_and(|day| limits.exclude(day));
+        self.is_open = is_outside || value.is_empty();
+        self.count = self.count.saturating_add(1);
+        self.other = self.other.saturating_add(u64::from(is_outside));
+        if is_outside {
+            let before = limits.dates;
+            self.further = self.further.or(Some(Odd { before, ..odd }));
         }
     }
 
@@ -191,6 +231,12 @@ impl FurtherColumn {
         self.count = self.count.saturating_add(1);
         self.other = self.other.saturating_add(u64::from(is_other));
     }
+}
+
+/// Whether a value is a currency or says of how many an amount is: each of its words is one for that.
+fn is_money(value: &str) -> bool {
+    let mut words = value.split(|c: char| c.is_whitespace() || "().,/".contains(c));
+    !value.is_empty() && words.all(|word| word.is_empty() || is_one_of(UNITS, word))
 }
 
 /// Whether a value of a column of points says that not each project has one.

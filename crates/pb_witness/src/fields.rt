@@ -25,6 +25,30 @@ pub fn text_at(record: &ByteRecord, place: usize) -> &str {
     raw_text(record, place).trim()
 }
 
+/// Whether bytes have this one.
+pub(crate) fn has_byte(bytes: &[u8], byte: u8) -> bool {
+    for other in bytes {
+        if *other == byte {
+            return true;
+        }
+    }
+    false
+}
+
+/// How often this byte stands among others.
+pub(crate) fn count_of(bytes: &[u8], byte: u8) -> usize {
+    let mut count = 0usize;
+    for other in bytes {
+        count = count.saturating_add(usize::from(*other == byte));
+    }
+    count
+}
+
+/// Whether a field of a record has several lines.
+pub(crate) fn has_lines(record: &ByteRecord) -> bool {
+    has_byte(record.as_slice(), b'\n')
+}
+
 /// Whether a field behind the first has a text.
 pub fn has_more(record: &ByteRecord) -> bool {
     (1..record.len()).any(|place| !text_at(record, place).is_empty())

@@ -1,6 +1,7 @@
 //! The ids of a file's projects, as far as a witness was shown them.
 
 use crate::changed::{last_word, plain};
+use crate::fields::has_lines;
 use crate::names_row::name_with_id;
 use crate::prelude::*;
 use crate::swallowed::later_lines;
@@ -59,6 +60,9 @@ impl Ids {
 
     /// Keeps the first fields of rows that stand in a field of this one.
     fn keep_swallowed(&mut self, record: &ByteRecord, mark: Mark) -> Result<(), AllocError> {
+        if !has_lines(record) {
+            return Ok(());
+        }
         for place in 0..record.len() {
             for line in later_lines(record, place).split('\n') {
                 if let Some((id, _)) = line.split_once(';') {

@@ -26,14 +26,12 @@ pub(crate) struct LastVote {
 
 impl LastVote {
     /// Takes the next row.
-    pub(crate) fn take(&mut self, row: &Row<'_>) {
-        let (record, (id_place, vote_place)) = (row.record, row.places());
-        let (id, vote) = (bytes_at(record, id_place), bytes_at(record, vote_place));
-        self.has_more = record.as_slice().len() > id.len().saturating_add(vote.len());
+    pub(crate) fn take(&mut self, row: &Row<'_>, (id, vote): (&[u8], &[u8])) {
+        self.has_more = row.record.as_slice().len() > id.len().saturating_add(vote.len());
         self.first_has_more |= !self.is_there && self.has_more;
         self.is_there = true;
-        let is_end = vote_place.saturating_add(1) == record.len();
-        self.is_cut = is_end && vote.last() == Some(&b',');
+        let is_end = row.places().1.saturating_add(1) == row.record.len();
+        self.is_cut = vote.last() == Some(&b',') && is_end;
         self.cut = self.cut.saturating_add(u64::from(self.is_cut));
     }
 

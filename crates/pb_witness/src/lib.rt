@@ -13,6 +13,7 @@ pub mod behind_vote;
 mod beside_vote;
 pub mod cause;
 pub mod changed;
+mod choices;
 mod column_kinds;
 mod columns;
 pub mod desk_answer;

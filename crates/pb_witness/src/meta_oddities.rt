@@ -1,9 +1,9 @@
 //! What in META can change a result, and what META says that other warnings rest on.
 
-use crate::changed::{begins, has_one_of, is_one_of};
+use crate::changed::{begins, has_one_of, has_part, has_word, is_one_of};
 use crate::keys::Keys;
 use crate::prelude::*;
-use crate::row::Limits;
+use crate::row::{Limits, day_of};
 use crate::unread::UnreadKeys;
 use pb_core::money_fault::MoneyFault;
 use pb_core::project::Project;
@@ -43,6 +43,11 @@ const MISSPELLED: &str =
     maxlength|maxlenght|max-length|max length|min_lenght|min_lengh|min_lengt|min_lenth|min_legth|\
     min_leght|min_lenghth|min_lengths|min_len|minlength|minlenght|min-length|min length";
 
+/// Parts of a key that says how many projects a ballot may name.
+const OF_MOST: &str = "max|limit|per_";
+
+const OF_BALLOTS: &str = "choice|vote|project|select|approv";
+
 /// A number of rows that a row of META says.
 #[derive(Clone, Copy)]
 struct ClaimedNumber {
@@ -76,6 +81,8 @@ pub(crate) struct MetaOddities {
     further: Option<Odd>,
     has_budget_per: bool,
     unread: UnreadKeys,
+    /// The row that may be meant for `max_length`, by its key, with what it allows.
+    most: Option<Odd>,
 }
 
 impl MetaOddities {
@@ -95,6 +102,7 @@ impl MetaOddities {
             further: None,
             has_budget_per: false,
             unread: UnreadKeys::new(alloc),
+            most: None,
         }
     }
 
@@ -134,15 +142,43 @@ impl MetaOddities {
                 self.has_thousands = has_thousands_mark(value);
                 found.has_decimals |= has_decimals(value);
             }
-        } else if key.eq_ignore_ascii_case("min_length") {
+        } else if !self.takes_limit((key, value), mark) {
+            self.take_other((key, value), mark, found)?;
+        }
+        Ok(())
+    }
+
+    /// Takes a key that says what a ballot or a winner needs, and answers whether it is one.
+    fn takes_limit(&mut self, (key, value): (&str, &str), mark: Mark) -> bool {
+        let is_it = |word: &str| key.eq_ignore_ascii_case(word);
+        if is_it("min_length") {
             self.limits.min_length = whole_number(value);
-        } else if key.eq_ignore_ascii_case("min_sum_cost") {
+        } else if is_it("min_sum_cost") {
             self.limits.min_cost = hundredths(value);
-        } else if key.eq_ignore_ascii_case("max_sum_cost") {
+        } else if is_it("max_sum_cost") {
             self.limits.max_cost = hundredths(value);
-        } else if key.eq_ignore_ascii_case("min_project_score_threshold") {
+        } else if is_it("date_begin") {
+            self.limits.begin = day_of(value);
+            self.limits.dates = Some(mark);
+        } else if is_it("date_end") {
+            self.limits.end = day_of(value);
+            self.limits.dates = Some(mark);
+        } else if is_it("min_project_score_threshold") {
             self.fewest = whole_number(value);
-        } else if is_one_of(VOTES, key) {
+        } else {
+            return false;
+        }
+        true
+    }
+
+    /// Takes another key that the count does not use.
+    fn take_other(
+        &mut self,
+        (key, value): (&str, &str),
+        mark: Mark,
+        found: &mut Oddities,
+    ) -> Result<(), AllocError> {
+        if is_one_of(VOTES, key) {
             self.votes = claim_of(self.votes, key, value, mark);
         } else if is_one_of(PROJECTS, key) {
             self.projects = claim_of(self.projects, key, value, mark);
@@ -154,6 +190,11 @@ impl MetaOddities {
             self.rule_mark = mark;
         } else {
             self.take_further(key, value, mark);
+            if is_of_length(key) {
+                let odd = Odd::of_key(Oddity::RepeatedKey, mark).in_form(5);
+                let limit = whole_number(value).filter(|number| matches!(*number, 1..=99));
+                self.most = Some(Odd { limit, ..odd });
+            }
             self.unread.take((key, value), mark)?;
         }
         Ok(())
@@ -205,6 +246,7 @@ impl MetaOddities {
         let are_of_parts = self.has_budget_per || has_districts;
         let further = self.further.filter(|odd| are_of_parts || odd.number > 1);
         found.take_some(further.map(|odd| odd.by(0)));
+        found.take_some(self.most.and_then(|odd| broken_by_few(odd, election)));
         self.unread.end(election, found)
     }
 }
@@ -294,6 +336,25 @@ fn sum_below_budget(election: &Election) -> Option<(u64, usize)> {
         _ if are_below(10, sum) && are_all_below => Some((sum, 1)),
         _ => None,
     }
+}
+
+/// The row of a key that may be meant for `max_length`, if this is not there, and some ballots name more projects, but
+/// at most a quarter of all.
+fn broken_by_few(odd: Odd, election: &Election) -> Option<Odd> {
+    let limit = odd.limit?;
+    let voters = election.voters();
+    let names_more = |length: usize| length as u64 > limit;
+    let more = voters
+        .iter()
+        .filter(|voter| names_more(voter.ballot.places().len()))
+        .count();
+    let are_few = more > 0 && more.saturating_mul(4) <= voters.len();
+    (are_few && election.max_length().is_none()).then_some(odd.by(more as u64))
+}
+
+/// Whether a key seems to say how many projects a ballot may name.
+fn is_of_length(key: &str) -> bool {
+    has_part(OF_MOST, key) && has_part(OF_BALLOTS, key) && !has_word(key, "min")
 }
 
 /// Whether a key has `budget` at its start or its end.

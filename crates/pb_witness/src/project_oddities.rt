@@ -4,6 +4,7 @@ use crate::approvals::Approvals;
 use crate::behind_vote::names_other;
 use crate::changed::{has_digit, has_one_of, is_one_of, is_power};
 use crate::columns::FurtherColumns;
+use crate::fields::has_lines;
 use crate::meta_oddities::{
     has_decimals, has_thousands_mark, may_be_sum, sum_of_costs, whole_number,
 };
@@ -106,7 +107,7 @@ impl ProjectOddities {
         if has_thousands_mark(row.value()) {
             found.take(row.odd(Oddity::ThousandsMark));
         }
-        if row.has_key() {
+        if row.has_key(row.bytes().0) {
             found.take(row.odd(Oddity::FooterRow).in_form(5));
         }
         self.take_cut(row, found);
@@ -137,8 +138,7 @@ impl ProjectOddities {
         let odd = row.odd(Oddity::CutName);
         let is_long = (self.names..row.record.len()).any(|place| !row.at(place).is_empty());
         // Of rows that a quotation mark swallowed there is another word.
-        let is_one_line = !row.record.as_slice().contains(&b'\n');
-        if is_long && (is_one_line || self.name.is_some()) {
+        if is_long && (!has_lines(row.record) || self.name.is_some()) {
             found.take(odd.by(self.names as u64));
         }
         for place in 0..row.record.len() {
@@ -296,16 +296,19 @@ pub(crate) fn has_total(text: &str) -> bool {
 /// brackets, which is alone there, in capitals, or has a sign behind it, or `by` or the like (at the start with a
 /// number).
 fn says_withdrawn(name: &str) -> bool {
-    let has_small = name.contains(|c: char| c.is_lowercase());
     let parts = name.split(|c: char| "()[]".contains(c));
     for (place, part) in parts.enumerate() {
         let (first, rest) = first_word(part);
         let word = first.trim_matches(|c: char| "*:!-".contains(c));
-        let is_loud = has_small && !word.contains(|c: char| c.is_lowercase());
+        if !is_one_of(WITHDRAWN, word) {
+            continue;
+        }
+        let is_small = |c: char| c.is_lowercase();
+        let is_loud = name.contains(is_small) && !word.contains(is_small);
         let next = first_word(rest).0;
         let is_said = is_one_of(SAID_BY, next) && (place > 0 || has_digit(rest));
         let is_apart = word.len() < first.len() || is_one_of(BEHIND, next) || is_said;
-        if is_one_of(WITHDRAWN, word) && (is_loud || is_apart) {
+        if is_loud || is_apart {
             return true;
         }
     }

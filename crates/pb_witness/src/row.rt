@@ -1,6 +1,7 @@
 //! A row of PROJECTS or VOTES that is accepted.
 
-use crate::changed::{has_digit, plain};
+use crate::changed::plain;
+use crate::meta_oddities::whole_number;
 use crate::prelude::*;
 use pb_read::MetaKey;
 
@@ -12,6 +13,55 @@ pub(crate) struct Limits {
     /// The least and the most that its projects may cost together, in hundredths.
     pub(crate) min_cost: Option<u64>,
     pub(crate) max_cost: Option<u64>,
+    /// The first and the last day on which ballots are cast, and the last row that says one of them.
+    pub(crate) begin: Option<u64>,
+    pub(crate) end: Option<u64>,
+    pub(crate) dates: Option<Mark>,
+}
+
+/// How many days a ballot may be cast before the first day or behind the last, and nothing is said.
+const NEAR: u64 = 31;
+
+impl Limits {
+    /// Whether META says what the projects of a ballot may cost together.
+    pub(crate) fn are_of_costs(&self) -> bool {
+        self.min_cost.is_some() || self.max_cost.is_some()
+    }
+
+    /// Whether a day is long before the first one or behind the last.
+    pub(crate) fn exclude(&self, day: u64) -> bool {
+        let is_before = self
+            .begin
+            .is_some_and(|begin| day.saturating_add(NEAR) < begin);
+        is_before || self.end.is_some_and(|end| end.saturating_add(NEAR) < day)
+    }
+}
+
+/// Whether there is a digit among bytes.
+fn has_number(bytes: &[u8]) -> bool {
+    for byte in bytes {
+        if byte.is_ascii_digit() {
+            return true;
+        }
+    }
+    false
+}
+
+/// The number of the day that a text begins with, like `2026-05-31` or `31.5.2026`, if each month had 31 days.
+pub(crate) fn day_of(text: &str) -> Option<u64> {
+    let mut parts = text.split(|c: char| !c.is_ascii_digit());
+    let (first, month, last) = (parts.next()?, parts.next()?, parts.next()?);
+    let (year, day) = if first.len() == 4 {
+        (first, last)
+    } else {
+        (last, first)
+    };
+    let (months, days) = (whole_number(month)?, whole_number(day)?);
+    let is_day = year.len() == 4 && matches!((months, days), (1..=12, 1..=31));
+    let months = whole_number(year)?
+        .saturating_mul(12)
+        .saturating_add(months);
+    (is_day && !text.contains('/')).then_some(months.saturating_mul(31).saturating_add(days))
 }
 
 /// A row of PROJECTS or VOTES that is accepted.
@@ -28,7 +78,9 @@ pub(crate) struct Row<'a> {
     /// Their names, in plain form.
     pub(crate) names: &'a Firsts,
     /// What META asks of it.
-    pub(crate) limits: Limits,
+    pub(crate) limits: &'a Limits,
+    /// The places of the projects that its vote names.
+    pub(crate) ballot: &'a [u32],
 }
 
 impl<'a> Row<'a> {
@@ -51,20 +103,32 @@ impl<'a> Row<'a> {
         }
     }
 
+    /// The bytes of these.
+    pub(crate) fn bytes(&self) -> (&'a [u8], &'a [u8]) {
+        let (id, value) = self.places();
+        (bytes_at(self.record, id), bytes_at(self.record, value))
+    }
+
     /// Its id.
     pub(crate) fn id(&self) -> &'a str {
         self.at(self.places().0)
     }
 
-    /// Whether its id is a key of META that the count uses, as where a row of META stands in this section.
-    pub(crate) fn has_key(&self) -> bool {
-        !has_digit(self.id()) && MetaKey::of(self.id()).is_some()
+    /// Whether its id, of these bytes, is a key of META that the count uses, as where a row of META stands in this section.
+    pub(crate) fn has_key(&self, id: &[u8]) -> bool {
+        !has_number(id) && MetaKey::of(self.id()).is_some()
     }
 
     /// Whether a text is the name of a project before it, or differs by case and white space.
     pub(crate) fn has_name(&self, alloc: Global, text: &str) -> bool {
         let name = plain(alloc, text);
         name.is_ok_and(|name| !name.is_empty() && self.names.has(name.as_str()))
+    }
+
+    /// Whether it has a text beside its id.
+    pub(crate) fn has_more(&self) -> bool {
+        let id = self.places().0;
+        (0..self.record.len()).any(|place| place != id && !self.at(place).is_empty())
     }
 
     /// Its cost or its vote.
@@ -74,9 +138,6 @@ impl<'a> Row<'a> {
 
     /// The places of the projects that its vote names.
     pub(crate) fn ballot(&self) -> &'a [u32] {
-        match self.election.voters().last() {
-            Some(voter) => voter.ballot.places(),
-            None => &[],
-        }
+        self.ballot
     }
 }

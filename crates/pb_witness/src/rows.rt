@@ -1,5 +1,6 @@
 //! The rows of VOTES, as far as their number says why voters stand in several of them.
 
+use crate::fields::count_of;
 use crate::prelude::*;
 
 /// The place of no voter and no project.
@@ -110,10 +111,26 @@ impl VoteRows {
         self.is_second_list && self.before >= FEWEST && self.repeated.iter().any(is_other)
     }
 
+    /// Takes the vote of a row that is accepted, and begins here.
+    pub(crate) fn take(&mut self, vote: &[u8], mark: Mark) {
+        if self.accepted == 0 {
+            self.first = Some(mark);
+        }
+        self.accepted = self.accepted.saturating_add(1);
+        self.see(vote);
+        let is_cut = vote.last() == Some(&b',');
+        self.cut = self.cut.saturating_add(u64::from(is_cut));
+    }
+
+    /// Whether no vote has a text, accepted or not.
+    pub(crate) fn are_blank(&self) -> bool {
+        self.commas.is_none()
+    }
+
     /// Takes a vote, accepted or not.
     pub(crate) fn see(&mut self, vote: &[u8]) {
-        if !vote.is_empty() {
-            let commas = vote.iter().filter(|byte| **byte == b',').count();
+        if !self.differ && !vote.is_empty() {
+            let commas = count_of(vote, b',');
             self.differ |= self.commas.is_some_and(|before| before != commas);
             self.commas = Some(commas);
         }

@@ -1,6 +1,7 @@
 //! Rows that a quotation mark swallowed: a field in quotes that runs over several lines has them in it.
 
 use crate::behind_vote::names_other;
+use crate::fields::has_lines;
 use crate::heads::is_head;
 use crate::prelude::*;
 use pb_read::MetaKey;
@@ -17,7 +18,8 @@ pub(crate) fn later_lines(record: &ByteRecord, place: usize) -> &str {
 pub(crate) fn swallows_head(record: &ByteRecord) -> bool {
     let is_one = |line: &str| is_head(field_of(line, 0))
         || MetaKey::of(field_of(line, 0)).is_some();
-    (0..record.len()).any(|place| later_lines(record, place).split('\n').any(is_one))
+    has_lines(record)
+        && (0..record.len()).any(|place| later_lines(record, place).split('\n').any(is_one))
 }
 
 /// Whether a field of a row has a line in it that seems to be a row of the same part of the file, which has
@@ -28,7 +30,7 @@ pub(crate) fn swallows_row(
     names: usize,
     projects: &Firsts,
 ) -> bool {
-    if !record.as_slice().contains(&b'\n') {
+    if !has_lines(record) {
         return false;
     }
     for place in 0..record.len() {

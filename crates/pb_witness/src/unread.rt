@@ -36,6 +36,8 @@ pub(crate) struct Unread {
     header: Mark,
     rows: u64,
     columns: Vec<UnreadColumn>,
+    /// Whether something may be said of one of them.
+    pub(crate) are_open: bool,
 }
 
 impl Unread {
@@ -58,6 +60,7 @@ impl Unread {
             header,
             rows: 0,
             columns,
+            are_open: true,
         })
     }
 
@@ -65,6 +68,7 @@ impl Unread {
     pub(crate) fn take(&mut self, row: &Row<'_>) {
         self.rows = self.rows.saturating_add(1);
         let most = (self.rows / 2).saturating_add(MANY);
+        self.are_open = false;
         for column in self.columns.iter_mut() {
             if column.is_open && !bytes_at(row.record, column.place).is_empty() {
                 let odd = row.odd(Oddity::ValidColumn).at(column.place);
@@ -72,6 +76,7 @@ impl Unread {
                 column.first = Some(first);
                 column.is_open = first.number <= most && has_letter(row.at(column.place));
             }
+            self.are_open |= column.is_open;
         }
     }
 

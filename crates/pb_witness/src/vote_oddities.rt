@@ -2,14 +2,16 @@
 
 use crate::behind_vote::{BehindVote, names_other};
 use crate::beside_vote::BesideVote;
-use crate::changed::{form_of, has_digit, has_one_of, without_hidden};
+use crate::changed::{form_of, has_digit, has_one_of, is_digits, without_hidden};
 use crate::columns::FurtherColumns;
+use crate::fields::{count_of, has_byte};
 use crate::last_vote::LastVote;
 use crate::meta_oddities::whole_number;
 use crate::names_row::NamesRow;
 use crate::prelude::*;
 use crate::project_oddities::has_total;
 use crate::rankings::Rankings;
+use crate::rows::VoteRows;
 use crate::unread::Unread;
 use crate::voter_lists::ends_in_projects;
 
@@ -18,6 +20,9 @@ const SIGNED: &str = "signed|signature|podpis|unterschrift";
 
 /// The fewest rows whose number a last row has.
 const FEWEST_ROWS: u64 = 5;
+
+/// The fewest rows of VOTES of which one should name a project.
+const FEWEST: u64 = 3;
 
 /// What is odd in VOTES, as its rows are read.
 #[derive(Drop)]
@@ -82,24 +87,26 @@ impl VoteOddities {
 
     /// Takes a row that is accepted.
     pub(crate) fn take(&mut self, row: &Row<'_>, found: &mut Oddities) -> Result<(), AllocError> {
-        let (_, vote_place) = row.places();
+        let (id, vote) = row.bytes();
         let length = row.ballot().len();
         self.take_length(row, length as u64, found);
-        if row.has_key() {
+        if row.has_key(id) {
             found.take(row.odd(Oddity::FooterRow).in_form(5));
         }
-        self.last.take(row);
+        self.last.take(row, (id, vote));
         if self.rankings.asks(length, row.election.projects().len()) {
             self.rankings.take(row.value())?;
         }
-        if names_twice(row.record, vote_place, length) {
+        if count_of(vote, b',') >= length && names_twice(row.value(), length) {
             found.take(row.odd(Oddity::TwiceInVote));
         }
         self.last_row = Some((row.mark, row.part));
         self.first_row.take(row.record);
         self.beside.take(row);
-        self.unread.take(row);
-        self.take_id(row, found)?;
+        if self.unread.are_open {
+            self.unread.take(row);
+        }
+        self.take_id(row, id)?;
         let is_long = row.record.len() > self.names;
         if is_long {
             self.take_surplus(row, found);
@@ -114,16 +121,16 @@ impl VoteOddities {
     }
 
     /// Takes the id of a row, which may be that of another row, of several voters, or of none.
-    fn take_id(&mut self, row: &Row<'_>, found: &mut Oddities) -> Result<(), AllocError> {
-        let id = bytes_at(row.record, row.places().0);
+    fn take_id(&mut self, row: &Row<'_>, id: &[u8]) -> Result<(), AllocError> {
         let is_plain = is_plain_end(id.first()) && is_plain_end(id.last());
-        let is_address = id.contains(&b'@') && has_capital(row.id());
+        let is_address = has_byte(id, b'@') && has_capital(row.id());
         if is_address || (!is_plain && is_marked(row.id())) {
             let voters = row.election.voters().len().saturating_sub(1);
             let place = u32::try_from(voters).unwrap_or(u32::MAX);
             self.marked.push((place, row.mark))?;
         }
-        if id.starts_with(b"#") || id.starts_with(b"//") {
+        let is_begun = matches!(id.first(), Some(b'#' | b'/'));
+        if is_begun && (id.starts_with(b"#") || id.starts_with(b"//")) {
             let odd = row.odd(Oddity::NoteRows).in_form(2);
             self.left_out = Some(odd.behind(self.left_out));
         }
@@ -152,33 +159,40 @@ impl VoteOddities {
             let odd = row.odd(Oddity::TooLongBallot).by(length);
             found.take(Odd { limit, ..odd });
         }
-        let limit = row.limits.min_length;
-        let mut odd = row.odd(Oddity::EmptyBallot).by(length);
         if length == 0 {
-            odd = self.behind.with_stray(self.alloc, row, odd);
+            return self.take_nothing(row, found);
         }
+        self.last_empty = 0;
+        let limit = row.limits.min_length;
         if length < limit.unwrap_or(0) {
-            found.take(Odd {
-                limit,
-                ..odd.as_a(Oddity::TooShortBallot)
-            });
-        } else if !is_long && odd.form == 0 {
+            let odd = row.odd(Oddity::TooShortBallot).by(length);
+            found.take(Odd { limit, ..odd });
+        } else if !is_long && row.limits.are_of_costs() {
             take_cost(row, found);
         }
-        if length == 0 {
-            found.take(odd);
-            self.take_empty(row, odd);
-        } else {
-            self.last_empty = 0;
+    }
+
+    /// Takes a row whose ballot approves nothing.
+    fn take_nothing(&mut self, row: &Row<'_>, found: &mut Oddities) {
+        let odd = row.odd(Oddity::EmptyBallot);
+        let odd = self.behind.with_stray(self.alloc, row, odd);
+        let limit = row.limits.min_length;
+        if limit.unwrap_or(0) > 0 {
+            let odd = odd.as_a(Oddity::TooShortBallot);
+            found.take(Odd { limit, ..odd });
+        } else if odd.form == 0 && row.limits.are_of_costs() {
+            take_cost(row, found);
         }
+        found.take(odd);
+        self.beside.are_last &= odd.form == 0;
+        self.take_empty(row, odd);
     }
 
     /// Takes a row without a vote, which may be a note if it has an id alone, or one like a note.
     fn take_empty(&mut self, row: &Row<'_>, odd: Odd) {
         self.empty = self.empty.saturating_add(1);
         let is_note = is_note_id(row.id());
-        let is_beside = |place: usize| place != odd.id_place && !row.at(place).is_empty();
-        let has_more = (0..row.record.len()).any(is_beside);
+        let has_more = row.has_more();
         if odd.form > 0 || (!is_note && has_more) {
             self.last_empty = 0;
             return;
@@ -197,29 +211,21 @@ impl VoteOddities {
     pub(crate) fn end(
         &mut self,
         election: &Election,
-        projects: &Firsts,
+        (rows, projects): (&VoteRows, &Firsts),
         found: &mut Oddities,
     ) -> Result<(), AllocError> {
         let voters = election.voters().len() as u64;
         let are_few = |odd: &Odd| odd.number.saturating_mul(2) <= voters;
         found.take_some(self.left_out.filter(are_few));
-        let may_be = self.last_empty > 0 && self.last_empty == self.empty;
-        let are_last = may_be && self.are_notes(election)?;
-        let is_voter = self.first_has_more && have_spaces(election);
-        if let (Some(odd), true) = (self.first_empty, are_last && !is_voter) {
-            if self.empty == 1 {
-                found.take(odd.as_a(Oddity::FooterRow).in_form(1));
-            } else if self.empty < voters {
-                found.take(odd.as_a(Oddity::NoteRows).by(self.empty));
-            }
-        }
-        let is_note = |_: &Odd| !are_last && !have_spaces(election);
-        let note = self.first_note.filter(is_note);
-        found.take_some(note.map(|odd| odd.as_a(Oddity::NoteRows).in_form(1)));
+        self.end_blank(election, found)?;
         let last = self
             .last_row
             .map(|(mark, part)| Odd::of_row(Oddity::FooterRow, mark, part));
         self.last.end(election, last, found);
+        let are_none = self.empty == voters && (rows.refused == 0 || rows.are_blank());
+        if are_none && voters >= FEWEST && !election.projects().is_empty() {
+            found.take_some(last.map(|odd| without_votes(odd, election, projects)));
+        }
         let are_projects = ends_in_projects(self.alloc, election, projects)?;
         let projects = election.projects().len() as u64;
         if let (Some(odd), true) = (last, are_projects && !found.has(Oddity::NoteRows)) {
@@ -234,6 +240,26 @@ impl VoteOddities {
         self.behind.end(self.alloc, &self.beside, found)?;
         self.unread.end(found)?;
         self.take_marked(election, found)
+    }
+
+    /// Takes the rows without a vote that are probably no voters.
+    fn end_blank(&self, election: &Election, found: &mut Oddities) -> Result<(), AllocError> {
+        let may_be = self.last_empty > 0 && self.last_empty == self.empty;
+        let are_last = may_be && self.are_notes(election)?;
+        let is_voter = self.first_has_more && have_spaces(election);
+        if let (Some(odd), true) = (self.first_empty, are_last && !is_voter) {
+            if self.empty == 1 {
+                found.take(odd.as_a(Oddity::FooterRow).in_form(1));
+            } else if self.empty < election.voters().len() as u64 {
+                found.take(odd.as_a(Oddity::NoteRows).by(self.empty));
+            }
+        }
+        let is_note = |_: &Odd| !are_last && !have_spaces(election);
+        let note = self.first_note.filter(is_note);
+        found.take_some(note.map(|odd| odd.as_a(Oddity::NoteRows).in_form(1)));
+        let is_told = are_last || note.is_some();
+        found.take_some(self.beside.prepared().filter(|_| !is_told));
+        Ok(())
     }
 
     /// Whether the ids of the last rows, which have no vote, look like notes, or at least not like those of
@@ -287,12 +313,23 @@ impl VoteOddities {
     }
 }
 
+/// The last row of a file in which no vote names a project, odd for that, and for how many voters have ids of projects.
+fn without_votes(last: Odd, election: &Election, projects: &Firsts) -> Odd {
+    let voters = election.voters();
+    let is_project = |id: &str| !is_digits(id) && projects.has(id);
+    let ids = voters.iter().filter(|voter| is_project(voter.id.text()));
+    let count = ids.count() as u64;
+    let odd = last.as_a(Oddity::VotesMissing).by(voters.len() as u64);
+    Odd {
+        form: if count > 0 { 5 } else { 4 },
+        limit: Some(count),
+        ..odd
+    }
+}
+
 /// Takes a row whose projects cost more together than META allows, or less than it asks for.
 fn take_cost(row: &Row<'_>, found: &mut Oddities) {
     let (least, most) = (row.limits.min_cost, row.limits.max_cost);
-    if least.is_none() && most.is_none() {
-        return;
-    }
     let mut cost = 0u64;
     for place in row.ballot() {
         if let Some(project) = row.election.projects().get(*place as usize) {
@@ -313,14 +350,9 @@ fn take_cost(row: &Row<'_>, found: &mut Oddities) {
     });
 }
 
-/// Whether a row whose vote approves so many projects names more.
-fn names_twice(row: &ByteRecord, vote: usize, length: usize) -> bool {
-    let bytes = bytes_at(row, vote).iter();
-    let commas = bytes.filter(|byte| **byte == b',').count();
-    if commas < length {
-        return false;
-    }
-    let pieces = text_at(row, vote).split(',');
+/// Whether a vote that approves so many projects names more.
+fn names_twice(vote: &str, length: usize) -> bool {
+    let pieces = vote.split(',');
     pieces.filter(|piece| !piece.trim().is_empty()).count() > length
 }
 

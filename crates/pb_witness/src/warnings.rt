@@ -104,7 +104,8 @@ impl Warnings {
                     election,
                     projects: &self.witness.ids.projects,
                     names: &self.witness.ids.names,
-                    limits: self.meta.limits,
+                    limits: &self.meta.limits,
+                    ballot: last_ballot(election),
                 };
                 match (part, &mut self.projects, &mut self.votes) {
                     (Part::Project(_), Some(projects), _) => projects.take(&row, found),
@@ -172,9 +173,20 @@ impl Warnings {
             projects.end(election, self.has_fault, ids, found)?;
         }
         match &mut self.votes {
-            Some(votes) => votes.end(election, &self.witness.ids.projects, found),
+            Some(votes) => {
+                let witness = &self.witness;
+                votes.end(election, (&witness.rows, &witness.ids.projects), found)
+            }
             None => Ok(()),
         }
+    }
+}
+
+/// The places of the projects that the last ballot approves.
+fn last_ballot(election: &Election) -> &[u32] {
+    match election.voters().last() {
+        Some(voter) => voter.ballot.places(),
+        None => &[],
     }
 }
 

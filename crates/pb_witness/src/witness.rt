@@ -62,24 +62,21 @@ impl Witness {
     /// Takes a record that is accepted, and begins here.
     pub(crate) fn take(&mut self, record: &ByteRecord, mark: Mark, part: Part) {
         self.seen.take(record, mark, part);
+        if let Part::Vote(columns) = part {
+            self.rows.take(bytes_at(record, columns.vote), mark);
+            if !self.rows.names_project {
+                self.rows.names_project = !text_at(record, columns.vote).is_empty();
+            }
+            return;
+        }
         if self.ids.take(record, mark, part).is_err() {
             self.is_whole = false;
         }
-        let amount = match part {
-            Part::Project(columns) => text_at(record, columns.cost),
-            Part::Key => text_at(record, 1),
-            _ => "",
+        self.has_thousands |= match part {
+            Part::Project(columns) => has_thousands_mark(text_at(record, columns.cost)),
+            Part::Key => has_thousands_mark(text_at(record, 1)),
+            _ => false,
         };
-        self.has_thousands |= has_thousands_mark(amount);
-        if let Part::Vote(columns) = part {
-            self.rows.first = self.rows.first.or(Some(mark));
-            self.rows.accepted = self.rows.accepted.saturating_add(1);
-            self.rows.see(bytes_at(record, columns.vote));
-            let is_cut = bytes_at(record, columns.vote).last() == Some(&b',');
-            self.rows.cut = self.rows.cut.saturating_add(u64::from(is_cut));
-            let is_first = !self.rows.names_project;
-            self.rows.names_project |= is_first && !text_at(record, columns.vote).is_empty();
-        }
     }
 
     /// Takes a record that is refused.

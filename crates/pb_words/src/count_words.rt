@@ -4,6 +4,9 @@ use crate::prelude::*;
 use pb_rounds::count_fault::CountFault;
 use pb_rounds::options::{CountOptions, LARGEST_STEP};
 
+/// The most raises of a count whose ties are told.
+const MOST_OF_TIES: u32 = 999;
+
 /// What is known of raises beyond those that were allowed and spent.
 #[derive(Clone, Copy)]
 pub enum Deciding {
@@ -116,6 +119,12 @@ fn put_raises(out: &mut WordsWriter, deciding: Deciding) {
         Deciding::Unread => out.put(
             "You can allow more raises, up to 1000000. The program can't say how many you need: it can't read the ballots twice from standard input or a pipe. Save them in a file, and name that file.\n",
         ),
+    }
+    match deciding {
+        Deciding::Least(raises) | Deciding::Enough(raises) if raises > MOST_OF_TIES => out.put(
+            "With so many raises `pb_app ties` lists no ties: it takes 999 at most.\n",
+        ),
+        _ => {}
     }
 }
 

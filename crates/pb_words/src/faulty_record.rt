@@ -76,9 +76,9 @@ impl<R: Files> Case<'_, R> {
             (ReadKind::BadMoney, _) => amount_remedy(self.faulty.value()),
             (ReadKind::MoneyTooFine, _) => fine_remedy(self.faulty.value()),
             (ReadKind::MissingField, Stage::InProjects(_)) if is_one =>
-                "If it is the heading of the votes, write VOTES. If it is the end of a text on the line above, join the two lines. If it is a heading or a note, do what it says of the rows above or below it before you delete it. If it begins another table, take all of that table out; if it has budgets of districts or the like, this program can't count the file.\n",
+                "If it is the heading of the votes, write VOTES. If it is the end of a text on the line above, join the two lines. {} {}\n",
             (ReadKind::MissingField, Stage::InProjects(_)) =>
-                "Find out what belongs there, and complete the row. If it is a heading or a note, do what it says of the rows above or below it before you delete it.\n",
+                "Find out what belongs there, and complete the row. {}\n",
             (kind, _) => words_of(kind).1,
         }
     }
@@ -223,28 +223,30 @@ impl<R: Files> Case<'_, R> {
     /// Puts which name seems to be that of this column, or that several do.
     fn put_nearly(&self, out: &mut WordsWriter, column: &'static str) {
         let nearly = |from: usize| self.faulty.nearly(self.text.alloc, column, from);
-        match nearly(0) {
-            Ok(Some(place)) => match nearly(place.saturating_add(1)) {
-                Ok(Some(other)) => out.fill(
-                    "Find out whether {} or {} is this column, and write `{}` in its place. If both are parts of it, find out whether they add up (parts of a cost, choices of one ballot; then make one column of them), or one replaces the other (two ballots of a voter).\n",
-                    &[
-                        Quoted(self.faulty.at(place)),
-                        Quoted(self.faulty.at(other)),
-                        Own(column),
-                    ],
-                ),
-                Ok(None) => out.fill(
-                    "If {} is this column, with {}, write `{}` in its place. If not, ask whoever made the file.\n",
-                    &[
-                        Quoted(self.faulty.at(place)),
-                        Own(content_of(column)),
-                        Own(column),
-                    ],
-                ),
-                Err(_) => out.fail(),
-            },
-            Ok(None) => {}
-            Err(_) => out.fail(),
+        let first = nearly(0);
+        let next = match &first {
+            Ok(Some(place)) => nearly(place.saturating_add(1)),
+            _ => Ok(None),
+        };
+        match (first, next) {
+            (Ok(Some(place)), Ok(Some(other))) => out.fill(
+                "Find out whether {} or {} is this column, and write `{}` in its place. If both are parts of it, find out whether they add up (parts of a cost, choices of one ballot; then make one column of them), or one replaces the other (two ballots of a voter).\n",
+                &[
+                    Quoted(self.faulty.at(place)),
+                    Quoted(self.faulty.at(other)),
+                    Own(column),
+                ],
+            ),
+            (Ok(Some(place)), Ok(None)) => out.fill(
+                "If {} is this column, with {}, write `{}` in its place. If not, ask whoever made the file.\n",
+                &[
+                    Quoted(self.faulty.at(place)),
+                    Own(content_of(column)),
+                    Own(column),
+                ],
+            ),
+            (Ok(None), _) => {}
+            _ => out.fail(),
         }
     }
 

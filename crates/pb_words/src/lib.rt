@@ -10,6 +10,7 @@
 pub mod answer_words;
 pub mod belonging_words;
 mod case;
+mod command_words;
 pub mod count_words;
 pub mod export_words;
 mod faulty_record;
@@ -36,6 +37,7 @@ pub mod script_words;
 mod section;
 pub mod serve_words;
 pub mod tally_words;
+mod unknown_texts;
 mod unknown_words;
 mod warning_texts;
 pub mod warning_words;

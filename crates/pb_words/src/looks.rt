@@ -1,7 +1,7 @@
 //! What a file looks like that is none of the program's texts.
 
+use crate::command_words::put_clean;
 use crate::prelude::*;
-use crate::unknown_words::put_clean;
 use pb_witness::text::{is_json, is_web_page};
 
 /// What files look like that begin with certain bytes, and what to do with them.

@@ -75,6 +75,27 @@ pub(crate) fn put_over(out: &mut WordsWriter, span: Span, is_sentence: bool) -> 
     true
 }
 
+/// Puts which quotation mark makes several lines one field in the record with this mark, with this text behind its
+/// line, where one does; answers whether one does.
+pub(crate) fn put_swallower<R: Files>(
+    out: &mut WordsWriter,
+    text: &Text<R>,
+    mark: Mark,
+    behind: &str,
+) -> bool {
+    let span = span_of(text, mark);
+    if span.unclosed().is_none() && span.over.is_none() {
+        return false;
+    }
+    let _ = put_mark(out, text, mark);
+    out.put(behind);
+    if put_unclosed(out, span) {
+        out.put(CLOSE_IT);
+        return true;
+    }
+    put_over(out, span, false)
+}
+
 /// Puts the same of an earlier row that swallowed rows which are missed now, if there is one; answers whether
 /// it did.
 pub(crate) fn put_swallowing<R: Files>(

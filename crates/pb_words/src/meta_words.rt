@@ -1,12 +1,10 @@
 //! Words for META: its values, which are judged at the head of PROJECTS, and its head.
 
+use crate::command_words::{put_clean, put_cleaning, put_separate};
 use crate::prelude::*;
-use crate::read_rules::{
-    amount_remedy, clean_options, fine_remedy, is_below_1, put_broken, words_of,
-};
-use crate::unknown_words::put_clean;
+use crate::read_rules::{amount_remedy, fine_remedy, put_broken, put_rule, words_of};
 use pb_read::{Column, MetaKey};
-use pb_witness::changed::{has_thousandths, is_grouped, without_hidden};
+use pb_witness::changed::{is_grouped, without_hidden};
 use pb_witness::elsewhere::small_amount;
 use pb_witness::fields::JoinedBy;
 use pb_witness::heads::{OddHead, head_of, late_meta};
@@ -47,7 +45,7 @@ impl<R: Files> Case<'_, R> {
         if self.put_lost_thousands(out, value) {
             return true;
         }
-        out.put(value_remedy(self.faulty.kind(), value));
+        put_rule(out, value_remedy(self.faulty.kind(), value));
         put_cleaning(out, self.text, self.faulty.kind(), value);
         true
     }
@@ -143,31 +141,6 @@ fn value_remedy(kind: ReadKind, value: &str) -> &'static str {
     }
 }
 
-/// Puts which command mends a value of this fault, if one does.
-pub(crate) fn put_cleaning<R>(out: &mut WordsWriter, text: &Text<R>, kind: ReadKind, value: &str) {
-    match kind {
-        // It may be in millions: then to round it loses it.
-        ReadKind::MoneyTooFine if is_below_1(value) => {}
-        ReadKind::MoneyTooFine if has_thousandths(value) => out.fill(
-            "`pb_clean {} -o NEW.pb --marks thousands` does the first, and `--marks decimals --round half-up` the second.\n",
-            &[Name(text.path)],
-        ),
-        ReadKind::MoneyTooFine => out.fill(
-            "`pb_clean {} -o NEW.pb --round half-up` rounds it.\n",
-            &[Name(text.path)],
-        ),
-        ReadKind::NotText => out.fill(
-            "If you know how it is encoded, `pb_clean {} -o NEW.pb --encoding NAME` does this, for example with `cp1250`.\n",
-            &[Name(text.path)],
-        ),
-        _ => {
-            if let Some(options) = clean_options(kind, value) {
-                put_clean(out, text, options)
-            }
-        }
-    }
-}
-
 /// The vote type of votes for one project each.
 pub(crate) const ONE_CHOICE: &str = "choose-1";
 
@@ -216,18 +189,6 @@ fn is_like(row: &ByteRecord, key: &str) -> bool {
     is_end && begin.eq_ignore_ascii_case(key.as_bytes())
 }
 
-/// Puts which command mends a file whose fields something else than `;` separates, if one does.
-pub(crate) fn put_separate<R>(out: &mut WordsWriter, text: &Text<R>, joined: JoinedBy) {
-    match joined {
-        JoinedBy::Tabs => put_clean(out, text, ""),
-        JoinedBy::Commas => out.fill(
-            "If texts and votes with commas are in quotation marks, `pb_clean {} -o NEW.pb` does this.\n",
-            &[Name(text.path)],
-        ),
-        JoinedBy::Quotes | JoinedBy::Bars => {}
-    }
-}
-
 /// Puts what to do where a whole row is one field, or another remedy where it is not.
 pub(crate) fn put_joined(
     out: &mut WordsWriter,
@@ -243,7 +204,7 @@ pub(crate) fn put_joined(
         Some(None) => out.put(
             "Quotation marks around the whole row turn it into one field. Delete these quotation marks.\n",
         ),
-        None => out.put(remedy),
+        None => put_rule(out, remedy),
     }
 }
 
@@ -270,22 +231,16 @@ pub(crate) fn put_late_meta<R: Files>(out: &mut WordsWriter, text: &Text<R>, fir
     let Some((mark, is_behind)) = late_meta(text, first) else {
         return false;
     };
-    let line = Number(line_of(text, mark));
-    if is_behind {
-        out.fill(
-            "META is on line {}, below another heading. If all lines are in reverse order, reverse them again. If not, put the sections in this order: META, PROJECTS, VOTES.\n",
-            &[line],
-        );
-    } else if has_keys(text, first, mark) {
-        out.fill(
-            "META is on line {}, below a row with a key of META: the lines may have been sorted. Get the file again, with its lines in their order.\n",
-            &[line],
-        );
+    let are_sorted = !is_behind && has_keys(text, first, mark);
+    let form = if is_behind {
+        "META is on line {}, below another heading. If all lines are in reverse order, reverse them again. If not, put the sections in this order: META, PROJECTS, VOTES.\n"
+    } else if are_sorted {
+        "META is on line {}, below a row with a key of META: the lines may have been sorted. Get the file again, with its lines in their order.\n"
     } else {
-        out.fill(
-            "META is on line {}. If a line above it says that rows are left out or not valid, or what signs or amounts mean, ask first. If not, delete everything above it.\n",
-            &[line],
-        );
+        "META is on line {}. If a line above it says that rows are left out or not valid, or what signs or amounts mean, ask first. If not, delete everything above it.\n"
+    };
+    out.fill(form, &[Number(line_of(text, mark))]);
+    if !is_behind && !are_sorted {
         put_clean(out, text, "");
     }
     true

@@ -1,9 +1,8 @@
 //! What is said of each fault of a .pb file: what is wrong, and what to do.
 
-use crate::meta_words::ONE_CHOICE;
 use crate::prelude::*;
-use crate::read_texts::RULES;
-use crate::unknown_words::{DROP_ZERO_COST, NAMES_AGAIN};
+use crate::read_texts::{NOTE, OTHER_TABLE, RULES};
+use crate::unknown_texts::NAMES_AGAIN;
 use pb_core::money::Money;
 use pb_read::Column;
 use pb_witness::changed::{is_grouped, is_nothing, is_one_of, without_hidden};
@@ -19,7 +18,11 @@ const BESIDE: &str =
 
 /// What to do about an amount without a digit.
 pub(crate) const NO_AMOUNT: &str =
-    "If it is a project, write its whole amount with digits only, like `1200` or `1200.50`. If the row has titles, units or types of the columns, or was only prepared, delete it. If it is a heading, a note or a line of dashes, do what it says of the rows above or below it before you delete it. If it begins another table, take all of that table out; if it has budgets of districts or the like, this program can't count the file.\n";
+    "If the row has titles, units or types of the columns, is a line of dashes, or was only prepared, delete it. If it is a project, write its whole amount with digits only, like `1200` or `1200.50`. If its cell was merged with one above or below, the amount there may be the sum of both: then correct both. {} {}\n";
+
+/// What databases and programs call the type of an amount, also with a size in brackets behind it.
+const TYPES: &str =
+    "float4|float8|float32|float64|int2|int4|int8|int16|int32|int64|varchar|char|decimal|numeric|number";
 
 /// What to do about an amount.
 pub(crate) fn amount_remedy(value: &str) -> &'static str {
@@ -30,12 +33,13 @@ pub(crate) fn amount_remedy(value: &str) -> &'static str {
         !word.is_empty() && !is_dash && !is_one_of(CURRENCIES, word)
     };
     let number = value.trim_matches(|c: char| !c.is_ascii_digit());
+    let is_type = is_one_of(TYPES, value.split('(').next().unwrap_or(""));
     let is_broken = number.contains(|c: char| !is_of_number(c));
     if is_cost(value) {
         NAMES_AGAIN
     } else if value.starts_with('#') {
         "A spreadsheet writes this where a column is too narrow, or a formula is wrong. Get the amount again.\n"
-    } else if number.is_empty() {
+    } else if number.is_empty() || is_type {
         NO_AMOUNT
     } else if is_grouped(value) {
         words_of(ReadKind::BadMoney).1
@@ -44,6 +48,11 @@ pub(crate) fn amount_remedy(value: &str) -> &'static str {
     } else {
         words_of(ReadKind::BadMoney).1
     }
+}
+
+/// Puts what to do about a fault, in which a text on notes may have its place, and one on other tables behind it.
+pub(crate) fn put_rule(out: &mut WordsWriter, remedy: &str) {
+    out.fill(remedy, &[Own(NOTE), Own(OTHER_TABLE)])
 }
 
 /// Whether an amount is less than 1.
@@ -63,13 +72,11 @@ pub(crate) fn fine_remedy(value: &str) -> &'static str {
 /// Puts how a value breaks the rule of this fault.
 pub(crate) fn put_broken(out: &mut WordsWriter, kind: ReadKind, value: &str) {
     let form = match (kind, value) {
-        (ReadKind::BadMoney, "") => return out.put(": the amount is missing.\n"),
+        (ReadKind::BadMoney, "") => ": the amount is missing.\n",
         (ReadKind::BadMoney, _) if is_nothing(value) => ": the amount is missing: it says {}.\n",
-        (ReadKind::VoteType, "") => return out.put(": the vote type is missing.\n"),
-        (ReadKind::EmptyId, _) => return out.put(": the id is empty.\n"),
-        (ReadKind::ZeroCost, _) => {
-            return out.put(": the cost is 0, but every project must cost something.\n");
-        }
+        (ReadKind::VoteType, "") => ": the vote type is missing.\n",
+        (ReadKind::EmptyId, _) => ": the id is empty.\n",
+        (ReadKind::ZeroCost, _) => ": the cost is 0, but every project must cost something.\n",
         (ReadKind::VoteType, _) => ": {} is not `approval`.\n",
         (ReadKind::BadMoney, _) => ": {} is not an amount that the program can read.\n",
         (ReadKind::MoneyTooFine, _) => ": {} has more than two decimals.\n",
@@ -82,31 +89,9 @@ pub(crate) fn put_broken(out: &mut WordsWriter, kind: ReadKind, value: &str) {
     out.fill(form, &[Quoted(value)])
 }
 
-/// The options by which `pb_clean` does what words for a value of this fault say, where it does.
-pub(crate) fn clean_options(kind: ReadKind, value: &str) -> Option<&'static str> {
-    match kind {
-        ReadKind::ZeroCost => Some(DROP_ZERO_COST),
-        ReadKind::VoteType if value.eq_ignore_ascii_case(ONE_CHOICE) => Some(" --single-choice"),
-        ReadKind::BadMoney if is_grouped(value) || is_hidden_amount(value) || is_cost(value) =>
-            Some(""),
-        ReadKind::VoteType if without_hidden(value).eq_ignore_ascii_case("approval") => Some(""),
-        _ => None,
-    }
-}
-
 /// Whether a value is the column's name, as where a row has the column names again.
 pub(crate) fn is_cost(value: &str) -> bool {
     value.eq_ignore_ascii_case(Column::Cost.name())
-}
-
-/// Whether a value is an amount but for characters at its ends that can't be seen, or a dash for its decimals.
-fn is_hidden_amount(value: &str) -> bool {
-    let bare = without_hidden(value);
-    let bare = bare
-        .strip_suffix(",-")
-        .or(bare.strip_suffix(".-"))
-        .unwrap_or(bare);
-    bare.len() < value.len() && Money::read(bare).is_ok()
 }
 
 /// What is wrong by this fault, where no more is known, and what to do, which is the second line of each

@@ -1,6 +1,18 @@
 //! What is said of each fault of a .pb file, where no more is known: what is wrong, and on further lines what
 //! to do. They are in the order in which `ReadKind` declares the faults.
 
+/// What to do about a row that may be a note, in each text that has `{}` in its place.
+pub(crate) const NOTE: &str =
+    "Compare the number of rows with the number of ballots or projects. If rows are missing, get the whole table: a note may count pages or rows (`1 of 3`, `12 more`), or name a filter. If a note says which rows do not count, or what signs or amounts mean, ask before you go on. If this is only a heading, a total or a note, delete it.";
+
+/// What to do about voters whose ids are those of projects.
+pub(crate) const OWN_ROWS: &str =
+    "The ids of votes may stand in rows of their own, each below its voter. Look at the ballots, and write these ids into the column `vote` of their voters. Don't delete or join rows before that.";
+
+/// What to do about a row that may be of another table, in place of a second `{}`.
+pub(crate) const OTHER_TABLE: &str =
+    "If it begins another table, take all of that table out; if it has budgets of districts or the like, this program can't count the file.";
+
 pub(crate) const RULES: [&str; 22] = [
     "the file could not be read to its end.
 Check the disk or the connection, then run again.\n",
@@ -19,8 +31,7 @@ Add the row of column names below the section's heading.\n",
     "a needed column is missing in the row of column names.
 PROJECTS needs the columns `project_id` and `cost`; VOTES needs `voter_id` and `vote`.\n",
     "the row has no field for a needed column.
-Find out what belongs there, and complete the row. If a voter chose nothing, leave the field empty, but keep its `;`. \
-    If it is a heading or a note, do what it says of the rows above or below it before you delete it.\n",
+Find out what belongs there, and complete the row. If a voter chose nothing, leave the field empty, but keep its `;`. {}\n",
     "META has no row for `budget`, or none for `vote_type`.
 Add the row that is missing: `budget;AMOUNT`, or `vote_type;approval` (only if the votes are approval \
     votes).\n",
@@ -36,10 +47,11 @@ If the point or comma separates thousands, delete it. If not, round the amount t
     program takes.
 Check whether the amount has too many digits.\n",
     "a project's cost is 0, but every project must cost something.
-Write the project's cost. If the project was withdrawn, delete its row, and take its id out of the votes.\n",
+If this budget would pay for the project, write the amount. If others pay, it is done in any case, or it was withdrawn, \
+    delete its row, take its id out of the votes, and keep these ballots.\n",
     "an id is empty.
 First compare a few rows with the original: a column may have slid down by one cell. Fill in the id only if the \
-    row is a project or a ballot of its own. If it is a part of the row above, or a total or a note, do what it says of other rows before you delete it.\n",
+    row is a project or a ballot of its own. If it is a part of the row above, join them. {}\n",
     "an earlier row has the same project id.
 Find out whether the rows are one project or two. Two projects need two ids, also in the votes; if a program made \
     their ids the same (1.10 and 1.1), get both tables again. One project needs one row, with the cost that is valid, or the sum if the rows \

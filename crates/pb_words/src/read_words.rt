@@ -3,7 +3,7 @@
 use crate::file_words::put_reading_failed;
 use crate::looks::put_looks;
 use crate::prelude::*;
-use crate::read_rules::words_of;
+use crate::read_rules::{put_rule, words_of};
 use pb_read::{ReadFault, Stage};
 use pb_witness::known::{Known, ReadAgain, Repeat};
 use pb_witness::witness::Witness;
@@ -111,13 +111,14 @@ fn put_each_fault<'c, R: Files>(
 
 /// How many causes there are of which words are put once: those of repeated ids, marks of conflicts, and a row that is meant
 /// as a head.
-const MANY_CAUSES: usize = Repeat::COUNT + 2;
+const MANY_CAUSES: usize = Repeat::COUNT + 3;
 
 impl<R: Files> Case<'_, R> {
     /// The number of the cause of a record's fault, if words for it are put once: a voter's repeated id, a
     /// mark of a merge conflict, a row that is meant as a head.
     fn cause_number(&self) -> Option<usize> {
         match self.faulty.kind() {
+            _ if self.has_nul() => Some(Repeat::COUNT.saturating_add(2)),
             ReadKind::UnknownProject => None,
             ReadKind::RepeatedVoter => {
                 let repeat = self.known.repeat_of(self.text, self.faulty);
@@ -194,5 +195,6 @@ fn put_unread<R: Files>(out: &mut WordsWriter, text: &Text<R>, fault: ReadFault)
     }
     put_record_number(out, text, at);
     let (what, remedy) = words_of(fault.kind);
-    out.fill(": {}.\n{}", &[Own(what), Own(remedy)])
+    out.fill(": {}.\n", &[Own(what)]);
+    put_rule(out, remedy)
 }

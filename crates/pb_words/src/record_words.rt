@@ -1,15 +1,14 @@
 //! Words for a record of a .pb file that is refused, and for the end of one that is refused there.
 
+use crate::command_words::{put_clean, put_cleaning, put_separate};
 use crate::looks::EMPTY;
-use crate::mark_words::CLOSE_IT;
-use crate::meta_words::{
-    VOTE, put_cleaning, put_joined, put_late_meta, put_odd_head, put_separate,
-};
+use crate::mark_words::{CLOSE_IT, put_swallower};
+use crate::meta_words::{VOTE, put_joined, put_late_meta, put_odd_head};
 use crate::prelude::*;
-use crate::read_rules::is_cost;
+use crate::read_rules::{is_cost, put_rule};
 use crate::row_causes::{ESCAPED, SPACED, cut_cause};
 use crate::section::{due_at_end, end_remedy};
-use crate::unknown_words::{LATE_PROJECT, is_cut_code, put_clean};
+use crate::unknown_texts::{LATE_PROJECT, is_cut_code};
 use pb_read::Stage;
 use pb_witness::cause::Cause;
 use pb_witness::fields::{JoinedBy, column_of};
@@ -88,6 +87,8 @@ impl<R: Files> Case<'_, R> {
         }
         let words = if self.faulty.is_conflict() {
             ": this is a mark of a merge conflict: the file has two versions of the rows between `<<<<<<<` and `>>>>>>>`.\nAsk whoever made the file which version is right. Keep that one, and delete the other and the marks.\n"
+        } else if self.is_wide() {
+            ": a byte of 0 is behind each letter, from this row on: the rows are in the encoding UTF-16, as PowerShell's `>>` adds them.\nSave these rows with the encoding UTF-8, as the others are.\n"
         } else if self.has_nul() {
             ": bytes of 0 stand here, as where a program did not write a file to its end.\nGet the whole file again.\n"
         } else {
@@ -99,10 +100,19 @@ impl<R: Files> Case<'_, R> {
     }
 
     /// Whether a field of a row of PROJECTS or VOTES ends in bytes of 0.
-    fn has_nul(&self) -> bool {
+    pub(crate) fn has_nul(&self) -> bool {
         let is_row = self.faulty.is_of_projects() || self.faulty.is_of_votes();
         let has_it = |place: usize| self.faulty.at(place).ends_with('\u{0}');
         is_row && (0..self.faulty.record.len()).any(has_it)
+    }
+
+    /// Whether such a row has a byte of 0 between others, as where each letter has one.
+    fn is_wide(&self) -> bool {
+        let is_between = |place: usize| {
+            let text = self.faulty.at(place).trim_matches('\u{0}');
+            text.contains('\u{0}')
+        };
+        self.has_nul() && (0..self.faulty.record.len()).any(is_between)
     }
 
     /// Puts which quotation mark is wrong in a record whose line was put, and what to do; answers whether one
@@ -136,12 +146,8 @@ impl<R: Files> Case<'_, R> {
     fn put_vote(&self, out: &mut WordsWriter) {
         let shifted = self.faulty.shifted();
         let span = span_of(self.text, self.faulty.mark);
-        if self.faulty.id().contains('\n') && span.over.is_some() {
-            let _ = put_mark(out, self.text, self.faulty.mark);
-            let _ = put_over(out, span, false);
-            return;
-        }
-        if put_never_closed(out, self.text, (self.faulty.mark, span)) {
+        let is_swallower = self.faulty.id().contains('\n') || span.unclosed().is_some();
+        if is_swallower && put_swallower(out, self.text, self.faulty.mark, "") {
             return;
         }
         let is_split = !shifted.is_empty() && self.known.witness.ids.are_all(shifted);
@@ -248,7 +254,7 @@ impl<R: Files> Case<'_, R> {
         } else if let Some(place) = self.moved_vote() {
             self.put_moved(out, self.faulty, place)
         } else if let Some(words) = self.short_words() {
-            out.put(words)
+            put_rule(out, words)
         } else {
             return false;
         }
@@ -278,7 +284,7 @@ impl<R: Files> Case<'_, R> {
                     "Check whether the first comma stands for `;`. If so, commas separate the fields of this row: write `;` between them, but keep the commas between the ids of a vote.\n",
             }
         } else if self.faulty.is_line_of_words() {
-            "If it says that rows are left out, or that there are further pages, get the whole file; a filter leaves rows out too. If it is a heading or a note, do what it says of the rows above or below it before you delete it. If it begins another table, take all of that table out; if it has budgets of districts or the like, this program can't count the file. If it is a vote, write all of its fields.\n"
+            "{} {} If it is a vote, write all of its fields.\n"
         } else if is_short && self.faulty.is_like_project(self.text) {
             LATE_PROJECT
         } else {
@@ -321,7 +327,7 @@ impl<R: Files> Case<'_, R> {
             return true;
         }
         let span = span_of(self.text, last);
-        if put_never_closed(out, self.text, (last, span)) {
+        if span.unclosed().is_some() && put_swallower(out, self.text, last, "") {
             return true;
         }
         let (_, ends) = span.over.unwrap_or((0, span.begins));
@@ -355,20 +361,4 @@ impl<R: Files> Case<'_, R> {
         let found = self.text.find(Mark::start(), is_there)?;
         matches!(self.faulty.stage, Stage::InProjects(_)).then_some(found.1)
     }
-}
-
-/// Puts which quotation mark is never closed in the record with this mark, and what to do, if one is; answers
-/// whether one is.
-fn put_never_closed<R: Files>(
-    out: &mut WordsWriter,
-    text: &Text<R>,
-    (mark, span): (Mark, Span),
-) -> bool {
-    if span.unclosed().is_none() {
-        return false;
-    }
-    let _ = put_mark(out, text, mark);
-    let _ = put_unclosed(out, span);
-    out.put(CLOSE_IT);
-    true
 }

@@ -1,6 +1,7 @@
 //! Words for rows that a desk refuses by its rules, and for the voters' roll.
 
 use crate::file_words::{FOLDER, NO_MEMORY};
+use crate::mark_words::put_swallower;
 use crate::prelude::*;
 use pb_script::{RollFault, RowRefusal};
 use pb_witness::failures::is_folder;
@@ -68,6 +69,9 @@ fn put_remedy<R: Files>(out: &mut WordsWriter, refused: &RefusedRow<'_>, roll: &
                     &[Own(separators)],
                 );
             }
+            if let Some((_, mark)) = roll.find(Mark::start(), has_lines) {
+                let _ = put_swallower(out, roll, mark, "");
+            }
             "Correct the voter's id, or add it to the roll as the first field of a row"
         }
     };
@@ -78,6 +82,11 @@ fn put_remedy<R: Files>(out: &mut WordsWriter, refused: &RefusedRow<'_>, roll: &
         (false, _) => "send the request again.",
     };
     out.fill("{}, and {}\n", &[Own(remedy), Own(again)])
+}
+
+/// Whether a field of a row has a line end.
+fn has_lines(row: &ByteRecord) -> bool {
+    (0..row.len()).any(|place| raw_text(row, place).contains('\n'))
 }
 
 /// Puts why a row of this voter is refused.

@@ -1,8 +1,10 @@
 //! Words for a row with the id of an earlier one.
 
+use crate::command_words::put_clean;
 use crate::prelude::*;
 use crate::read_rules::words_of;
-use crate::unknown_words::{put_clean, put_lines};
+use crate::read_texts::OWN_ROWS;
+use crate::unknown_words::put_lines;
 use pb_witness::known::Repeat;
 
 /// What to do about rows with one project each, whose ids repeat.
@@ -94,6 +96,15 @@ impl<R: Files> Case<'_, R> {
         let is_voter = kind == ReadKind::RepeatedVoter;
         if self.faulty.id().starts_with("###") {
             return out.put(NARROW);
+        }
+        if is_voter
+            && self.faulty.value().is_empty()
+            && self.known.witness.ids.are_all(self.faulty.id())
+        {
+            return out.fill(
+                "A project has this id, and the row has no vote. {}\n",
+                &[Own(OWN_ROWS)],
+            );
         }
         match repeat {
             Repeat::Apart => return self.put_apart(out),

@@ -2,7 +2,7 @@
 
 use crate::faulty_record::LINE_ENDS;
 use crate::prelude::*;
-use crate::unknown_words::{LATE_PROJECT, is_cut_code};
+use crate::unknown_texts::{LATE_PROJECT, is_cut_code};
 use pb_core::money::Money;
 use pb_witness::cause::Cause;
 use pb_witness::faulty_record::{FaultyRecord, has_other_line_end, is_spaced_mark};

@@ -38,36 +38,39 @@ const TOO_SHORT: &str = "the vote {value} names {projects}, and `min_length` ask
 the vote names {projects}, and `min_length` asks for {limit}
 This ballot is counted. Look at it. If the row is right, and your rules do not allow it, do with it what they say.";
 
+/// What is said of META's number of rows of votes or of projects.
+const TOO_FEW_ROWS: &str = "{value} is wrong: the number of {kind} rows in the file is {number}
+META's number of {kind}s is wrong: the number of {kind} rows in the file is {number}
+If rows are missing, get the whole file again. Correct the number only if you know that every row is here.";
+
+const TOO_MANY_ROWS: &str = "{value} is wrong: the number of {kind} rows in the file is {number}
+META's number of {kind}s is wrong: the number of {kind} rows in the file is {number}
+Find out which rows are too many: totals, notes, copies, rows of another year or of a test, ballots that are not valid, projects that were withdrawn. Correct the number only if you know that each row counts.";
+
+const NO_NUMBER: &str =
+    "{value} is not a whole number in digits; the number of {kind} rows in the file is {number}
+META's number of {kind}s is wrong: the number of {kind} rows in the file is {number}
+Write the number in digits.";
+
 /// How many kinds come first in `Oddity`.
 const FIRST_KINDS: usize = 14;
 
 /// What is said of these.
 const FIRST: [&[&str]; 14] = [
     &[
-        "{value} is wrong: the number of vote rows in the file is {number}
-META's number of votes is wrong: the number of vote rows in the file is {number}
-If rows are missing, get the whole file again. Correct the number only if you know that every row is here.",
-        "{value} is wrong: the number of vote rows in the file is {number}
-META's number of votes is wrong: the number of vote rows in the file is {number}
-Find out which rows are too many: totals, notes, copies, rows of another year or of a test, ballots that are not valid, projects that were withdrawn. Correct the number only if you know that each row counts.",
-        "{value} is not a whole number in digits; the number of vote rows in the file is {number}
-META's number of votes is wrong: the number of vote rows in the file is {number}
-Write the number in digits.",
+        TOO_FEW_ROWS,
+        TOO_MANY_ROWS,
+        NO_NUMBER,
         "only this last vote ends behind a comma, so the file may be cut off
 only the last vote ends behind a comma, so the file may be cut off
 If it is, get the whole file again. If not, delete the comma.",
+        "none of the {number} rows of VOTES names a project
+Compare the column `vote` with the ballots: the votes may stand in another column, or in rows of their own. If they do, \
+    write them there, or get the votes again.",
+        "none of the {number} rows of VOTES names a project, and {limit} voters have ids of projects
+{own_rows}",
     ],
-    &[
-        "{value} is wrong: the number of project rows in the file is {number}
-META's number of projects is wrong: the number of project rows in the file is {number}
-If rows are missing, get the whole file again. Correct the number only if you know that every row is here.",
-        "{value} is wrong: the number of project rows in the file is {number}
-META's number of projects is wrong: the number of project rows in the file is {number}
-Find out which rows are too many: totals, notes, copies, rows of another year or of a test, ballots that are not valid, projects that were withdrawn. Correct the number only if you know that each row counts.",
-        "{value} is not a whole number in digits; the number of project rows in the file is {number}
-META's number of projects is wrong: the number of project rows in the file is {number}
-Write the number in digits.",
-    ],
+    &[TOO_FEW_ROWS, TOO_MANY_ROWS, NO_NUMBER],
     &[
         "only {value} is counted. The row has {fields} fields, but the number of column names is {number}
 the row has too many fields: the number of column names is {number}
@@ -87,9 +90,10 @@ Look at some ballots first. If a field before the vote is too many, such as a nu
     &[TOO_SHORT, STRAY_VOTE, TOO_CHEAP, STRAY_ID],
     &[
         "the ballot is empty
-It is counted, and by equal shares its voter gets a share of the budget. Look at the ballot. If an empty field means \
-    the vote above, or programs read an id such as `NA` as nothing, get the votes again. If the ballot is empty, your rules \
-    do not allow it, and no other warning is about the row, delete the row.",
+It is counted, and by equal shares its voter gets a share of the budget. See what other warnings say of the row, and look \
+    at the ballot. If it names projects, write their ids. If an empty field means the vote above, or programs read an id such \
+    as `NA` as nothing, get the votes again. If there is no such ballot (the row was prepared for a voter who did not come), or \
+    it is empty and your rules do not allow that, delete the row.",
         STRAY_VOTE,
         STRAY_ID,
         STRAY_ID,
@@ -139,6 +143,9 @@ A lookup by name finds only one of the two. Compare votes for the other one with
         "no vote names it alone, and a spreadsheet turns its id into {short}, which is another project's
 no vote names a project alone, and a spreadsheet turns its id into that of another project
 Check whether votes for that project are meant for this one. If so, get the votes again, as text.",
+        "{value} is ignored: the key for the most projects of a ballot is `max_length`. This concerns {ballots}
+a key of META is ignored: the key for the most projects of a ballot is `max_length`. This concerns {ballots}
+If it is the most projects that a ballot may name, call the key `max_length`, and do with these ballots what your rules say.",
     ],
     &[
         "its cost, {value}, is the sum of all costs above
@@ -146,14 +153,13 @@ a cost is the sum of all costs above
 It is counted as a project. If it is one, compare its cost with the office's list. If it is a total, and no vote names it, delete the row.",
         "this last row is the only one with an empty vote
 the last row is the only one with an empty vote
-It is counted as a voter. If it says that rows are left out or not valid, or what signs or amounts mean, ask first. If it is a total or a note, delete the row.",
+It is counted as a voter. {note}",
         "its cost, {value}, is the sum of all other costs
 the cost in the first row of PROJECTS is the sum of all other costs
 It is counted as a project. If it is one, compare its cost with the office's list. If it is a total, and no vote names it, delete the row.",
         "the id of this last row looks like a total or a note, but its vote names a project
 the id of the last row looks like a total or a note, but its vote names a project
-It is counted as a voter. If it says that rows are left out or not valid, or what signs or amounts mean, ask first. If it \
-    is a total or a note, delete the row.",
+It is counted as a voter. {note}",
         "its id looks like a total, and no vote names it
 the id in the last row of PROJECTS looks like a total, and no vote names it
 It is counted as a project. If it is a total, delete the row. If not, give it another id.",
@@ -194,14 +200,16 @@ Check whether the budget lacks digits, or is in another unit than the costs (tho
     &[
         "the last {number} rows, from here on, have no vote; every row above has one
 the last {number} rows have no vote; every row above has one
-They are counted as voters. If they say that rows are left out or not valid, or what signs or amounts mean, ask first. \
-    If they are totals or notes, delete these rows.",
+They are counted as voters. {note}",
         "the vote is empty, and the id looks like a note. This concerns {rows}
-It is counted as a voter. If it says that rows are left out or not valid, or what signs or amounts mean, ask first. If it is a heading, a total or a note, delete the row.",
+It is counted as a voter. {note}",
         "the id begins with a sign by which programs leave rows out. This concerns {rows}
 It is counted as a voter. Ask what the sign means. If the row should be left out, delete it. If not, write the id without the sign.",
         "the ids of the last {number} rows are those of all projects
 They are counted as voters. If these rows are a list of the projects or a tally, delete them.",
+        "the end of VOTES, {rows} from here on, has no vote, and nothing in column {column}; every row above has something there
+the end of VOTES, {rows}, has no vote, and nothing in a column that every row above fills
+Each of these is counted as a voter. Look for its ballot. If there is none, as where ids were only prepared, delete its row.",
     ],
     &[
         "a field in quotation marks runs over several lines that look like rows
@@ -216,11 +224,12 @@ If so, begin a new line where the row begins.",
     &[
         "{value}, in column {column}, names a project too, but is not counted. This concerns {rows}
 a later column names a project too, but is not counted. This concerns {rows}
-Look at some ballots first. If these are numbers of another list, find out which projects they mean. If the voters \
-    chose these projects too, write all ids of a voter into the column `vote`, with `,` between them. If these are corrected \
-    votes, or `vote` says how many projects the voter chose, write them in its place. If `vote` says yes \
-    or no of this project, write the id there where it says yes, and nothing where not. If they are \
-    another voter's, write a row for that voter. Only if the column holds no votes, call it `comment`.",
+Look at some ballots and at your rules first. If these choices count as much as those in `vote`, write all ids of a voter into \
+    the column `vote`, with `,` between them. If they are a reserve, earlier votes or no votes, call the column `comment`: \
+    then they do not count. If a reserve or a second choice counts in place of others, this program can't count the file. \
+    If they are corrected votes, or `vote` says how many projects the voter chose, write them in its place. If `vote` says \
+    yes or no of this project, write the id there where it says yes, and nothing where not. If they are another voter's, \
+    write a row for that voter. If they are numbers of another list, find out which projects they mean.",
         "the vote is empty, but {value} stands in column {column}. This concerns {rows}
 the vote is empty, but another field of the row names projects. This concerns {rows}
 If the voter chose these projects, write their ids into the column `vote`. If not, and it is not the column `voter_id`, give it the name `comment`.",
@@ -231,6 +240,10 @@ Find out whose vote it is. If the row above has no vote, look at that voter's ba
 a column has marks for a project that the vote does not name. This concerns {rows}
 The vote may be a formula that was not filled down. Look at some ballots. If the voters chose this project too, write its id into \
     the column `vote`.",
+        "{value}, in column {column}, is the name of a project that the vote does not name. This concerns {rows}
+a column has names of projects, and the vote names others. This concerns {rows}
+A lookup may have found another project, or the column `vote` may have been sorted alone. Compare these rows with the \
+    ballots. If some votes are wrong, get all votes again.",
     ],
     &[
         "the vote names {twice} more than once, which counts once
@@ -284,6 +297,13 @@ If the project was withdrawn, take its row out, and its id out of the votes. If 
         "{value} differs from line {line} in column {column}. The column is ignored: every row is counted
 a column says of which round a vote is. The column is ignored: every row is counted
 If these are votes of several rounds, make a file for each round.",
+        "{value} differs from line {line} in column {column}. The column is ignored: all costs are read in one unit
+a column has different units. The column is ignored: all costs are read in one unit
+If the costs are in different units, such as thousands, write all of them in that of the budget. If not, write the same in all \
+    rows of the column.",
+        "{value} and all other dates in column {column} are far from the date that META gives on line {line}
+all dates of a column are far from those that META gives
+META may be that of another year. Compare its dates and its budget with the decision on this vote, and correct them.",
     ],
     &[
         "{value} is not counted: all projects share the amount of the key `budget`

@@ -1,7 +1,8 @@
 //! Words for warnings: where, what, and what to do.
 
-use crate::mark_words::CLOSE_IT;
+use crate::mark_words::put_swallower;
 use crate::prelude::*;
+use crate::read_texts::{NOTE, OWN_ROWS};
 use crate::row_causes::cut_cause;
 use crate::warning_texts::{BESIDE_DECIMALS, forms_of};
 use pb_core::money::Money;
@@ -13,15 +14,21 @@ use pb_witness::firsts::twice_in;
 use pb_witness::oddities::{MOST, Odd, Oddities};
 use pb_witness::quote::span_of;
 
+/// What is said behind the line of rows that a quotation mark made one.
+const NAMED: &str = " (SwallowedRows)";
+
 /// What META writes that names no rule.
 const NO_RULE: &str = "unknown|-";
 
 /// What META writes that names no other rule than that of any count by equal shares.
 const NO_OTHER_RULE: &str = "unknown|-|mes|method of equal shares";
 
+/// The last form of `VotesMissing` that is about the number of rows; behind it no row has a vote.
+const LAST_NUMBER: usize = 3;
+
 /// What is said, beside the remedy for one vote, where several name a project twice.
 const MANY_TWICE: &str =
-    " Several votes are so: compare others with the ballots too. If these differ, get all votes again.\n";
+    " Several votes are so, and all votes for one project may have become votes for another: compare others with the ballots too. If these differ, get all votes again.\n";
 
 /// What is said of a row that is odd: what, with what is known of the row; the same where the row is not
 /// known; and what to do.
@@ -99,9 +106,15 @@ A desk can open on this file. If it should have votes, get the whole file again.
             Oddity::VotesOf if oddities.has_no_votes => continue,
             _ => {}
         }
+        let mut told = None;
+        let mut told_cause = None;
         for odd in oddities.found() {
             if odd.oddity == oddity {
-                put_odd(out, text, odd, oddities);
+                let cause = cause_of(oddities, odd);
+                let is_again = told == Some(odd.form) && told_cause == cause;
+                put_odd(out, text, odd, oddities, is_again);
+                told = Some(odd.form);
+                told_cause = cause;
             }
         }
         let more = oddities.more(oddity);
@@ -139,9 +152,15 @@ fn put_more(out: &mut WordsWriter, oddity: Oddity, more: u64, is_of_check: bool)
     out.fill(form, &[Number(MOST)]);
 }
 
-/// Puts what is said of an odd record.
-fn put_odd<R: Files>(out: &mut WordsWriter, text: &Text<R>, odd: &Odd, oddities: &Oddities) {
-    if odd.oddity == Oddity::SwallowedRows && put_swallowing_row(out, text, odd.mark) {
+/// Puts what is said of an odd record; what to do not again where the record before it was odd alike.
+fn put_odd<R: Files>(
+    out: &mut WordsWriter,
+    text: &Text<R>,
+    odd: &Odd,
+    oddities: &Oddities,
+    is_again: bool,
+) {
+    if odd.oddity == Oddity::SwallowedRows && put_swallower(out, text, odd.mark, NAMED) {
         return;
     }
     let (what, alone, _) = said_of(odd);
@@ -163,6 +182,7 @@ fn put_odd<R: Files>(out: &mut WordsWriter, text: &Text<R>, odd: &Odd, oddities:
         .and_then(|row| cut_cause(&row, span_of(text, odd.mark)))
     {
         Some(words) => out.put(words),
+        None if is_again => {}
         None => put_odd_remedy(out, text, odd, oddities),
     }
 }
@@ -171,7 +191,7 @@ fn put_odd<R: Files>(out: &mut WordsWriter, text: &Text<R>, odd: &Odd, oddities:
 fn put_odd_remedy<R: Files>(out: &mut WordsWriter, text: &Text<R>, odd: &Odd, oddities: &Oddities) {
     let is_length = is_of_length(odd);
     match (cause_of(oddities, odd), odd.oddity) {
-        (Some(cause), _) if is_length => out.fill(
+        (Some(cause), kind) if is_length || kind == Oddity::EmptyBallot => out.fill(
             "Look at the warning {} first: it may be the reason. Don't delete the row before that.\n",
             &[Own(cause.name())],
         ),
@@ -207,14 +227,14 @@ fn put_unread<R: Files>(out: &mut WordsWriter, text: &Text<R>, odd: &Odd) {
                 &[Number(odd.number), Count(rows, "row"), Quoted(value)],
             )
         }
-        None if odd.form == 1 => out.fill(
-            ", key {}: {} sets a limit, which no count uses.\nIf your rules have it, see whether the result keeps it.\n",
-            &[Quoted(key), Quoted(value)],
-        ),
-        None => out.fill(
-            ", key {}: {} names a project or a voter, and the program does not read it.\nLook whether it says that something does not count.\n",
-            &[Quoted(key), Quoted(value)],
-        ),
+        None => {
+            let form = if odd.form == 1 {
+                ", key {}: {} sets a limit, which no count uses.\nIf your rules have it, see whether the result keeps it.\n"
+            } else {
+                ", key {}: {} names a project or a voter, and the program does not read it.\nLook whether it says that something does not count.\n"
+            };
+            out.fill(form, &[Quoted(key), Quoted(value)])
+        }
     }
 }
 
@@ -244,6 +264,18 @@ fn put_all_break(out: &mut WordsWriter, odd: &Odd, oddities: &Oddities) -> bool 
     is_so
 }
 
+/// The warning that says what an empty ballot may be in place of one.
+fn cause_of_none(oddities: &Oddities, odd: &Odd) -> Option<Oddity> {
+    let is_it = |other: &Odd| match other.oddity {
+        Oddity::FooterRow => other.mark.at == odd.mark.at,
+        Oddity::NoteRows => other.mark.at <= odd.mark.at,
+        Oddity::VotesMissing => other.form > LAST_NUMBER,
+        _ => false,
+    };
+    let mut found = oddities.found().iter();
+    Some(found.find(|other| is_it(other))?.oddity)
+}
+
 /// The warning that may be the reason why the file has another number of votes than it says.
 fn cause_of(oddities: &Oddities, odd: &Odd) -> Option<Oddity> {
     let are_few = odd.limit.unwrap_or(0) > odd.number;
@@ -252,6 +284,7 @@ fn cause_of(oddities: &Oddities, odd: &Odd) -> Option<Oddity> {
     let has_thousands = oddities.has(Oddity::ThousandsMark);
     let are_beside = oddities.count(Oddity::RepeatedColumn) > 1;
     match odd.oddity {
+        Oddity::EmptyBallot if odd.form == 0 => cause_of_none(oddities, odd),
         Oddity::TooLongBallot | Oddity::TooShortBallot if odd.form > 0 => None,
         Oddity::TooLongBallot | Oddity::TooShortBallot if has_rows => {
             Some(Oddity::SwallowedRows)
@@ -265,22 +298,6 @@ fn cause_of(oddities: &Oddities, odd: &Odd) -> Option<Oddity> {
         Oddity::VotesOf if has_ids => Some(Oddity::IdBehindVote),
         _ => None,
     }
-}
-
-/// Puts which quotation mark makes several lines one field in an odd row, where one is found; answers whether
-/// one is.
-fn put_swallowing_row<R: Files>(out: &mut WordsWriter, text: &Text<R>, mark: Mark) -> bool {
-    let span = span_of(text, mark);
-    if span.unclosed().is_none() && span.over.is_none() {
-        return false;
-    }
-    let _ = put_mark(out, text, mark);
-    out.fill(" ({})", &[Own(Oddity::SwallowedRows.name())]);
-    if put_unclosed(out, span) {
-        out.put(CLOSE_IT);
-        return true;
-    }
-    put_over(out, span, false)
 }
 
 /// Puts a text on an odd row, with what is known of it, or of the row if it could be read again, in place of
@@ -301,6 +318,10 @@ fn put_text<R: Files>(
                     "column" => put_column_name(out, text, odd),
                     "fields" => out.fill("{}", &[Number(fields)]),
                     "line" => out.fill("{}", &[Number(line)]),
+                    "note" => out.put(NOTE),
+                    "own_rows" => out.put(OWN_ROWS),
+                    "kind" if odd.oddity == Oddity::VotesMissing => out.put("vote"),
+                    "kind" => out.put("project"),
                     "file" if text.path.is_none() => out.put("FILE"),
                     "file" => out.fill("{}", &[Name(text.path)]),
                     "twice" => {
@@ -338,6 +359,7 @@ fn put_figure(out: &mut WordsWriter, name: &str, odd: &Odd, value: &str) {
         "number" => out.fill("{}", &[Number(odd.number)]),
         "rows" => out.fill("{}", &[Count(odd.number, "row")]),
         "projects" => out.fill("{}", &[Count(odd.number, "project")]),
+        "ballots" => out.fill("{}", &[Count(odd.number, "ballot")]),
         "limit" => out.fill("{}", &[Number(limit)]),
         "amount" => {
             let amount = Money::read(value).map_or(0, |amount| amount.0);

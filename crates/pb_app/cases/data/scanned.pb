@@ -1,0 +1,14 @@
+META
+key;value
+budget;40
+vote_type;approval
+PROJECTS
+project_id;cost
+P1;30
+P2;20
+VOTES
+voter_id;vote
+v1;
+P1;
+v2;
+P2;
