@@ -48,8 +48,8 @@ COMPUTING_LAWS = {
 # Words each of whose values a law pins in the words of a rule, for every input, or for each one that a definition gives them
 # (`last_given`: a voter whose ballot a legal journal leaves; `in_order`: an election and an order of its projects;
 # `totals_of`, `runs_of`: a count of an election; `voter_payments`: a voter of an election; `count_of`, `outcome_of`: an
-# election, and options in range; `needed`: a project with a supporter): whoever names them, the law says what they are, and
-# nobody has to believe what computes them.
+# election, and options in range; `elected_by_votes`: an election, which a rule without shares counts; `needed`: a project
+# with a supporter): whoever names them, the law says what they are, and nobody has to believe what computes them.
 PINNED = {
     ("pb_core", "Money", "money_of"): ("pb_core", "money_is_what_its_text_names"),
     ("pb_core", "Order", "position_in"): ("pb_core", "orders_are_their_words"),
@@ -82,6 +82,7 @@ PINNED = {
     ("pb_export", "Export", "is_of_file"): ("pb_export", "files_are_so"),
     ("pb_page", "Amount", "grouped"): ("pb_page", "digits_stand_in_threes"),
     ("pb_page", "Amount", "shown"): ("pb_page", "amounts_stand_by_digits"),
+    ("pb_reasons", "BesideVotes", "elected_by_votes"): ("pb_reasons", "most_votes_is_its_rule"),
     ("pb_reasons", "Counted", "is_selected"): ("pb_reasons", "winners_share_the_budget"),
     ("pb_reasons", "Totals", "totals_of"): ("pb_reasons", "winners_share_the_budget"),
     ("pb_reasons", "Money", "money_of"): ("pb_reasons", "largest_payments_are_their_words"),
@@ -97,6 +98,8 @@ PINNED = {
     ("pb_reasons", "Fairness", "losers"): ("pb_reasons", "rows_of_fairness_are_their_words"),
     ("pb_reasons", "Fairness", "needed"): ("pb_reasons", "rows_of_fairness_are_their_words"),
     ("pb_reasons", "Fairness", "spent"): ("pb_reasons", "rows_of_fairness_are_their_words"),
+    ("pb_desk", "Replay", "replay"): ("pb_commands", "replay_is_its_steps"),
+    ("pb_script", "ScriptFault", "at_row"): ("pb_commands", "rows_of_script_faults_are_their_words"),
     ("pb_commands", "Ballots", "last_given"): ("pb_commands", "ballots_name_their_entries"),
 }
 

@@ -26,3 +26,12 @@ def made_script(chance):
         places = [] if request == 'withdraw' else chance.sample(range(8), chance.randint(0, 4))
         rows.append(f'0;{request};{voter};' + ','.join(map(str, places)))
     return ''.join(row + '\n' for row in rows).encode()
+
+
+def small_file(chance):
+    """A file with few projects, half of which can be paid for, so that rules often elect others."""
+    costs = [chance.randint(1, 9) for _ in range(chance.randint(3, 6))]
+    ballots = [','.join(f'p{at}' for at in range(len(costs)) if chance.random() < 0.4) for _ in range(chance.randint(3, 9))]
+    rows = ['META', 'key;value', f'budget;{max(2, sum(costs) // 2)}', 'vote_type;approval', 'PROJECTS', 'project_id;cost',
+            *(f'p{at};{cost}' for at, cost in enumerate(costs)), 'VOTES', 'voter_id;vote', *(f'v{at};{it}' for at, it in enumerate(ballots))]
+    return ''.join(f'{row}\n' for row in rows).encode()

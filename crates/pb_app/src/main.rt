@@ -4,6 +4,7 @@
 
 mod admitted;
 mod command_run;
+mod deciding;
 mod export;
 mod keeping_watch;
 mod marks;

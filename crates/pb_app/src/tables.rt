@@ -2,18 +2,23 @@
 
 use crate::admitted::{RowNotice, rules_of};
 use crate::command_run::CommandRun;
+use crate::deciding::decide_of;
 use crate::notes::Notes;
 use crate::system::System;
-use pb_command_line::{AuditRun, Ballots, BallotsRun, CheckRun, CompareRun, CountRun, DeskRun};
+use pb_command_line::{
+    AuditRun, Ballots, BallotsRun, CheckRun, CompareRun, CountRun, DeskRun, most_votes_beside,
+};
 use pb_commands::run_audit::{AuditInputs, run_audit_watched};
 use pb_commands::run_ballots::run_ballots;
 use pb_commands::run_beside::{OtherRule, run_beside};
 use pb_commands::run_check::{run_check, run_check_against};
+use pb_commands::run_decided::{DecidedTable, run_decided};
+use pb_commands::run_decided_audit::{DecidedAudit, run_decided_audit};
 use pb_commands::run_desk::run_admitted_desk;
 use pb_commands::run_history::run_history;
 use pb_commands::run_table::run_table;
 use pb_commands::run_ties::run_ties;
-use pb_commands::{AppFault, Demand, Digests, Table, write_digested, write_out};
+use pb_commands::{AppFault, CountedBy, Demand, Digests, Table, write_digested, write_out};
 use pb_core::gate::NoGate;
 use pb_faults::RunText;
 use pb_read::read_pb;
@@ -22,7 +27,7 @@ use pb_witness::warnings::Warnings;
 use std::io::Write;
 use std::mem;
 
-/// Counts these ballots, and writes this table of the outcome.
+/// Counts these ballots, and writes this table of the outcome; where it is asked which of two rules stands, by that one.
 pub(crate) fn tell<'a, R: System, W: Write>(
     run: &CommandRun<'a, R>,
     ballots: &Ballots<'a>,
@@ -31,7 +36,13 @@ pub(crate) fn tell<'a, R: System, W: Write>(
     seen: &mut Warnings,
 ) -> Result<(), AppFault> {
     let inputs = run.inputs(ballots)?;
-    run_table(&run.counting, inputs, seen, writer, table)
+    match decide_of(run.asked) {
+        Some(decide) => {
+            let decided = DecidedTable { table, decide };
+            run_decided(&run.counting, inputs, seen, writer, &decided)
+        }
+        None => run_table(&run.counting, inputs, seen, writer, table),
+    }
 }
 
 /// Counts ballots, and writes how the rule compares with another: the one that is named, or most votes first.
@@ -41,17 +52,14 @@ pub(crate) fn compare<'a, R: System, W: Write>(
     writer: &mut W,
     seen: &mut Warnings,
 ) -> Result<(), AppFault> {
-    let by_project = asked.by_project;
-    let Some(rule) = asked.beside else {
-        let table = if by_project {
-            Table::RuledProjects
-        } else {
-            Table::Rules
-        };
-        return tell(run, &asked.ballots, table, writer, seen);
-    };
     let inputs = run.inputs(&asked.ballots)?;
-    let beside = OtherRule { rule, by_project };
+    let beside = OtherRule {
+        rule: match asked.beside {
+            Some(rule) => rule,
+            None => most_votes_beside(run.counting.rule),
+        },
+        by_project: asked.by_project,
+    };
     run_beside(&run.counting, inputs, seen, writer, &beside)
 }
 
@@ -183,8 +191,12 @@ fn write_below_digests<R: System, W: Write>(
     match &file {
         Some(file) => {
             let digests = digests_of(file, journal.as_ref());
-            let rule = counts.then_some(run.counting.rule);
-            write_digested(run.counting.alloc, &digests, rule, report, writer)
+            let by = CountedBy {
+                rule: run.counting.rule,
+                decide: decide_of(run.asked),
+            };
+            let by = counts.then_some(&by);
+            write_digested(run.counting.alloc, &digests, by, report, writer)
         }
         None => write_out(writer, report, AppFault::Write),
     }
@@ -222,7 +234,13 @@ fn report<'a, R: System, W: Write>(
         },
     };
     let Notes { entries, seen, .. } = notes;
-    run_audit_watched(&run.counting, inputs, entries, seen, writer)
+    match decide_of(run.asked) {
+        Some(decide) => {
+            let audit = DecidedAudit { inputs, decide };
+            run_decided_audit(&run.counting, audit, entries, seen, writer)
+        }
+        None => run_audit_watched(&run.counting, inputs, entries, seen, writer),
+    }
 }
 
 /// Writes the table of the ballots that a journal leaves on the desk of a file, or of what one voter's ballot

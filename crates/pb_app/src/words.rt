@@ -11,13 +11,15 @@ use pb_export::ExportFault;
 use pb_faults::RunText;
 use pb_rounds::count_fault::CountFault;
 use pb_rounds::options::CountOptions;
+use pb_rounds::rule::Rule;
 use pb_script::ScriptFault;
 use pb_streams::{End, ProgressLine, RunRefusal, behind_link};
 use pb_witness::audited::AuditPaths;
 use pb_witness::text::is_file;
 use pb_witness::warnings::Warnings;
 use pb_words::belonging_words::other_file_words;
-use pb_words::count_words::{count_words, either_count_words, spent_words, too_many_runs_words};
+use pb_words::count_words::{count_words, spent_words, too_many_runs_words};
+use pb_words::either_words::{OfTwo, either_count_words, other_spent_words};
 use pb_words::export_words::{comma_words, heading_words, lacking_words};
 use pb_words::journal_words::journal_words;
 use pb_words::read_words::{list_words, read_words};
@@ -130,7 +132,14 @@ pub(crate) fn say_rule<R: System>(rt: &R, asked: &Asked<'_>, notes: &Notes) {
     };
     let (file, _) = asked.task.paths();
     if let (Some(named), true) = (notes.seen.rule(), counts) {
-        say_words(rt, rule_words(rt, rt.alloc(), file, named, &notes.rule));
+        // A decision is by two rules, and the file may name the other one.
+        let is_other = match asked.decides {
+            Some((_, other)) => named.0.eq_ignore_ascii_case(other.word()),
+            None => false,
+        };
+        if !is_other {
+            say_words(rt, rule_words(rt, rt.alloc(), file, named, &notes.rule));
+        }
     }
 }
 
@@ -182,7 +191,7 @@ fn words_of<R: System>(
         }
         AppFault::OtherFile => words_of_other_file(rt, first, path),
         AppFault::OpenDesk => open_desk_words(alloc, second),
-        AppFault::Count(fault) => words_of_count(alloc, task, fault, &notes.rule.options),
+        AppFault::Count(fault) => words_of_count(alloc, asked, fault, &notes.rule.options),
         AppFault::TooManyRuns => too_many_runs_words(alloc, counted.path()),
         AppFault::Export(ExportFault::SectionWord) => heading_words(rt, alloc, first, second),
         AppFault::Export(_) => comma_words(rt, alloc, first, task.journal().is_some()),
@@ -203,12 +212,13 @@ fn words_of<R: System>(
 /// Words for a count by these options that was refused, or where two rules are compared for one of both.
 fn words_of_count(
     alloc: Global,
-    task: &Task<'_>,
+    asked: &Asked<'_>,
     fault: CountFault,
     options: &CountOptions,
 ) -> Said {
+    let task = &asked.task;
     let counted = task.journal().unwrap_or(task.texts().0);
-    match task.beside() {
+    match asked.beside() {
         Some(other) => { either_count_words(alloc, counted.path(), fault, options, &other.options) }
         None => count_words(alloc, counted.path(), fault, options),
     }
@@ -301,7 +311,7 @@ pub(crate) fn is_spent(end: End) -> bool {
 }
 
 /// Says what to do where the raises were spent, by a count that took so long. Whether more would decide is
-/// looked for first, after it was said why there is no result. Where two rules are compared, that said it.
+/// looked for first, after it was said why there is no result. Where both of two rules raise shares, that said it.
 pub(crate) fn say_spent<R: System>(
     rt: &R,
     asked: &Asked<'_>,
@@ -309,14 +319,31 @@ pub(crate) fn say_spent<R: System>(
     took: Option<Duration>,
     progress: &ProgressLine<'_, R>,
 ) {
-    if asked.task.beside().is_some() {
-        return;
+    let own = &notes.rule;
+    let Some(other) = asked.beside() else {
+        return say_spent_by(rt, asked, own, took, progress);
+    };
+    match OfTwo::of(CountFault::RaisesSpent, &own.options, &other.options) {
+        OfTwo::Own => say_spent_by(rt, asked, own, took, progress),
+        OfTwo::Other => {
+            let found = look_further(rt, &asked.task, &other, took, progress);
+            progress.clear();
+            say_words(rt, other_spent_words(rt.alloc(), found.deciding));
+        }
+        OfTwo::Either => {}
     }
-    let options = &notes.rule.options;
-    let found = look_further(rt, &asked.task, &notes.rule, took, progress);
+}
+
+/// Says what to do where the raises of the count by this rule were spent.
+fn say_spent_by<R: System>(
+    rt: &R,
+    asked: &Asked<'_>,
+    rule: &Rule,
+    took: Option<Duration>,
+    progress: &ProgressLine<'_, R>,
+) {
+    let found = look_further(rt, &asked.task, rule, took, progress);
     progress.clear();
-    say_words(
-        rt,
-        spent_words(rt.alloc(), options, found.deciding, found.step),
-    );
+    let words = spent_words(rt.alloc(), &rule.options, found.deciding, found.step);
+    say_words(rt, words);
 }

@@ -21,6 +21,8 @@ pub(crate) enum Takes {
     Completion,
     /// The name of a method.
     Method,
+    /// By what it is judged which of two rules applies.
+    Decide,
     /// The name of a rule for ties.
     Ties,
     /// The name of a rule, where none of what it says is said by an option of its own.
@@ -65,6 +67,7 @@ impl Argument {
             Takes::Measure => "MEASURE",
             Takes::Completion => "COMPLETION",
             Takes::Method => "RULE",
+            Takes::Decide => "BY",
             Takes::Ties => "TIES",
             Takes::Profile => "NAME",
             Takes::Path | Takes::Nothing | Takes::All => self.name,

@@ -139,7 +139,7 @@ pub(crate) const MEASURE: Argument = Argument {
 pub(crate) const RULE: Argument = Argument {
     name: "rule",
     takes: Takes::Method,
-    help: "Which rule counts. equal-shares: the Method of Equal Shares; most-votes: projects win in the order of their votes, each if the rest of the budget pays for it. There are no shares with most-votes, so it can't be used with --measure, --completion, --plain, --step or --raises, nor by fairness, compare without --beside and page --compare [default: equal-shares]",
+    help: "Which rule counts. equal-shares: the Method of Equal Shares; most-votes: projects win in the order of their votes, each if the rest of the budget pays for it. There are no shares with most-votes, so it can't be used with --measure, --completion, --plain, --step or --raises, nor with fairness or page --compare, nor with compare or --decide unless --beside names another rule [default: equal-shares]",
 };
 
 /// Which of equal projects comes first.
@@ -273,6 +273,20 @@ pub(crate) const BESIDE: Argument = Argument {
     name: "beside",
     takes: Takes::Text("NAME"),
     help: "Compares with the rule of this name, as for --profile, in place of most votes first; --raises and --workers are for both counts [default: MV, with the same ties]",
+};
+
+/// By what it is judged which of two rules applies.
+pub(crate) const DECIDE: Argument = Argument {
+    name: "decide",
+    takes: Takes::Decide,
+    help: "Counts by a second rule too. Its result applies if more voters have more by it (choices: more winners among their choices; worth: winners among them that cost more together), otherwise that of the first rule. With --profile, write /decide=BY at the end of the name",
+};
+
+/// The rule that may apply in place of the one that is given.
+pub(crate) const DECIDED_BESIDE: Argument = Argument {
+    name: "beside",
+    takes: Takes::Text("NAME"),
+    help: "The second rule by its name, as for --profile; --raises and --workers are for both counts [default: MV, with the same ties]",
 };
 
 /// What a page is about.

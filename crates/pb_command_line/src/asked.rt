@@ -1,6 +1,6 @@
 //! What parsed arguments ask for.
 
-use crate::rule::{SaidRules, rule_of};
+use crate::rule::{SaidRules, decides, rule_of};
 use crate::said_rule::SaidRule;
 use crate::task::{
     Admits, Asked, AuditRun, Ballots, BallotsRun, CheckRun, CompareRun, CountRun, DeskRun,
@@ -23,6 +23,7 @@ pub(crate) fn asked_by<'a>(matches: &ArgMatches<'a>, rules: &SaidRules) -> Asked
         Some((name, given)) => Asked {
             task: task_of(name, given, rules),
             rule: rule_of(given, &rules.said),
+            decides: decides(given, rules),
             output: given.get_str("output"),
             shows: shows_by(given),
             is_strict: given.get_flag("strict"),
@@ -42,6 +43,7 @@ pub(crate) fn asked_by<'a>(matches: &ArgMatches<'a>, rules: &SaidRules) -> Asked
                 fill_up: FillUp::Nothing,
                 ties: TieRule::file(),
             },
+            decides: None,
             output: None,
             shows: None,
             is_strict: false,

@@ -1,5 +1,6 @@
 //! A rule in the words of a by-law.
 
+use crate::decider::{BEFORE, Decider};
 use pb_rounds::measure::Measure;
 use pb_rounds::options::Completion;
 use pb_rounds::rule::{FillUp, Rule};
@@ -32,39 +33,61 @@ const FIRST_LISTED: &str = "the one that comes first in the published list wins.
 const LOT: &str =
     "a lot decides. Its seed is drawn in public after the ballots are closed, for example as the winning numbers of a lottery on a day that is named before the vote. For each of the equal projects the SHA-256 of the seed, a line feed and the id of the project is taken, and the one with the least wins.";
 
+/// The second count, where one decides.
+const SECOND: &str =
+    " These projects are the first result. In a second result the whole budget goes to projects that have supporters: those with the most supporters first, among these the cheapest first, each if what is left covers its cost, and equal ones in the order above. For each voter the two results are compared by";
+
+/// What of the choices of a voter that win is compared.
+const BY_CHOICES: &str = "how many winning projects the voter approved";
+
+const BY_WORTH: &str = "what the winning projects that the voter approved cost together";
+
+/// Which result applies.
+const APPLIES: &str =
+    "If more voters have more by the second result than by the first, the second applies; otherwise the first does.";
+
 /// What stands behind the name of a rule with a lot.
 const SEED_OF_NAME: &str = ", with the seed in place of SEED";
 
 /// The paragraph of a by-law that asks for this rule, and its name.
-pub(crate) fn bylaw_text(alloc: Global, rule: &Rule) -> Result<String, AllocError> {
+pub(crate) fn bylaw_text(
+    alloc: Global,
+    rule: &Rule,
+    decider: Option<Decider>,
+) -> Result<String, AllocError> {
     let behind = if rule.ties.lot.is_some() {
         SEED_OF_NAME
     } else {
         ""
     };
+    let name = named_text(alloc, rule, decider)?;
+    let winners = winners_text(alloc, rule)?;
+    let ties = ties_text(alloc, rule)?;
+    let decision = decision_text(alloc, decider)?;
+    format!(in alloc; "{winners} {ties}{decision} The name of this rule is {name}{behind}.\n")
+}
+
+/// The name of this rule, with the word SEED for the seed of its lot, and behind it what decides.
+fn named_text(alloc: Global, rule: &Rule, decider: Option<Decider>) -> Result<String, AllocError> {
     let Ok(name) = unseeded(rule).profile(alloc) else {
         return Err(AllocError);
     };
-    let winners = match winners_text(alloc, rule) {
-        Ok(winners) => winners,
-        Err(refused) => {
-            drop(name);
-            return Err(refused);
+    match decider {
+        None => Ok(name),
+        Some(decider) => {
+            let by = decider.name();
+            format!(in alloc; "{name}{BEFORE}{by}")
         }
-    };
-    let text = match ties_text(alloc, rule) {
-        Ok(ties) => {
-            let text = format!(in alloc;
-                "{winners} {ties} The name of this rule is {name}{behind}.\n"
-            );
-            drop(ties);
-            text
-        }
-        Err(refused) => Err(refused),
-    };
-    drop(name);
-    drop(winners);
-    text
+    }
+}
+
+/// How it is decided whether a second result applies, if it is.
+fn decision_text(alloc: Global, decider: Option<Decider>) -> Result<String, AllocError> {
+    match decider {
+        None => Ok(String::new(alloc)),
+        Some(Decider::Choices) => format!(in alloc; "{SECOND} {BY_CHOICES}. {APPLIES}"),
+        Some(Decider::Worth) => format!(in alloc; "{SECOND} {BY_WORTH}. {APPLIES}"),
+    }
 }
 
 /// The same rule, with the word SEED for the seed of its lot, if it has one.

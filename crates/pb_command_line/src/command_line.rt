@@ -2,10 +2,11 @@
 
 use crate::argument::{Argument, Takes};
 use crate::arguments::{
-    AGAINST, ALL, COMPLETION, COST, FIRST, HISTORY, MEASURE, PLAIN, PROJECT, RULE, STEP, TIES,
-    VOTER, VOTERS,
+    AGAINST, ALL, COMPLETION, COST, DECIDE, FIRST, HISTORY, MEASURE, PLAIN, PROJECT, RULE, STEP,
+    TIES, VOTER, VOTERS,
 };
 use crate::commands::{CommandForm, forms};
+use crate::decider::DECIDERS;
 use crate::helps::{ABOUT, AFTER_HELP};
 use crate::method::METHODS;
 use crate::rule::is_of_count;
@@ -144,6 +145,7 @@ fn option<'a>(arg: Arg<'a>, value_name: &'static str, takes: Takes) -> Result<Ar
         Takes::Measure => Ok(arg.value_parser(MEASURES)),
         Takes::Completion => arg.value_parser(COMPLETIONS).conflicts_with(PLAIN.name),
         Takes::Method => Ok(arg.value_parser(METHODS)),
+        Takes::Decide => Ok(arg.value_parser(DECIDERS)),
         Takes::Profile => alone(arg),
         Takes::Amount(_) => arg.conflicts_with(VOTERS.name),
         _ => Ok(arg),
@@ -157,5 +159,6 @@ fn alone<'a>(arg: Arg<'a>) -> Result<Arg<'a>, AllocError> {
         .conflicts_with(COMPLETION.name)?
         .conflicts_with(PLAIN.name)?
         .conflicts_with(STEP.name)?
-        .conflicts_with(TIES.name)
+        .conflicts_with(TIES.name)?
+        .conflicts_with(DECIDE.name)
 }

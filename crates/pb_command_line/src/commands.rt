@@ -3,11 +3,11 @@
 use crate::argument_group::ArgumentGroup;
 use crate::argument_group::ArgumentGroup::{OfCount, OfResult, Own};
 use crate::arguments::{
-    AGAINST, ALL, BESIDE, BY_ID, BY_PROJECT, CLERKS, COMPARE, COMPLETION, COST, CURRENCY, DIGEST,
-    DIGESTS, DURABLE, ELECTION, FILES, FIRST, HISTORY, JOURNAL, KEEP_FILE, KEEP_VOTERS, LEAST,
-    LEFT_BY, MEASURE, NO_SHUT, OTHER_FILE, OUTPUT, PLAIN, PROFILE, PROGRESS, PROJECT, QUIET,
-    QUIET_BALLOTS, QUIET_DESK, QUIET_SERVE, RECOUNT, REQUIRE_SHUT, ROLL, RULE, SAME_AS, SCRIPT,
-    SERVED, SHUT, STEP, STRICT, TIES, TITLE, VOTER, VOTERS, WORDS,
+    AGAINST, ALL, BESIDE, BY_ID, BY_PROJECT, CLERKS, COMPARE, COMPLETION, COST, CURRENCY, DECIDE,
+    DECIDED_BESIDE, DIGEST, DIGESTS, DURABLE, ELECTION, FILES, FIRST, HISTORY, JOURNAL, KEEP_FILE,
+    KEEP_VOTERS, LEAST, LEFT_BY, MEASURE, NO_SHUT, OTHER_FILE, OUTPUT, PLAIN, PROFILE, PROGRESS,
+    PROJECT, QUIET, QUIET_BALLOTS, QUIET_DESK, QUIET_SERVE, RECOUNT, REQUIRE_SHUT, ROLL, RULE,
+    SAME_AS, SCRIPT, SERVED, SHUT, STEP, STRICT, TIES, TITLE, VOTER, VOTERS, WORDS,
 };
 use crate::helps::{AFTER_BALLOTS, AFTER_SERVE};
 
@@ -53,7 +53,12 @@ const COUNT: &CommandForm = &CommandForm {
     name: "count",
     notes: "Manual pages: man pb_app-election, man pb_app-report, man pb_app-counting.",
     about: "Counts a .pb file, and prints the report",
-    groups: &[Own(&[ELECTION]), OfCount, Own(&[DIGEST]), OfResult],
+    groups: &[
+        Own(&[ELECTION]),
+        OfCount,
+        Own(&[DECIDE, DECIDED_BESIDE, DIGEST]),
+        OfResult,
+    ],
 };
 
 /// The command that shows the projects of a count.
@@ -65,7 +70,12 @@ const PROJECTS: &CommandForm = &CommandForm {
     name: "projects",
     notes: "Manual pages: man pb_app-election, man 5 pb_app-projects, man pb_app-counting.",
     about: "Counts a .pb file, and prints who won and why, and how much money the other projects lacked",
-    groups: &[Own(&[ELECTION, LEFT_BY, OTHER_FILE]), OfCount, OfResult],
+    groups: &[
+        Own(&[ELECTION, LEFT_BY, OTHER_FILE]),
+        OfCount,
+        Own(&[DECIDE, DECIDED_BESIDE]),
+        OfResult,
+    ],
 };
 
 /// The command that shows the voters of a count.
@@ -77,7 +87,12 @@ const VOTERS_PAID: &CommandForm = &CommandForm {
     name: "voters",
     notes: "Manual pages: man pb_app-election, man 5 pb_app-voters, man pb_app-counting.",
     about: "Counts a .pb file, and prints what each voter paid, and for what",
-    groups: &[Own(&[ELECTION, LEFT_BY, OTHER_FILE]), OfCount, OfResult],
+    groups: &[
+        Own(&[ELECTION, LEFT_BY, OTHER_FILE]),
+        OfCount,
+        Own(&[DECIDE, DECIDED_BESIDE]),
+        OfResult,
+    ],
 };
 
 /// The command that shows how fair a count is.
@@ -115,7 +130,7 @@ fn ties() -> &'static CommandForm {
 
 const ALL_TIES: &CommandForm = &CommandForm {
     name: "ties",
-    notes: "At most 1000 runs are counted, one for each raise. changes: 1 if exchanging just these two in the order of ties changes the winners (of the first hundred pairs).\n\nManual pages: man pb_app-election, man 5 pb_app-ties, man pb_app-counting.",
+    notes: "At most 1000 runs are counted: the first, and one for each raise. changes, of the first hundred pairs: 1 if others win, or the count is refused, where just these two are exchanged in the order of ties; 0 if not, which says nothing of other exchanges.\n\nManual pages: man pb_app-election, man 5 pb_app-ties, man pb_app-counting.",
     about: "Counts a .pb file, and prints each tie and its winner",
     groups: &[Own(&[ELECTION, LEFT_BY, OTHER_FILE]), OfCount, OfResult],
 };
@@ -168,6 +183,7 @@ const EXPORT: &CommandForm = &CommandForm {
     groups: &[
         Own(&[ELECTION, LEFT_BY, OTHER_FILE, KEEP_VOTERS]),
         OfCount,
+        Own(&[DECIDE, DECIDED_BESIDE]),
         OfResult,
     ],
 };
@@ -214,7 +230,16 @@ const AUDIT: &CommandForm = &CommandForm {
     groups: &[
         Own(&[ELECTION, JOURNAL, OTHER_FILE]),
         OfCount,
-        Own(&[REQUIRE_SHUT, DIGESTS, STRICT, OUTPUT, QUIET_DESK, PROGRESS]),
+        Own(&[
+            DECIDE,
+            DECIDED_BESIDE,
+            REQUIRE_SHUT,
+            DIGESTS,
+            STRICT,
+            OUTPUT,
+            QUIET_DESK,
+            PROGRESS,
+        ]),
     ],
 };
 

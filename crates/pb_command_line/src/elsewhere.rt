@@ -104,6 +104,16 @@ fn others_with(
     Ok(Some(words?))
 }
 
+/// Whether the command with this name has this option.
+pub(crate) fn has_option(command: &str, option: &str) -> bool {
+    for form in forms() {
+        if form.name == command {
+            return form.has(option);
+        }
+    }
+    false
+}
+
 /// Whether a command is among these, which have commas between them.
 fn is_listed(commands: &str, command: &str) -> bool {
     for name in commands.split(',') {

@@ -4,6 +4,7 @@ use crate::address::{is_address, lacks_scheme};
 use crate::currency::is_currency;
 use crate::task::{BallotsRun, OneChange, PageRun, Task, WhatIfRun, Whose};
 use crate::text_source::TextSource;
+use crate::two_rules::TwoRules;
 use pb_core::money::Money;
 
 /// Why arguments are refused although each has its form.
@@ -36,10 +37,8 @@ pub(crate) enum Flaw<'a> {
     NoShares,
     /// This text names no rule for ties.
     Ties(&'a str),
-    /// The rule would be compared with itself.
-    OneRule,
-    /// The rule would be compared with itself, as an option names it.
-    BesideItself,
+    /// Something is wrong with the rules of a count by two.
+    TwoRules(TwoRules),
 }
 
 impl<'a> Flaw<'a> {
@@ -114,8 +113,7 @@ impl<'a> Flaw<'a> {
             Flaw::Ties(text) => return say_ties(rt, text),
             Flaw::OfShares(option) => return say_of_shares(rt, option),
             Flaw::NoShares => return say_no_shares(rt),
-            Flaw::OneRule => return say_one_rule(rt),
-            Flaw::BesideItself => return say_beside_itself(rt),
+            Flaw::TwoRules(two) => return two.say(rt),
         };
     }
 }
@@ -150,20 +148,6 @@ pub(crate) const TIES_ARE: &str =
 /// Says that this text names no rule for ties.
 fn say_ties<R: Eprint>(rt: &R, text: &str) {
     let _ = eprintln!(rt; "option --ties: {text:?} is not allowed. {TIES_ARE}");
-}
-
-/// Says that most votes first is not compared with itself.
-fn say_one_rule<R: Eprint>(rt: &R) {
-    let _ = eprintln!(rt;
-        "error: the result is compared with that of most votes first, so it can't be counted by the same rule. Count by equal shares, or omit the comparison."
-    );
-}
-
-/// Says that a rule is not compared with itself.
-fn say_beside_itself<R: Eprint>(rt: &R) {
-    let _ = eprintln!(rt;
-        "error: --beside names the rule that counts, which can't be compared with itself. Name another rule."
-    );
 }
 
 /// Whether a path is given, and is that of standard input.

@@ -10,6 +10,7 @@ mod bylaw;
 mod command_line;
 mod commands;
 pub mod currency;
+mod decider;
 mod elsewhere;
 mod flaw;
 mod helps;
@@ -20,13 +21,15 @@ mod rule;
 mod said_rule;
 pub mod task;
 mod text_source;
+mod two_rules;
 
 pub use address::is_link;
 pub use command_line::PROGRAM;
+pub use decider::Decider;
 pub use method::Method;
 pub use parse::Parsed;
 pub use rule::refuses_page;
-pub use said_rule::SaidRule;
+pub use said_rule::{SaidRule, most_votes_beside};
 pub use task::{
     Admits, Asked, AuditRun, Ballots, BallotsRun, CheckRun, CompareRun, CountRun, DeskRun,
     OneChange, PageRun, ServeRun, Task, WhatIfRun, Whose,

@@ -4,14 +4,16 @@ use crate::asked::asked_by;
 use crate::bylaw::bylaw_text;
 use crate::command_line::command_line;
 use crate::commands::BYLAW;
+use crate::decider::Decider;
 use crate::elsewhere::{elsewhere_words, uncounted_words, without_dashes};
 use crate::flaw::Flaw;
 use crate::numbers::{BadNumber, bad_number};
 use crate::rule::{
-    OF_NAMES, SaidRules, are_one, bad_ties, compares, named_rule, refuse_name, rule_of,
+    OF_NAMES, SaidRules, are_one, bad_ties, compares, named_rule, refuse_name, rule_of, undecided,
     without_shares,
 };
 use crate::task::Asked;
+use crate::two_rules::TwoRules;
 use clap::error::ErrorKind;
 use clap::{ArgMatches, Error};
 use pb_rounds::rule::Rule;
@@ -72,17 +74,25 @@ fn parsed_by<'a, R: Print + Eprint>(
             return Ok(Parsed::Ends(BAD_ARGUMENTS));
         }
         rules = SaidRules::of(alloc, given)?;
-        if let Some(flaw) = without_shares(name, compares(name, given), &rules.said) {
+        if let Some(flaw) = undecided(name, &rules) {
+            return Ok(refused_by(rt, flaw));
+        }
+        if let Some(flaw) = without_shares(
+            name,
+            compares(name, given, &rules),
+            &rules.said,
+            rules.beside.as_ref(),
+        ) {
             return Ok(refused_by(rt, flaw));
         }
         let rule = rule_of(given, &rules.said);
         if let Some(other) = &rules.beside {
             if are_one(alloc, &rule, other)? {
-                return Ok(refused_by(rt, Flaw::BesideItself));
+                return Ok(refused_by(rt, Flaw::TwoRules(TwoRules::BesideItself)));
             }
         }
         if name == BYLAW.name {
-            return print_bylaw(rt, alloc, &rule);
+            return print_bylaw(rt, alloc, &rule, rules.decider);
         }
     }
     let asked = asked_by(matches, &rules);
@@ -120,8 +130,9 @@ fn print_bylaw<'a, R: Print + Eprint>(
     rt: &R,
     alloc: Global,
     rule: &Rule,
+    decider: Option<Decider>,
 ) -> Result<Parsed<'a>, AllocError> {
-    let text = bylaw_text(alloc, rule)?;
+    let text = bylaw_text(alloc, rule, decider)?;
     let printed = rt.print(text.as_str());
     drop(text);
     Ok(end_of_print(rt, printed))

@@ -2,12 +2,17 @@
 
 use crate::argument::Argument;
 use crate::arguments::{
-    BESIDE, COMPARE, COMPLETION, MEASURE, PLAIN, PROFILE, RAISES, RULE, STEP, TIES, of_count,
+    BESIDE, COMPARE, COMPLETION, DECIDE, MEASURE, PLAIN, PROFILE, RAISES, RULE, STEP, TIES,
+    of_count,
 };
+use crate::commands::BYLAW;
+use crate::decider::{Decider, split_name};
+use crate::elsewhere::has_option;
 use crate::flaw::{Flaw, TIES_ARE};
 use crate::method::Method;
 use crate::said_rule::SaidRule;
 use crate::task::PageRun;
+use crate::two_rules::TwoRules;
 use clap::ArgMatches;
 use pb_core::money::Money;
 use pb_rounds::measure::Measure;
@@ -31,6 +36,8 @@ pub(crate) struct SaidRules {
     pub(crate) said: SaidRule,
     /// The rule with which that one is compared, if one is named.
     pub(crate) beside: Option<Rule>,
+    /// By what it is judged which of both applies, if that is asked.
+    pub(crate) decider: Option<Decider>,
 }
 
 impl SaidRules {
@@ -39,6 +46,7 @@ impl SaidRules {
         SaidRules {
             said: SaidRule::nothing(),
             beside: None,
+            decider: None,
         }
     }
 
@@ -47,6 +55,7 @@ impl SaidRules {
         Ok(SaidRules {
             said: said_rule(given, named_rule(alloc, given, PROFILE.name)?),
             beside: beside_of(alloc, given)?,
+            decider: decider_of(given),
         })
     }
 }
@@ -62,6 +71,29 @@ fn beside_of(alloc: Global, given: &ArgMatches<'_>) -> Result<Option<Rule>, Allo
         }
         None => Ok(None),
     }
+}
+
+/// By what it is judged which of two rules applies, if an option says so, or the name of the rule.
+fn decider_of(given: &ArgMatches<'_>) -> Option<Decider> {
+    match given.get_str(DECIDE.name) {
+        Some(by) => Decider::named(by),
+        None => split_name(given.get_str(PROFILE.name)?).1,
+    }
+}
+
+/// The other rule, and by what it is judged which one applies, if that is asked: without a name it is most votes first,
+/// with the ties of the rule that counts.
+pub(crate) fn decides(given: &ArgMatches<'_>, rules: &SaidRules) -> Option<(Decider, Rule)> {
+    let by = rules.decider?;
+    let rule = match rules.beside {
+        Some(rule) => rule,
+        None => {
+            let mut said = SaidRule::method(Method::MostVotes);
+            said.ties = rules.said.ties;
+            rule_of(given, &said)
+        }
+    };
+    Some((by, rule))
 }
 
 /// Whether both rules have one name.
@@ -112,11 +144,21 @@ pub(crate) fn named_rule(
     option: &str,
 ) -> Result<Option<Rule>, AllocError> {
     match given.get_str(option) {
-        Some(name) => match profile_named(alloc, whole_name(name)) {
+        Some(name) => match profile_named(alloc, whole_name(rule_name(option, name))) {
             Ok(named) => Ok(named),
             Err(_) => Err(AllocError),
         },
         None => Ok(None),
+    }
+}
+
+/// The name of a rule without what decides, which the one that an option gives may say too, but not that of the rule
+/// beside it.
+fn rule_name<'n>(option: &str, name: &'n str) -> &'n str {
+    if option == BESIDE.name {
+        name
+    } else {
+        split_name(name).0
     }
 }
 
@@ -163,32 +205,58 @@ pub(crate) fn without_shares<'a>(
     command: &str,
     compares: bool,
     said: &SaidRule,
+    beside: Option<&Rule>,
 ) -> Option<Flaw<'a>> {
     if !said.is_most_votes() {
         return None;
     }
     if let Some(option) = said.of_shares.and_then(|place| OF_SHARES.get(place)) {
-        return Some(Flaw::OfShares(option.name));
+        // Raises are those of the other rule then. They are the last of these options.
+        if option.name != RAISES.name || !raises_shares(beside) {
+            return Some(Flaw::OfShares(option.name));
+        }
     }
     if command == "fairness" {
         return Some(Flaw::NoShares);
     }
-    if compares { Some(Flaw::OneRule) } else { None }
+    if compares {
+        Some(Flaw::TwoRules(TwoRules::OneRule(has_option(command, BESIDE.name))))
+    } else {
+        None
+    }
+}
+
+/// Whether there is a rule, and shares are raised by it.
+fn raises_shares(rule: Option<&Rule>) -> bool {
+    rule.is_some_and(|rule| matches!(rule.options.completion, Completion::Add1))
 }
 
 /// Whether the arguments of this command ask for a comparison with most votes first, which they don't name.
-pub(crate) fn compares(command: &str, given: &ArgMatches<'_>) -> bool {
+pub(crate) fn compares(command: &str, given: &ArgMatches<'_>, rules: &SaidRules) -> bool {
     match command {
-        "compare" => given.get_str(BESIDE.name).is_none(),
+        "compare" => rules.beside.is_none(),
         "page" => given.get_flag(COMPARE.name),
-        _ => false,
+        _ => rules.decider.is_some() && rules.beside.is_none(),
+    }
+}
+
+/// What is asked for of the comparison step that this command has not, or of the other rule where nothing decides.
+pub(crate) fn undecided<'a>(command: &str, rules: &SaidRules) -> Option<Flaw<'a>> {
+    match (rules.decider, rules.beside) {
+        (Some(_), _) if command != BYLAW.name && !has_option(command, DECIDE.name) => {
+            Some(Flaw::TwoRules(TwoRules::NoDecision))
+        }
+        (None, Some(_)) if has_option(command, DECIDE.name) => Some(Flaw::TwoRules(
+            TwoRules::BesideAlone,
+        )),
+        _ => None,
     }
 }
 
 /// Says on standard error why a page is refused that is made as options and a published page say together, and
 /// answers whether it is.
 pub fn refuses_page<R: Eprint>(rt: &R, run: &PageRun<'_>) -> bool {
-    match without_shares("page", run.compares, &run.given) {
+    match without_shares("page", run.compares, &run.given, None) {
         Some(flaw) => {
             flaw.say(rt);
             true
@@ -224,8 +292,9 @@ pub(crate) fn refuse_name<R: Eprint>(
         Ok(nearest) => nearest,
         Err(_) => return Err(AllocError),
     };
+    let behind = name.strip_prefix(rule_name(option, name)).unwrap_or("");
     let _ = eprintln!(rt;
-        "option --{option}: {name:?} is not the name of a rule. The nearest one is {nearest}."
+        "option --{option}: {name:?} is not the name of a rule. The nearest one is {nearest}{behind}."
     );
     drop(nearest);
     Ok(())

@@ -133,6 +133,11 @@ impl SaidRule {
     }
 }
 
+/// Most votes first, by as many workers as this rule, and with its rule for ties.
+pub fn most_votes_beside(rule: &Rule) -> Rule {
+    most_votes(rule.options.workers, rule.ties)
+}
+
 /// Most votes first, by so many workers, with this rule for ties.
 fn most_votes(workers: u32, ties: TieRule) -> Rule {
     let mut options = CountOptions::standard();

@@ -1,5 +1,6 @@
 //! What the arguments of the command line ask for.
 
+use crate::decider::Decider;
 use crate::said_rule::SaidRule;
 use crate::text_source::TextSource;
 use pb_core::money::Money;
@@ -275,14 +276,6 @@ impl<'a> Task<'a> {
         }
     }
 
-    /// The rule with which that of the count is compared, if one is named.
-    pub fn beside(&self) -> Option<Rule> {
-        match *self {
-            Task::Compare(CompareRun { beside, .. }) => beside,
-            _ => None,
-        }
-    }
-
     /// Their paths; standard input has none.
     pub fn paths(&self) -> (Option<&'a str>, Option<&'a str>) {
         let (file, second) = self.texts();
@@ -299,6 +292,8 @@ pub struct Asked<'a> {
     pub task: Task<'a>,
     /// By which rule the ballots are counted, where some are.
     pub rule: Rule,
+    /// The other rule, and by what it is judged which of both applies, if that is asked.
+    pub decides: Option<(Decider, Rule)>,
     /// The path of the file that gets the result; none is standard output.
     pub output: Option<&'a str>,
     /// Whether it is shown how far the work has come; none is where standard error is a terminal.
@@ -309,4 +304,15 @@ pub struct Asked<'a> {
     pub takes_other: bool,
     /// The further columns of VOTES are exported too.
     pub keeps_voters: bool,
+}
+
+impl Asked<'_> {
+    /// The other rule by which the ballots are counted too, if one is named, or may apply.
+    pub fn beside(&self) -> Option<Rule> {
+        match (&self.task, self.decides) {
+            (Task::Compare(run), _) => run.beside,
+            (_, Some((_, rule))) => Some(rule),
+            _ => None,
+        }
+    }
 }

@@ -27,7 +27,7 @@ use Rattle.pb_rounds.specs.declared.rule.FillUp.{FillUp}
 use Rattle.pb_rounds.specs.declared.rule.FillUp.TheVariants.{Nothing, MostVotes}
 use Rattle.pb_rounds.specs.declared.rule.Rule.{Rule}
 use Rattle.pb_rows.specs.Reading.{records_of}
-use Rattle.pb_commands.specs.Inner.Counted.{IsTold}
+use Rattle.pb_commands.specs.Audited.{IsReport}
 use Rattle.pb_commands.specs.Closed.{Gives}
 use Rattle.pb_commands.specs.Inner.Outside.{IsOutsideFault}
 use Rattle.pb_faults.specs.Fault.{merged}
@@ -129,7 +129,7 @@ counted_from_outside rule e x is count.RaisesSpent refused = fault_from_outside 
 counted_from_outside rule e x is count.NoMemory refused = refl
 
 -- an election has one report by a rule
-pub one_report : (rule : Rule) (e : ElectionView) (a b : List ℕ) → IsTold report_of rule e a → IsTold report_of rule e b → a ≡ b
+pub one_report : (rule : Rule) (e : ElectionView) (a b : List ℕ) → IsReport rule e a → IsReport rule e b → a ≡ b
 one_report rule e a b (x, is, same) (y, other, also) =
     let sorted : x.election ≡ y.election = one_sorted rule.ties e x.order y.order x.election y.election is.1 other.1 in
     let (o, is_count, filled) = is.2 in
@@ -139,7 +139,7 @@ one_report rule e a b (x, is, same) (y, other, also) =
     ∙ report_of_other x.election rule.fill_up p o.priced ∙ ap (λ (s : ElectionView). report_of s (counted s rule.fill_up p)) sorted
     ∙ ap (report_of y.election) (sym other_filled) ∙ sym also
 
-report_told : (rule : Rule) (e : ElectionView) (text : List ℕ) → IsTableOf Report rule e text → IsTold report_of rule e text
+report_told : (rule : Rule) (e : ElectionView) (text : List ℕ) → IsTableOf Report rule e text → IsReport rule e text
 unfolding table_of
 report_told rule e text is = (is.0, is.2, is.3)
 

@@ -20,10 +20,8 @@ use Rattle.pb_rows.specs.Reading.{records_of}
 use Rattle.pb_rows.specs.Writing.{text_of_row}
 use Rattle.pb_script.specs.Serving.{program_room}
 use Rattle.pb_faults.specs.DeskRow.{entries_row}
-use Rattle.pb_commands.specs.Audited.{AuditWrites, IsDeskOf, IsTextOf}
+use Rattle.pb_commands.specs.Audited.{AuditWrites, IsDeskOf, IsReport, IsTextOf}
 use Rattle.pb_commands.specs.Inner.Audited.{IsRefusedDesk}
-use Rattle.pb_commands.specs.Inner.Counted.{IsTold}
-use Rattle.pb_commands.specs.Report.{report_of}
 use Rattle.pb_commands.specs.declared.demand.Demand.{Demand}
 use Rattle.pb_commands.specs.Inner.Outside.{IsOutsideFault}
 use Rattle.pb_faults.specs.Fault.{merged}
@@ -51,11 +49,11 @@ journal_from_outside o journal sound (audit.WrongAnswer row) fails = absurd (no_
 journal_from_outside o journal sound audit.NoMemory fails = refl
 
 -- a desk that has a text is refused from outside alone
-pub desk_from_outside : (rule : Rule) (d : DeskView) (text : List ℕ) → IsTextOf rule d text
+pub desk_from_outside : (rule : Rule) (d : DeskView) (text : List ℕ) → IsTextOf (IsReport rule) d text
     → (fault : CountFault) → IsRefusedDesk d rule fault → IsOutsideFault (merged (Count fault))
 desk_from_outside rule d text written count.NoMemory refused = refl
 desk_from_outside rule d text written fault refused =
-    let report : IsTold report_of rule (closed_election d) written.0 = rw refused.0 at written.2 in
+    let report : IsReport rule (closed_election d) written.0 = rw refused.0 at written.2 in
     counted_from_outside rule (closed_election d) report.0 report.1 fault (λ unlike. refused.1)
 
 -- the desk that an audit answers to a file's election
@@ -68,18 +66,18 @@ desk_of bytes journal e d stands is = record {
 
 -- a desk has one text
 one_desk_text : (rule : Rule) (shut : Bool) (e : ElectionView) (row a b first second : List ℕ)
-    → a ≡ row ++ first → b ≡ row ++ second → MatchBool shut (IsTold report_of rule e first) (first ≡ [])
-    → MatchBool shut (IsTold report_of rule e second) (second ≡ []) → a ≡ b
+    → a ≡ row ++ first → b ≡ row ++ second → MatchBool shut (IsReport rule e first) (first ≡ [])
+    → MatchBool shut (IsReport rule e second) (second ≡ []) → a ≡ b
 one_desk_text rule true e row a b first second is_a is_b one other =
     is_a ∙ ap (λ (t : List ℕ). row ++ t) (one_report rule e first second one other) ∙ sym is_b
 one_desk_text rule false e row a b first second is_a is_b one other =
     is_a ∙ ap (λ (t : List ℕ). row ++ t) (one ∙ sym other) ∙ sym is_b
 
 pub one_audit : (demand : Demand) (rule : Rule) (bytes journal : List ℕ) (a b : List ℕ)
-    → AuditWrites demand rule bytes journal a → AuditWrites demand rule bytes journal b → a ≡ b
+    → AuditWrites demand (IsReport rule) bytes journal a → AuditWrites demand (IsReport rule) bytes journal b → a ≡ b
 one_audit demand rule bytes journal a b first second =
     let d = first.0 in
-    let P : DeskView → Type 0 = λ d. IsTextOf rule d b in
+    let P : DeskView → Type 0 = λ d. IsTextOf (IsReport rule) d b in
     let written = subst P (one_desk bytes journal second.0 d second.1 first.1) second.2.1 in
     one_desk_text rule (standing_of d).is_shut (closed_election d) (text_of_row (entries_row d)) a b first.2.1.0 written.0
     first.2.1.1 written.1 first.2.1.2 written.2

@@ -16,22 +16,36 @@ use Rattle.pb_rounds.specs.declared.count_fault.CountFault.TheVariants.{NoMemory
 use Rattle.pb_rounds.specs.declared.rule.Rule.{Rule}
 use Rattle.pb_rows.specs.Writing.{text_of_row}
 use Rattle.pb_faults.specs.DeskRow.{entries_row}
-use Rattle.pb_commands.specs.Audited.{IsTextOf}
+use Rattle.pb_commands.specs.Audited.{IsReport, IsTextOf}
 use Rattle.pb_commands.specs.Inner.Audited.{IsRefusedDesk}
 use Rattle.pb_commands.specs.Report.{report_of}
 
 when_true : (b : Bool) (A B : Type 0) → b ≡ true → A → MatchBool b A B
 when_true b A B is a = subst (λ (t : Bool). MatchBool t A B) (sym is) a
 
+-- below the row of a shut desk stands such a report
+pub such_follows : (IsSuch : ElectionView → List ℕ → Type 0) (d : DeskView) (report told text : List ℕ) → (standing_of d).is_shut ≡ true
+    → IsSuch (closed_election d) report → told ≡ text_of_row (entries_row d) → text ≡ told ++ report → IsTextOf IsSuch d text
+such_follows IsSuch d report told text shut such is_row put =
+    (report, put ∙ ap (λ (t : List ℕ). t ++ report) is_row, when_true (standing_of d).is_shut _ _ shut such)
+
+-- nothing stands below that of an open one
+pub none_follows : (IsSuch : ElectionView → List ℕ → Type 0) (d : DeskView) (text : List ℕ) → (standing_of d).is_shut ≡ false → text ≡ text_of_row (entries_row d)
+    → IsTextOf IsSuch d text
+none_follows IsSuch d text unshut is =
+    let none : List ℕ = [] in
+    let P : Bool → Type 0 = λ t. MatchBool t (IsSuch (closed_election d) none) (none ≡ none) in
+    (none, is ∙ sym (append-nil (text_of_row (entries_row d))), subst P (sym unshut) refl)
+
 -- the desk's row and the report of a count of its ballots are what is to be written of the desk
 pub report_of_count : (rule : Rule) (d : DeskView) (x : CountedElectionView) → (standing_of d).is_shut ≡ true → IsCountIn rule (closed_election d) x
-    → IsTextOf rule d (text_of_row (entries_row d) ++ report_of x.election x.counted)
+    → IsTextOf (IsReport rule) d (text_of_row (entries_row d) ++ report_of x.election x.counted)
 report_of_count rule d x shut is_count = (report_of x.election x.counted, refl, when_true (standing_of d).is_shut _ _ shut (x, is_count, refl))
 
 -- the report of a shut desk's ballots goes after the desk's row
 pub report_follows : (rule : Rule) (d : DeskView) (x : CountedElectionView) (before middle after : List ℕ) → (standing_of d).is_shut ≡ true
     → IsCountIn rule (closed_election d) x → middle ≡ before ++ text_of_row (entries_row d) → after ≡ middle ++ report_of x.election x.counted
-    → (text : List ℕ) × IsTextOf rule d text × (after ≡ before ++ text)
+    → (text : List ℕ) × IsTextOf (IsReport rule) d text × (after ≡ before ++ text)
 report_follows rule d x before middle after shut count row_is put =
     let row = text_of_row (entries_row d) in
     let report = report_of x.election x.counted in (
@@ -42,12 +56,10 @@ report_follows rule d x before middle after shut count row_is put =
 
 -- nothing goes after the row of an open desk
 pub row_alone : (rule : Rule) (d : DeskView) (before after : List ℕ) → (standing_of d).is_shut ≡ false → after ≡ before ++ text_of_row (entries_row d)
-    → (text : List ℕ) × IsTextOf rule d text × (after ≡ before ++ text)
+    → (text : List ℕ) × IsTextOf (IsReport rule) d text × (after ≡ before ++ text)
 row_alone rule d before after unshut is =
     let row = text_of_row (entries_row d) in
-    let none : List ℕ = [] in
-    let P : Bool → Type 0 = λ t. MatchBool t ((x : CountedElectionView) × IsCountIn rule (closed_election d) x × (none ≡ report_of x.election x.counted)) (none ≡ none) in
-    (row, (none, sym (append-nil row), subst P (sym unshut) refl), is)
+    (row, none_follows (IsReport rule) d row unshut refl, is)
 
 -- what a desk comes to that a count of it refuses
 pub refused_desk : (d : DeskView) (rule : Rule) (order : List ℕ) (e : ElectionView) (fault : CountFault) → (standing_of d).is_shut ≡ true

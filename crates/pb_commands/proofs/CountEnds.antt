@@ -56,7 +56,7 @@ module _ (rule : Rule) (files : Option (List ℕ)) (journals : Option (Option (L
   count_fails e count.RaisesRange bytes journal refused leaves = let file = file_of bytes journal e leaves in (file.0, file.1, (e, leaves, refused (λ is. cc)))
   count_fails e count.RaisesSpent bytes journal refused leaves = let file = file_of bytes journal e leaves in (file.0, file.1, (e, leaves, refused (λ is. cc)))
 
-  count_bars : (e : ElectionView) (fault : CountFault) (bytes : List ℕ) (journal : Option (List ℕ)) → IsRefusal rule e fault → Leaves bytes journal e
+  pub count_bars : (e : ElectionView) (fault : CountFault) (bytes : List ℕ) (journal : Option (List ℕ)) → IsRefusal rule e fault → Leaves bytes journal e
       → (x : CountedElectionView) → Outcomes rule bytes journal x → IsOutsideFault (merged (Count fault))
   count_bars e fault bytes journal refused leaves x counts =
       let is_count = subst (λ (e : ElectionView). IsCountIn rule e x) (one_left bytes journal counts.0 e counts.1 leaves) counts.2 in

@@ -7,6 +7,8 @@ pub mod Endings
 pub mod InputEnds
 pub mod CountEnds
 pub mod RunEnds
+mod ExportEnds
+mod AuditEnds
 pub mod AuditAccepted
 mod ThreeVoters
 pub mod DeskRuns
@@ -29,3 +31,4 @@ mod Exports
 pub mod WhatIfRows
 pub mod TiesEnds
 pub mod BesideEnds
+pub mod DecidedEnds

@@ -10,8 +10,6 @@ use Rattle.pb_core.specs.Election.{ElectionView, ProjectView, VoterView}
 use Rattle.pb_core.specs.MoneyText.{money_text}
 use Rattle.pb_price.specs.Supporters.{support_of}
 use Rattle.pb_reasons.proofs.WinnerSums.{cost_at-known}
-use Rattle.pb_reasons.specs.BesideVotes.{elected_by_votes}
-use Rattle.pb_reasons.specs.Counted.{winners_of}
 use Rattle.pb_reasons.specs.CountedElection.{CountedElectionView, IsCountedElection}
 use Rattle.pb_reasons.specs.Fairness.{needed, spent}
 use Rattle.pb_reasons.specs.Reasons.{project_reason, voter_payments, voter_reason}
@@ -31,9 +29,8 @@ use Rattle.pb_commands.proofs.ReportSums.{id_at-known}
 use Rattle.pb_commands.proofs.RowsGrown.{none_grown, row_grown, rows_grown}
 use Rattle.pb_commands.proofs.PaymentsInFile.{payments_known, texts_in_file}
 use Rattle.pb_commands.specs.Inner.Beside.{beside_columns}
-use Rattle.pb_commands.specs.Inner.Tables.{all_columns, payments_in_file, payments_text, row_of}
-use Rattle.pb_commands.specs.Tables.{columns_of}
-use Rattle.pb_commands.specs.declared.table.Table.TheVariants.{Fairness, Projects, RuledProjects, Voters}
+use Rattle.pb_commands.specs.Inner.Tables.{all_columns, columns_of, payments_in_file, payments_text, row_of}
+use Rattle.pb_commands.specs.declared.table.Table.TheVariants.{Fairness, Projects, Voters}
 
 module _ {X : Type 0} (columns : List (Column X)) where
   -- the names of the columns
@@ -119,15 +116,6 @@ project_row_read x place p known is number cost votes number_is cost_is votes_is
     let row : field_text number ∷ id ∷ name ∷ field_text cost ∷ field_text votes ∷ more ≡ row_of (all_columns x) place =
     rw (number_is, cost_is, votes_is, id_is, name_is, more_is, ← id_at-known x.election place p known is, ← name_at-known x.election place p known is, ← cost_at-known x.election place p known is) refl in
     ap (take width) row ∙ ap (λ n. take n (row_of (all_columns x) place)) (width_is' ∙ sym (width_is x x.counted.fill_up refl)) ∙ row_taken_by x place x.counted.fill_up refl
-
--- the row of a project by both rules, as it is written
-pub ruled_row_read : (x : CountedElectionView) (place : ℕ) (p : ProjectView) → place < length x.election.projects → p ≡ get_or x.election.projects place p
-    → (number cost wins otherwise : Field) → number ≡ Number (slice_index x.order place) → cost ≡ Amount p.cost → wins ≡ Number (if is_taken (winners_of x.counted) place then 1 else 0)
-    → otherwise ≡ Number (if is_taken (elected_by_votes x.election) place then 1 else 0) → (id name : List ℕ) → id ≡ p.id → name ≡ p.name
-    → (votes : ℕ) → votes ≡ votes_at (support_of x.election) place
-    → field_text number ∷ id ∷ name ∷ field_text cost ∷ decimal votes ∷ field_text wins ∷ field_text otherwise ∷ [] ≡ row_of (columns_of RuledProjects x) place
-ruled_row_read x place p known is number cost wins otherwise number_is cost_is wins_is otherwise_is id name id_is name_is votes votes_is =
-    rw (number_is, cost_is, wins_is, otherwise_is, id_is, name_is, votes_is, ← id_at-known x.election place p known is, ← name_at-known x.election place p known is, ← cost_at-known x.election place p known is) refl
 
 -- the row of a project by two rules, as it is written
 pub beside_row_read : (e : ElectionView) (rule other : Rule) (winners others : List ℕ) (place : ℕ) (p : ProjectView) → place < length e.projects → p ≡ get_or e.projects place p

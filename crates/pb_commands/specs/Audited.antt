@@ -1,5 +1,6 @@
 -- What a run of `audit` writes.
 use Rattle.std.specs.Prelude.{◌≡◌, ℕ, ◌++◌, MatchBool, List, [], Some, true}
+use Rattle.pb_core.specs.Election.{ElectionView}
 use Rattle.pb_desk.specs.Audit.{IsAudited}
 use Rattle.pb_desk.specs.Desk.{DeskView, closed_election, standing_of}
 use Rattle.pb_read.specs.StandsFor.{StandsFor}
@@ -19,14 +20,17 @@ pub record IsDeskOf (bytes journal : List ℕ) (d : DeskView) : Type 0 where
   pub stands : StandsFor (records_of bytes) d.opening.election
   pub audited : IsAudited d.opening.election program_room (Some journal) d
 
--- what is written of a desk: its row, and then, where it is shut, the report of the ballots that its journal
--- leaves
-abbrev pub IsTextOf : Rule → DeskView → List ℕ → Type 0
-IsTextOf rule d text = (report : List ℕ) × (text ≡ text_of_row (entries_row d) ++ report)
-    × MatchBool (standing_of d).is_shut
-    ((x : CountedElectionView) × IsCountIn rule (closed_election d) x × (report ≡ report_of x.election x.counted)) (report ≡ [])
+-- the report of a count of the election by this rule
+abbrev pub IsReport : Rule → ElectionView → List ℕ → Type 0
+IsReport rule e report = (x : CountedElectionView) × IsCountIn rule e x × (report ≡ report_of x.election x.counted)
 
--- what these bytes make a run of `audit` write: of a shut desk, where one is demanded
-abbrev pub AuditWrites : Demand → Rule → List ℕ → List ℕ → List ℕ → Type 0
-AuditWrites demand rule bytes journal text = (d : DeskView) × IsDeskOf bytes journal d
-    × ((demand ≡ Shut → (standing_of d).is_shut ≡ true) × IsTextOf rule d text)
+-- what is written of a desk: its row, and then, where it is shut, such a report of the ballots that its journal
+-- leaves
+abbrev pub IsTextOf : (ElectionView → List ℕ → Type 0) → DeskView → List ℕ → Type 0
+IsTextOf IsSuch d text = (report : List ℕ) × (text ≡ text_of_row (entries_row d) ++ report)
+    × MatchBool (standing_of d).is_shut (IsSuch (closed_election d) report) (report ≡ [])
+
+-- what these bytes make a run of `audit` write, with such a report: of a shut desk, where one is demanded
+abbrev pub AuditWrites : Demand → (ElectionView → List ℕ → Type 0) → List ℕ → List ℕ → List ℕ → Type 0
+AuditWrites demand IsSuch bytes journal text = (d : DeskView) × IsDeskOf bytes journal d
+    × ((demand ≡ Shut → (standing_of d).is_shut ≡ true) × IsTextOf IsSuch d text)

@@ -11,7 +11,7 @@ use Rattle.pb_rounds.specs.MostVotes.{is_taken}
 use Rattle.pb_rounds.specs.RuleNames.{profile_name}
 use Rattle.pb_rounds.specs.declared.rule.Rule.{Rule}
 use Rattle.pb_rows.specs.Tables.{table_text}
-use Rattle.pb_commands.specs.Closed.{CountRefuses}
+use Rattle.pb_commands.specs.Closed.{CountRefuses, Gives}
 use Rattle.pb_commands.specs.Tables.{project_head, rule_columns}
 use Rattle.pb_faults.specs.declared.fault.AppFault.{AppFault}
 
@@ -42,6 +42,7 @@ abbrev pub IsBeside : (by_project : Bool) → (rule other : Rule) → ElectionVi
 IsBeside by_project rule other e text = (winners others : List ℕ) × AreWinners rule e winners × AreWinners other e others
     × (text ≡ beside_text by_project e rule other winners others)
 
--- what refuses it: what refuses one of both counts
+-- what refuses it: what refuses the count by the rule; or, where there is such a count, what refuses the other one
 abbrev pub BesideRefuses : (rule other : Rule) → List ℕ → Option (List ℕ) → ElectionView → AppFault → Type 0
-BesideRefuses rule other bytes journal e fault = CountRefuses rule bytes journal e fault ⊎ CountRefuses other bytes journal e fault
+BesideRefuses rule other bytes journal e fault = CountRefuses rule bytes journal e fault
+    ⊎ ((x : CountedElectionView) × Gives (IsCountIn rule) bytes journal x × CountRefuses other bytes journal e fault)

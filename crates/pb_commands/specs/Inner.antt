@@ -5,7 +5,6 @@ pub mod Audited
 pub mod Ballots
 pub mod Beside
 pub mod Checked
-pub mod Counted
 pub mod DeskRun
 pub mod Exporting
 pub mod History

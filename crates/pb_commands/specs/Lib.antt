@@ -5,6 +5,7 @@ pub mod Ends
 pub mod Audited
 pub mod Ballots
 pub mod Beside
+pub mod Decided
 pub mod DeskRun
 pub mod Checked
 pub mod Closed

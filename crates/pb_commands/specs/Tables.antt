@@ -1,13 +1,10 @@
--- What is written of a count: its report, or a table by its columns, of projects, of voters, of how fair it
--- is, or beside most votes first.
+-- What is written of a count: its report, or a table by its columns, of projects, of voters, or of how fair it is.
 use Rattle.std.specs.Prelude.{◌≡◌, ℕ, List, [], ◌∷◌, ◌++◌, codes, decimal, if◌then◌else◌, length, map}
 use Rattle.std.specs.Prelude.{◌==◌, filter, flat_map, slice_index, slice_index_or}
 use Rattle.std.specs.List.{enumerate_from, join_with_byte, range_with_len}
 use Rattle.pb_core.specs.Election.{ElectionView, project_ids, voter_ids}
 use Rattle.pb_core.specs.MoneyText.{money_text}
 use Rattle.pb_price.specs.Supporters.{cost_at, support_of}
-use Rattle.pb_reasons.specs.BesideVotes.{beside_votes, elected_by_votes}
-use Rattle.pb_reasons.specs.Counted.{winners_of}
 use Rattle.pb_reasons.specs.CountedElection.{CountedElectionView, IsCountIn, IsCountedElection, in_file}
 use Rattle.pb_reasons.specs.Fairness.{losers, needed, spent}
 use Rattle.pb_reasons.specs.Reasons.{project_reason, voter_payments, voter_reason}
@@ -22,8 +19,7 @@ use Rattle.pb_rows.specs.Reading.{Fields}
 use Rattle.pb_rows.specs.Tables.{Column, table_text}
 use Rattle.pb_commands.specs.Report.{report_of}
 use Rattle.pb_commands.specs.declared.table.Table.{Table}
-use Rattle.pb_commands.specs.declared.table.Table.TheVariants.{Fairness, Projects, Report, RuledProjects, Rules}
-use Rattle.pb_commands.specs.declared.table.Table.TheVariants.{Voters}
+use Rattle.pb_commands.specs.declared.table.Table.TheVariants.{Fairness, Projects, Report, Voters}
 
 -- the columns that begin each table of projects, each by its place in the election; what is written is that in the file
 abbrev pub project_head : ElectionView → (ℕ → ℕ) → List (Column ℕ)
@@ -47,46 +43,35 @@ rule_columns = (codes "rule", λ r. r.0) ∷ (codes "projects", λ r. decimal r.
     ∷ (codes "worth", λ r. money_text r.1.worth) ∷ (codes "more_choices", λ r. decimal r.1.more_choices)
     ∷ (codes "more_worth", λ r. decimal r.1.more_worth) ∷ []
 
--- The columns of a table whose rows are places. Of projects: behind the first are those of endings; the number of
--- an added project stands where an outcome is filled up. Of voters: payments, in the order of the file, are each
--- a place in it, `:` and an amount, with `,` between. Of projects by rule: at the end 1 or 0 for each rule, as the
--- project is among its winners or not. Of fairness: the places are those of projects that lost.
-abbrev pub columns_of : Table → CountedElectionView → List (Column ℕ)
-columns_of Projects x = project_head x.election (slice_index x.order)
+-- The columns of a table whose rows are places, and these places, in the order of the file. Of projects: behind the
+-- first columns are those of endings; the number of an added project stands where an outcome is filled up. Of voters:
+-- payments, in the order of the file, are each a place in it, `:` and an amount, with `,` between. Of fairness: the
+-- places are those of projects that lost.
+abbrev pub table_by : Table → CountedElectionView → List (Column ℕ) × List ℕ
+table_by Report x = ([], [])
+table_by Projects x = let columns : List (Column ℕ) = project_head x.election (slice_index x.order)
     ++ map (λ (k : ℕ × List ℕ). (k.1, λ (place : ℕ). slice_index_or (fields_of (project_reason x.election x.counted place).ending) k.0 []))
     (enumerate_from 0 (codes "round" ∷ codes "price" ∷ codes "collected" ∷ codes "in_full" ∷ codes "left"
-    ∷ codes "missing" ∷ (if fills_up x.counted.fill_up then codes "added" ∷ [] else [])))
-columns_of Voters x = let told = voter_reason x.election x.counted in
+    ∷ codes "missing" ∷ (if fills_up x.counted.fill_up then codes "added" ∷ [] else []))) in (columns, in_file x)
+table_by Voters x = let told = voter_reason x.election x.counted in
     let payment = λ (p : Payment). decimal (slice_index x.order p.place) ++ (codes ":" ++ money_text p.amount) in
     let paid = λ (v : ℕ). flat_map (λ place. filter (λ (p : Payment). p.place == place) (voter_payments x.election x.counted.outcome v)) (in_file x) in
-    (codes "voter_id", λ v. slice_index_or (voter_ids x.election) v []) ∷ (codes "votes", λ v. decimal (told v).votes)
+    let columns : List (Column ℕ) = (codes "voter_id", λ v. slice_index_or (voter_ids x.election) v []) ∷ (codes "votes", λ v. decimal (told v).votes)
     ∷ (codes "elected", λ v. decimal (told v).elected) ∷ (codes "paid", λ v. money_text (told v).paid)
     ∷ (codes "left", λ v. money_text (told v).left)
-    ∷ (codes "payments", λ v. join_with_byte 44 (map payment (paid v))) ∷ []
-columns_of RuledProjects x = project_head x.election (slice_index x.order)
-    ++ (codes "equal_shares", λ place. decimal (if is_taken (winners_of x.counted) place then 1 else 0))
-    ∷ (codes "most_votes", λ place. decimal (if is_taken (elected_by_votes x.election) place then 1 else 0)) ∷ []
-columns_of Fairness x = let s = support_of x.election in
-    (codes "project_id", λ place. slice_index_or (project_ids x.election) place [])
+    ∷ (codes "payments", λ v. join_with_byte 44 (map payment (paid v))) ∷ [] in (columns, range_with_len 0 (length x.election.voters))
+table_by Fairness x = let s = support_of x.election in
+    let columns : List (Column ℕ) = (codes "project_id", λ place. slice_index_or (project_ids x.election) place [])
     ∷ (codes "votes", λ place. decimal (votes_at s place))
     ∷ (codes "share", λ place. money_text x.counted.outcome.share)
     ∷ (codes "needed", λ place. money_text (needed s place))
     ∷ (codes "spent", λ place. money_text (spent x.rule.options.measure s x.counted.outcome place)) ∷ []
-columns_of table x = []
+    in (columns, filter (is_taken (losers x.election x.counted)) (in_file x))
 
--- these places, in the order of the file
-abbrev pub places_of : Table → CountedElectionView → List ℕ
-places_of Voters x = range_with_len 0 (length x.election.voters)
-places_of Fairness x = filter (is_taken (losers x.election x.counted)) (in_file x)
-places_of table x = in_file x
-
--- a report or a table of a count, as text; of rules the count's comes before the other
+-- a report or a table of a count, as text
 unfoldable pub table_of : Table → CountedElectionView → List ℕ
 table_of Report x = report_of x.election x.counted
-table_of Rules x =
-    let beside = beside_votes x.election x.counted in
-    table_text rule_columns ((codes "equal shares", beside.own) ∷ (codes "most votes", beside.other) ∷ [])
-table_of table x = table_text (columns_of table x) (places_of table x)
+table_of table x = let t = table_by table x in table_text t.0 t.1
 
 -- the text is this report or table of what a count of the election by this rule comes to
 abbrev pub IsTableOf : Table → Rule → ElectionView → List ℕ → Type 0

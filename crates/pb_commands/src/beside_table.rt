@@ -1,10 +1,10 @@
 //! The tables of two rules: what the winners by each are to the ballots, and which projects these are.
 
-ghost use Rattle.std.specs.Prelude.{◌≡◌, ◌++◌, IfOk, OnOk, false, string_bytes, true};
+ghost use Rattle.std.specs.Prelude.{◌≡◌, ◌++◌, IfOk, OnOk, false, if◌then◌else◌, string_bytes, true};
+ghost use Rattle.pb_rows.specs.declared.field.Field.TheVariants.{Number};
 ghost use Rattle.pb_commands.specs.Beside.{beside_text, called};
 
 use crate::report::whole;
-use crate::ruled_projects_table::flag;
 use crate::rules_table::{put_columns, put_rule};
 use pb_core::election::Election;
 use pb_core::no_memory::NoMemory;
@@ -119,6 +119,13 @@ fn put_by_project(
         rows.put_fields(&fields)?;
     }
     Ok(())
+}
+
+/// The field of a flag: 1 or 0.
+pub(crate) fn flag(is_set: bool) -> Field<'static>
+    ensures { result ≡ Number (if is_set then 1 else 0) }
+{
+    Field::number(u32::from(is_set))
 }
 
 /// What a rule is called beside another: by its method, or, where that is the other's too, by its name.

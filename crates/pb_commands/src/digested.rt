@@ -4,13 +4,12 @@ ghost use Rattle.std.specs.Prelude.{◌≡◌, ◌++◌, ◌∷◌, ◌⊎◌, �
 ghost use Rattle.std.specs.Io.KnownBytes.{Appends};
 ghost use Rattle.std.specs.Option.{option_map_or};
 ghost use Rattle.pb_faults.specs.declared.fault.AppFault.TheVariants.{Memory, Write};
-ghost use Rattle.pb_rounds.specs.RuleNames.{profile_name};
+ghost use Rattle.pb_commands.specs.Decided.{names_of};
 ghost use Rattle.pb_rows.specs.Writing.{text_of_row};
 
-use crate::report::put_row;
+use crate::decided_name::{CountedBy, put_names};
 use pb_core::no_memory::NoMemory;
 use pb_faults::{AppFault, write_out};
-use pb_rounds::rule::Rule;
 use pb_rows::RowsWriter;
 use std::alloc::Global;
 use std::io::Write;
@@ -27,7 +26,7 @@ pub struct Digests<'a> {
 pub fn write_digested<W: Write>(
     alloc: Global,
     digests: &Digests<'_>,
-    counted_by: Option<&Rule>,
+    counted_by: Option<&CountedBy>,
     report: &[u8],
     writer: &mut W,
 ) -> Result<(), AppFault>
@@ -36,7 +35,8 @@ pub fn write_digested<W: Write>(
         ++ (option_map_or (λ journal.
         text_of_row (codes "digest" ∷ codes "journal" ∷ codes "sha256" ∷ journal.now ∷ []))
         digests.now.journal []
-        ++ (option_map_or (λ rule. text_of_row (codes "rule" ∷ profile_name rule.now ∷ [])) counted_by.entry []
+        ++ (option_map_or (λ by.
+        text_of_row (codes "rule" ∷ names_of by.now.rule.now by.now.decide)) counted_by.entry []
         ++ report.now)) in
         OnOk result (Appends (W.contents writer.old) (W.contents writer.new) text)
         × IfErr result (λ fault. fault ≡ Write → (n : ℕ)
@@ -51,7 +51,7 @@ pub fn write_digested<W: Write>(
 fn digested_text(
     alloc: Global,
     digests: &Digests<'_>,
-    counted_by: Option<&Rule>,
+    counted_by: Option<&CountedBy>,
     report: &[u8],
 ) -> Result<Vec<u8>, NoMemory>
     ensures { IfOk result (λ text. text.items
@@ -59,7 +59,8 @@ fn digested_text(
         ++ (option_map_or (λ journal.
         text_of_row (codes "digest" ∷ codes "journal" ∷ codes "sha256" ∷ journal.now ∷ []))
         digests.now.journal []
-        ++ (option_map_or (λ rule. text_of_row (codes "rule" ∷ profile_name rule.now ∷ [])) counted_by.entry []
+        ++ (option_map_or (λ by.
+        text_of_row (codes "rule" ∷ names_of by.now.rule.now by.now.decide)) counted_by.entry []
         ++ report.now))) }
 {
     let mut rows = RowsWriter::start(alloc);
@@ -73,28 +74,18 @@ fn digested_text(
     Ok(text)
 }
 
-/// Puts a row with the name of this rule, if there is one.
+/// Puts a row that names this rule, if there is one.
 fn put_counted_by(
     alloc: Global,
     rows: &mut RowsWriter,
-    counted_by: Option<&Rule>,
+    counted_by: Option<&CountedBy>,
 ) -> Result<(), NoMemory>
     ensures { OnOk result (rows.new.text ≡ rows.old.text
-        ++ (option_map_or (λ rule. text_of_row (codes "rule" ∷ profile_name rule.now ∷ [])) counted_by.entry [])) }
+        ++ (option_map_or (λ by.
+        text_of_row (codes "rule" ∷ names_of by.now.rule.now by.now.decide)) counted_by.entry [])) }
 {
     match counted_by {
-        Some(rule) => put_name(alloc, rows, rule),
+        Some(by) => put_names(alloc, rows, by),
         None => Ok(()),
     }
-}
-
-/// Puts a row with the name of this rule.
-fn put_name(alloc: Global, rows: &mut RowsWriter, rule: &Rule) -> Result<(), NoMemory>
-    ensures { OnOk result (rows.new.text
-        ≡ rows.old.text ++ text_of_row (codes "rule" ∷ profile_name rule.now ∷ [])) }
-{
-    let name = rule.profile(alloc)?;
-    let put = put_row(rows, &["rule", name.as_str()]);
-    drop(name);
-    put
 }

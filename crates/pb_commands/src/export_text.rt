@@ -20,14 +20,17 @@ use pb_reasons::CountedElection;
 use pb_rounds::rule::Rule;
 use std::alloc::Global;
 
-/// The file of an election that was counted, with what was kept of the file that was read.
+/// The file of an election that was counted, with what was kept of the file that was read, and these words of how
+/// it was decided.
 pub(crate) fn export_text(
     alloc: Global,
     count: CountedElection,
     carried: &Carried,
+    decided: &str,
 ) -> Result<Vec<u8>, AppFault>
     ensures ok { (e : ElectionView) → IsElection e → IsSortedFor count.rule.ties e count.order count.election
-        → IfOk result (λ text. IsExportOf count.rule carried.now.further e text.items) }
+        → IfOk result (λ text. IsExportOf count.rule
+        (rule_text count.rule ++ own_comment decided.now) carried.now.further e text.items) }
     ensures fault { (e : ElectionView) → IsElection e → IsSortedFor count.rule.ties e count.order count.election
         → IfErr result (IsStopped e) }
     ensures merged { IfErr result (λ fault. merged fault ≡ fault) }
@@ -36,7 +39,7 @@ pub(crate) fn export_text(
     // What is true of every count is so of this one.
     let _election = count.election();
     let rule = count.rule();
-    let comment = comment_text(alloc, &rule, further.comment())?;
+    let comment = comment_text(alloc, &rule, decided, further.comment())?;
     let votes = votes_of(alloc, &count)?;
     let selected = selected_of(alloc, &count)?;
     let election = count.into_file(alloc)?;
@@ -76,16 +79,18 @@ fn selected_of(alloc: Global, count: &CountedElection) -> Result<Vec<bool>, NoMe
     Ok(selected)
 }
 
-/// The rule of a count, in words, and after it the comment that the file had.
-fn comment_text(alloc: Global, rule: &Rule, own: &str) -> Result<String, NoMemory>
-    ensures { IfOk result (λ text. string_bytes text ≡ rule_text rule.now ++ own_comment own.now) }
+/// The rule of a count, in words, and after it how it was decided, and the comment that the file had.
+fn comment_text(alloc: Global, rule: &Rule, decided: &str, own: &str) -> Result<String, NoMemory>
+    ensures { IfOk result (λ text. string_bytes text
+        ≡ (rule_text rule.now ++ own_comment decided.now) ++ own_comment own.now) }
 {
     let mut text = rule.text(alloc)?;
+    put_own(&mut text, decided)?;
     put_own(&mut text, own)?;
     Ok(text)
 }
 
-/// Puts the comment that the file had after a text.
+/// Puts a comment after a text, if there is one.
 fn put_own(text: &mut String, own: &str) -> Result<(), NoMemory>
     ensures { OnOk result (string_bytes text.new ≡ string_bytes text.old ++ own_comment own.now) }
 {

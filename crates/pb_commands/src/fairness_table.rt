@@ -6,9 +6,9 @@ ghost use Rattle.pb_reasons.specs.Counted.{winners_of};
 ghost use Rattle.pb_reasons.specs.Fairness.{spent};
 ghost use Rattle.pb_rounds.specs.MostVotes.{is_taken, votes_at};
 ghost use Rattle.pb_rows.specs.Writing.{text_of_row};
-ghost use Rattle.pb_commands.specs.Tables.{columns_of, table_of};
+ghost use Rattle.pb_commands.specs.Tables.{table_of};
 ghost use Rattle.pb_commands.specs.declared.table.Table.TheVariants.{Fairness};
-ghost use Rattle.pb_commands.specs.Inner.Tables.{row_of};
+ghost use Rattle.pb_commands.specs.Inner.Tables.{columns_of, row_of};
 
 use pb_core::no_memory::NoMemory;
 use pb_reasons::{CountedElection, most_spent, needed};

@@ -113,7 +113,7 @@ fn left_election<P: Read + Drop, J: Read + Drop, H: Heed>(
 }
 
 /// The election whose ballots a shut desk leaves.
-fn left_by(desk: Desk) -> Result<Election, AppFault>
+pub(crate) fn left_by(desk: Desk) -> Result<Election, AppFault>
     requires { (standing_of desk).is_shut ≡ true }
     ensures ok { IfOk result (λ e. e ≡ closed_election desk) }
     ensures fault { IfErr result (λ fault. fault ≡ AppFault.Memory) }

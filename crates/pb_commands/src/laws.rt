@@ -1,7 +1,7 @@
 //! Laws of the definitions.
 
 ghost use Rattle.std.specs.Prelude.{◌≡◌, ◌≢◌, ◌↔◌, ◌⊎◌, ◌<◌, ◌==◌, ◌+◌, ◌++◌, ℕ, All, Bool, Contains, List};
-ghost use Rattle.std.specs.Prelude.{[], ◌∷◌, None, Option, Some, filter, length, map, true};
+ghost use Rattle.std.specs.Prelude.{[], ◌∷◌, None, Option, Some, false, filter, length, map, true};
 ghost use Rattle.std.specs.Bool.{MatchBool};
 ghost use Rattle.pb_core.specs.Election.{IsElection};
 ghost use Rattle.pb_core.specs.Request.{EntryView, Cast, Replace, Shut};
@@ -10,16 +10,21 @@ ghost use Rattle.pb_desk.specs.Desk.{DeskView, closed_election, standing_of};
 ghost use Rattle.pb_desk.specs.Opening.{OpeningView};
 ghost use Rattle.pb_desk.specs.Replay.{IsLegal, replay};
 ghost use Rattle.pb_desk.specs.Rows.{journal_text, ScriptRowView};
-ghost use Rattle.pb_desk.specs.Step.{voter_of};
-ghost use Rattle.pb_read.specs.StandsFor.{StandsFor};
+ghost use Rattle.pb_desk.specs.Step.{step, voter_of};
+ghost use Rattle.pb_read.specs.StandsFor.{StandsFor, most_records};
 ghost use Rattle.pb_rows.specs.Reading.{records_of};
 ghost use Rattle.pb_rows.specs.Writing.{text_of_row};
 ghost use Rattle.pb_reasons.specs.CountedElection.{CountedElectionView, IsCountIn};
 ghost use Rattle.pb_rounds.specs.declared.rule.Rule.{Rule};
+ghost use Rattle.pb_script.specs.ScriptFault.{at_row};
+ghost use Rattle.pb_script.specs.ScriptReading.{fault_of_row};
 ghost use Rattle.pb_script.specs.Scripts.{IsScript};
 ghost use Rattle.pb_script.specs.Serving.{program_room};
+ghost use Rattle.pb_script.specs.declared.admission.RowRefusal.{RowRefusal};
+ghost use Rattle.pb_script.specs.declared.script_fault.ScriptFault.TheVariants.{NoMemory, ReadFailed};
+ghost use Rattle.pb_script.specs.declared.script_fault.ScriptFault.TheVariants.{TooManyRows};
 ghost use Rattle.pb_faults.specs.DeskRow.{entries_row};
-ghost use Rattle.pb_commands.specs.Audited.{AuditWrites, IsDeskOf, IsTextOf};
+ghost use Rattle.pb_commands.specs.Audited.{AuditWrites, IsDeskOf, IsReport, IsTextOf};
 ghost use Rattle.pb_commands.specs.Ballots.{last_given};
 ghost use Rattle.pb_commands.specs.Closed.{Gives};
 ghost use Rattle.pb_commands.specs.declared.demand.Demand.{Demand};
@@ -39,7 +44,8 @@ pub fn one_report()
         → Gives (IsTableOf Report rule) bytes None first → Gives (IsTableOf Report rule) bytes None second
         → first ≡ second }
     ensures audited { (demand : Demand) (rule : Rule) (bytes journal first second : List ℕ)
-        → AuditWrites demand rule bytes journal first → AuditWrites demand rule bytes journal second
+        → AuditWrites demand (IsReport rule) bytes journal first
+        → AuditWrites demand (IsReport rule) bytes journal second
         → first ≡ second }
     ensures ballots { (table : DeskView → List ℕ) (bytes journal first second : List ℕ)
         → ((d : DeskView) × IsDeskOf bytes journal d × (first ≡ table d))
@@ -57,7 +63,8 @@ pub fn journals_recount()
         → d.room ≡ program_room → IsSound d.opening d.room d.journal
         → IsDeskOf bytes (journal_text d.opening.version d.journal) d }
     ensures recounted { (bytes journal : List ℕ) (d : DeskView) (rule : Rule) (text : List ℕ)
-        → IsDeskOf bytes journal d → AuditWrites Any rule bytes journal text ↔ IsTextOf rule d text }
+        → IsDeskOf bytes journal d
+        → AuditWrites Any (IsReport rule) bytes journal text ↔ IsTextOf (IsReport rule) d text }
 
     // What `desk` wrote is a desk's: each clerk's entries ask what its rows in the script do, in their order,
     // and no other entries stand there, but where the run shuts the desk one last entry by clerk 0, which
@@ -76,7 +83,7 @@ pub fn journals_recount()
         (d.journal ≡ served) }
     ensures winners { (d : DeskView) (rule : Rule) (x : CountedElectionView)
         → (standing_of d).is_shut ≡ true → IsCountIn rule (closed_election d) x
-        → IsTextOf rule d (text_of_row (entries_row d) ++ report_of x.election x.counted) }
+        → IsTextOf (IsReport rule) d (text_of_row (entries_row d) ++ report_of x.election x.counted) }
 {}
 
 /// What the number in a row of the table of ballots says. Of each ballot that a legal journal leaves on the
@@ -96,4 +103,22 @@ pub fn ballots_name_their_entries()
         → last_given voter journal ≡ None
         → Contains o.election.voters (record { id = voter; ballot = ballot })
         × All (λ y. y.answer ≡ Answer.Done → y.request ≢ Shut → voter_of y.request ≢ voter) journal }
+{}
+
+/// The row that a script's fault names: the row which is refused; the next one, where the reader fails; the first
+/// beyond the most that a script has; and 0, which is no row, where memory runs out.
+pub fn rows_of_script_faults_are_their_words()
+    ensures refused { (why : RowRefusal) (row : ℕ) → at_row (fault_of_row why row) ≡ row }
+    ensures failed { (row : ℕ) → at_row (ReadFailed row) ≡ row }
+    ensures too_many { at_row TooManyRows ≡ most_records + 1 }
+    ensures memory { at_row NoMemory ≡ 0 }
+{}
+
+/// What a journal replays to: before any entry a desk is open, with the ballots of the election's voters, and each
+/// entry more is one step.
+pub fn replay_is_its_steps()
+    ensures none { (o : OpeningView) → replay o []
+        ≡ record { ballots = map (λ v. (v.id, v.ballot)) o.election.voters; is_shut = false } }
+    ensures one_more { (o : OpeningView) (journal : List EntryView) (x : EntryView)
+        → replay o (journal ++ x ∷ []) ≡ step o (replay o journal) x.request }
 {}

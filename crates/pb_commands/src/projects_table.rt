@@ -5,9 +5,9 @@ ghost use Rattle.pb_reasons.specs.CountedElection.{CountedElectionView};
 ghost use Rattle.pb_reasons.specs.Reasons.{project_reason};
 ghost use Rattle.pb_rows.specs.Tables.{field_text};
 ghost use Rattle.pb_rows.specs.Writing.{text_of_row};
-ghost use Rattle.pb_commands.specs.Tables.{columns_of, table_of};
+ghost use Rattle.pb_commands.specs.Tables.{table_of};
 ghost use Rattle.pb_commands.specs.declared.table.Table.TheVariants.{Projects};
-ghost use Rattle.pb_commands.specs.Inner.Tables.{all_columns, row_of};
+ghost use Rattle.pb_commands.specs.Inner.Tables.{all_columns, columns_of, row_of};
 
 use pb_core::no_memory::NoMemory;
 use pb_reasons::{CountedElection, Ending};

@@ -1,30 +1,14 @@
-//! The table of rules: what a count elects beside what most votes first elects.
+//! The rows of the table of rules.
 
 ghost use Rattle.std.specs.Prelude.{◌≡◌, ◌++◌, [], OnOk};
 ghost use Rattle.pb_rows.specs.Tables.{table_text};
 ghost use Rattle.pb_rows.specs.Writing.{text_of_row};
-ghost use Rattle.pb_commands.specs.Tables.{rule_columns, table_of};
+ghost use Rattle.pb_commands.specs.Tables.{rule_columns};
 ghost use Rattle.pb_commands.specs.Inner.Tables.{row_of};
-ghost use Rattle.pb_commands.specs.declared.table.Table.TheVariants.{Rules};
 
 use pb_core::no_memory::NoMemory;
-use pb_reasons::{CountedElection, RuleRow, compare_with_votes};
+use pb_reasons::RuleRow;
 use pb_rows::{Field, RowsWriter};
-use std::alloc::Global;
-
-/// Writes the columns, and a row for each rule: equal shares, as this count has it, and most votes first.
-pub(crate) fn put_rules(
-    rows: &mut RowsWriter,
-    alloc: Global,
-    count: &CountedElection,
-) -> Result<(), NoMemory>
-    ensures { OnOk result (rows.new.text ≡ rows.old.text ++ table_of Rules count.now) }
-{
-    let rules = compare_with_votes(alloc, count)?;
-    put_columns(rows)?;
-    put_rule(rows, "equal shares", rules.own)?;
-    put_rule(rows, "most votes", rules.other)
-}
 
 /// Writes the columns of rules.
 pub(crate) fn put_columns(rows: &mut RowsWriter) -> Result<(), NoMemory>

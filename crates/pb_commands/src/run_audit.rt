@@ -9,7 +9,7 @@ ghost use Rattle.pb_rounds.specs.declared.count_fault.CountFault.TheVariants as 
 ghost use Rattle.pb_rounds.specs.TieOrder.{by_file};
 ghost use Rattle.pb_rounds.specs.declared.rule.FillUp.TheVariants.{Nothing};
 ghost use Rattle.pb_script.specs.EntryCounts.{counts_of};
-ghost use Rattle.pb_commands.specs.Audited.{AuditWrites, IsDeskOf, IsTextOf};
+ghost use Rattle.pb_commands.specs.Audited.{AuditWrites, IsDeskOf, IsReport, IsTextOf};
 ghost use Rattle.pb_commands.specs.Closed.{CountRefuses};
 ghost use Rattle.pb_commands.specs.declared.demand.Demand.TheVariants.{Any, Shut};
 ghost use Rattle.pb_commands.specs.Ends.{IfBothKnown, Runs};
@@ -62,7 +62,7 @@ pub fn run_audit<T: Threads + Sync, P: Read + Drop, J: Read + Drop, W: Write>(
     writer: &mut W,
     options: &CountOptions,
 ) -> Result<(), AppFault>
-    ensures runs { Runs (AuditWrites Any (record { options = options.now; fill_up = Nothing; ties = by_file }))
+    ensures runs { Runs (AuditWrites Any (IsReport (record { options = options.now; fill_up = Nothing; ties = by_file })))
         (λ bytes rows. CountRefuses (record { options = options.now; fill_up = Nothing; ties = by_file }) bytes (Some rows)) (P.remaining file) (J.remaining journal)
         None W.contents writer.old writer.new result }
 
@@ -106,7 +106,7 @@ pub fn run_audit_watched<
     watch: &mut H,
     writer: &mut W,
 ) -> Result<(), AppFault>
-    ensures runs { Runs (AuditWrites inputs.demand counting.now.rule.now)
+    ensures runs { Runs (AuditWrites inputs.demand (IsReport counting.now.rule.now))
         (λ bytes rows. CountRefuses counting.now.rule.now bytes (Some rows))
         (P.remaining inputs.file) (J.remaining inputs.journal) (H.refused_for watch.new)
         W.contents writer.old writer.new result }
@@ -137,7 +137,7 @@ pub fn run_audit_watched<
 }
 
 /// Whether a desk is open, and a shut one is demanded.
-fn is_refused(desk: &Desk, demand: Demand) -> bool
+pub(crate) fn is_refused(desk: &Desk, demand: Demand) -> bool
     ensures refused { result ≡ true → (demand ≡ Shut) × ((standing_of desk.now).is_shut ≡ false) }
     ensures passed { result ≡ false → demand ≡ Shut → (standing_of desk.now).is_shut ≡ true }
 {
@@ -152,7 +152,7 @@ fn desk_text<T: Threads + Sync, G: Gate>(
     counting: &Counting<T, G>,
     desk: Desk,
 ) -> Result<Vec<u8>, CountFault>
-    ensures ok { IfOk result (λ text. IsTextOf counting.now.rule.now desk text.items) }
+    ensures ok { IfOk result (λ text. IsTextOf (IsReport counting.now.rule.now) desk text.items) }
     ensures fault { IfErr result (IsRefusedDesk desk counting.now.rule.now) }
 {
     let mut rows = RowsWriter::start(counting.alloc);
@@ -172,7 +172,7 @@ fn put_desk<T: Threads + Sync, G: Gate>(
     desk: Desk,
 ) -> Result<(), CountFault>
     ensures ok { OnOk result ((text : List ℕ)
-        × IsTextOf counting.now.rule.now desk text × (rows.new.text ≡ rows.old.text ++ text)) }
+        × IsTextOf (IsReport counting.now.rule.now) desk text × (rows.new.text ≡ rows.old.text ++ text)) }
     ensures fault { IfErr result (IsRefusedDesk desk counting.now.rule.now) }
 {
     match put_entries(rows, &desk) {

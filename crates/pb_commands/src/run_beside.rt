@@ -1,10 +1,10 @@
 //! The run that compares two rules: it counts an election by both.
 
-ghost use Rattle.std.specs.Prelude.{◌≡◌, ◌⊎◌, IfErr, IfOk};
+ghost use Rattle.std.specs.Prelude.{◌≡◌, IfErr, IfOk};
 ghost use Rattle.pb_commands.specs.Beside.{BesideRefuses, IsBeside};
 ghost use Rattle.pb_commands.specs.Closed.{Gives};
 ghost use Rattle.pb_commands.specs.Ends.{Runs, known};
-ghost use Rattle.pb_commands.specs.Inner.Beside.{IsRefused};
+ghost use Rattle.pb_commands.specs.Inner.Beside.{IsRefusedBeside};
 
 use crate::beside_table::{Sides, text_of_sides};
 use crate::counting::{Counting, not_counted};
@@ -63,8 +63,7 @@ fn text_beside<T: Threads + Sync, G: Gate>(
 ) -> Result<Vec<u8>, CountFault>
     ensures ok { IfOk result (λ text.
         IsBeside beside.now.by_project counting.now.rule.now beside.now.rule election text.items) }
-    ensures fault { IfErr result (λ fault. IsRefused counting.now.rule.now election fault
-        ⊎ IsRefused beside.now.rule election fault) }
+    ensures fault { IfErr result (IsRefusedBeside counting.now.rule.now beside.now.rule election) }
 {
     let won = match won_by_both(counting, election, &beside.rule) {
         Ok(won) => won,

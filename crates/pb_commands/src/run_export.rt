@@ -2,10 +2,12 @@
 
 ghost use Rattle.std.specs.Prelude.{◌≡◌, List, IfErr, None, ℕ};
 ghost use Rattle.pb_export.specs.declared.further.Further.{Further};
-ghost use Rattle.pb_commands.specs.Closed.{Gives};
+ghost use Rattle.pb_commands.specs.Closed.{CountRefuses, Gives};
 ghost use Rattle.pb_commands.specs.Ends.{IfBothKnown, Runs, known};
 ghost use Rattle.pb_faults.specs.Fault.{told};
 ghost use Rattle.pb_commands.specs.Exported.{ExportRefuses, IsExportOf};
+ghost use Rattle.pb_reasons.specs.CountedElection.{IsCountIn};
+ghost use Rattle.pb_rounds.specs.RuleNames.{rule_text};
 
 use crate::counting::{Counting, count_inputs};
 use crate::export_text::export_text;
@@ -38,8 +40,8 @@ pub fn run_export<
     watch: &mut H,
     writer: &mut W,
 ) -> Result<(), AppFault>
-    ensures runs { Runs (Gives (IsExportOf counting.now.rule.now (H.keeps watch.new)))
-        (ExportRefuses counting.now.rule.now) (P.remaining inputs.file)
+    ensures runs { Runs (Gives (IsExportOf counting.now.rule.now (rule_text counting.now.rule.now) (H.keeps watch.new)))
+        (ExportRefuses (IsCountIn counting.now.rule.now) (CountRefuses counting.now.rule.now)) (P.remaining inputs.file)
         (known J.remaining inputs.journal)
         (H.refused_for watch.new) W.contents writer.old writer.new result }
 
@@ -48,14 +50,14 @@ pub fn run_export<
     ensures accepts { H.refused_for watch.new ≡ None → IfErr result (λ fault.
         IfBothKnown (P.remaining inputs.file) (known J.remaining inputs.journal) (λ bytes journal.
         (kept : Further) (text : List ℕ)
-        → Gives (IsExportOf counting.now.rule.now kept) bytes journal text
+        → Gives (IsExportOf counting.now.rule.now (rule_text counting.now.rule.now) kept) bytes journal text
         → (told fault).0 ≡ 3)) }
 {
     let count = match count_inputs(counting, inputs, watch) {
         Ok(count) => count,
         Err(fault) => return Err(fault),
     };
-    match export_text(counting.alloc, count, watch.carried()) {
+    match export_text(counting.alloc, count, watch.carried(), "") {
         Ok(text) => write_out(writer, text.as_slice(), AppFault::Write),
         Err(fault) => Err(fault),
     }

@@ -1,5 +1,5 @@
-//! Runs that write the report of a count, or a table: who won and why, who lost and by how much, who paid,
-//! how fair that is, and what another rule elects.
+//! Runs that write the report of a count, or a table: who won and why, who lost and by how much, who paid, and
+//! how fair that is.
 
 ghost use Rattle.std.specs.Prelude.{◌≡◌, ◌++◌, IfOk, OnOk};
 ghost use Rattle.pb_commands.specs.Closed.{CountRefuses, Gives};
@@ -11,8 +11,6 @@ use crate::fairness_table::put_fairness;
 use crate::inputs::Inputs;
 use crate::projects_table::put_projects;
 use crate::report::{put_report, whole};
-use crate::ruled_projects_table::put_ruled_projects;
-use crate::rules_table::put_rules;
 use crate::table::Table;
 use crate::voters_table::put_voters;
 use pb_core::gate::Gate;
@@ -54,7 +52,11 @@ pub fn run_table<T: Threads + Sync, P: Read + Drop, J: Read + Drop, G: Gate, H: 
 }
 
 /// This table of a count.
-fn table_text(alloc: Global, count: &CountedElection, table: Table) -> Result<Vec<u8>, NoMemory>
+pub(crate) fn table_text(
+    alloc: Global,
+    count: &CountedElection,
+    table: Table,
+) -> Result<Vec<u8>, NoMemory>
     ensures { IfOk result (λ text. text.items ≡ table_of table count.now) }
 {
     let mut rows = RowsWriter::start(alloc);
@@ -81,7 +83,5 @@ fn put_outcome(
         Table::Projects => put_projects(rows, count),
         Table::Voters => put_voters(rows, alloc, count),
         Table::Fairness => put_fairness(rows, alloc, count),
-        Table::Rules => put_rules(rows, alloc, count),
-        Table::RuledProjects => put_ruled_projects(rows, alloc, count),
     }
 }

@@ -11,8 +11,4 @@ pub enum Table {
     Voters,
     /// What a supporter of each project that lost had spent: a row for each of these.
     Fairness,
-    /// What the count elects beside what most votes first elects: a row for each of both rules.
-    Rules,
-    /// Whom each of both rules elects: a row for each project.
-    RuledProjects,
 }

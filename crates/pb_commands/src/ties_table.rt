@@ -12,10 +12,10 @@ ghost use Rattle.pb_commands.specs.AllTies.{IsTiesOf, tie_columns};
 ghost use Rattle.pb_commands.specs.Inner.AllTies.{AreUntold};
 ghost use Rattle.pb_commands.specs.Inner.Tables.{row_of};
 
+use crate::beside_table::flag;
 use crate::counting::Counting;
 use crate::losers_table::{id_at, ids_of};
 use crate::report::whole;
-use crate::ruled_projects_table::flag;
 use pb_core::gate::Gate;
 use pb_core::no_memory::NoMemory;
 use pb_faults::AppFault;

@@ -1,8 +1,8 @@
 //! Who wins an election by two rules.
 
-ghost use Rattle.std.specs.Prelude.{◌≡◌, ◌⊎◌, IfErr, IfOk};
+ghost use Rattle.std.specs.Prelude.{◌≡◌, IfErr, IfOk};
 ghost use Rattle.pb_commands.specs.Beside.{AreWinners};
-ghost use Rattle.pb_commands.specs.Inner.Beside.{IsRefused};
+ghost use Rattle.pb_commands.specs.Inner.Beside.{IsRefused, IsRefusedBeside};
 
 use crate::counting::{Counting, counted};
 use pb_core::election::Election;
@@ -31,6 +31,16 @@ pub(crate) struct WonByBoth {
     pub(crate) others: Vec<u32>,
 }
 
+impl WonByBoth {
+    /// The election.
+    pub(crate) fn into_election(self) -> Election
+        ensures { result ≡ self.election }
+    {
+        let WonByBoth { election, .. } = self;
+        election
+    }
+}
+
 /// Who wins an election by the rule, and by this other one. The count by the rule is refused first.
 pub(crate) fn won_by_both<T: Threads + Sync, G: Gate>(
     counting: &Counting<T, G>,
@@ -40,8 +50,7 @@ pub(crate) fn won_by_both<T: Threads + Sync, G: Gate>(
     ensures same { IfOk result (λ won. won.election ≡ election) }
     ensures winners { IfOk result (λ won. AreWinners counting.now.rule.now election won.winners.items) }
     ensures others { IfOk result (λ won. AreWinners other.now election won.others.items) }
-    ensures fault { IfErr result (λ fault. IsRefused counting.now.rule.now election fault
-        ⊎ IsRefused other.now election fault) }
+    ensures fault { IfErr result (IsRefusedBeside counting.now.rule.now other.now election) }
 {
     let own = match won_by(counting, election) {
         Ok(won) => won,

@@ -2,7 +2,7 @@
 
 use crate::prelude::*;
 use pb_rounds::count_fault::CountFault;
-use pb_rounds::options::{CountOptions, LARGEST_STEP};
+use pb_rounds::options::CountOptions;
 
 /// The most raises of a count whose ties are told.
 const MOST_OF_TIES: u32 = 999;
@@ -45,32 +45,6 @@ pub fn count_words(
     out.finish()
 }
 
-/// Words for counts of the .pb file with this path by two rules, with these options, of which one was refused; no path
-/// is standard input.
-pub fn either_count_words(
-    alloc: Global,
-    path: Option<&str>,
-    fault: CountFault,
-    options: &CountOptions,
-    other: &CountOptions,
-) -> Said {
-    match fault {
-        CountFault::RaisesSpent => {
-            let mut out = WordsWriter::new(alloc);
-            out.fill(
-                "{}: one of the two counts is not finished after {}, so there is no result. \
-                You can allow more raises with `--raises`, or name a rule with a larger step.\n",
-                &[Name(path), Count(u64::from(options.max_raises), "raise")],
-            );
-            out.finish()
-        }
-        CountFault::StepRange if options.step.0 >= 1 && options.step.0 <= LARGEST_STEP.0 => {
-            count_words(alloc, path, fault, other)
-        }
-        fault => count_words(alloc, path, fault, options),
-    }
-}
-
 /// Words for a count of the .pb file with this path whose ties are not told; no path is standard input.
 pub fn too_many_runs_words(alloc: Global, path: Option<&str>) -> Said {
     let mut out = WordsWriter::new(alloc);
@@ -100,7 +74,7 @@ pub fn spent_words(
 }
 
 /// Puts how many raises would decide.
-fn put_raises(out: &mut WordsWriter, deciding: Deciding) {
+pub(crate) fn put_raises(out: &mut WordsWriter, deciding: Deciding) {
     match deciding {
         Deciding::Least(raises) => out.fill(
             "You can allow more raises: `--raises {}` is enough, and any smaller number is not.\n",

@@ -12,6 +12,7 @@ pub mod belonging_words;
 mod case;
 mod command_words;
 pub mod count_words;
+pub mod either_words;
 pub mod export_words;
 mod faulty_record;
 mod file_words;

@@ -7,12 +7,17 @@ use Rattle.pb_reasons.specs.declared.payment.Payment.{Payment}
 use Rattle.pb_rounds.specs.declared.rule.FillUp.TheVariants.{MostVotes}
 use Rattle.pb_rows.specs.Reading.{Fields}
 use Rattle.pb_rows.specs.Tables.{Column}
-use Rattle.pb_commands.specs.Tables.{columns_of}
+use Rattle.pb_commands.specs.Tables.{table_by}
+use Rattle.pb_commands.specs.declared.table.Table.{Table}
 use Rattle.pb_commands.specs.declared.table.Table.TheVariants.{Projects}
 
 -- the row of one
 abbrev pub row_of : {X : Type 0} → List (Column X) → X → Fields
 row_of columns x = map (λ c. c.1 x) columns
+
+-- the columns of a table whose rows are places
+abbrev pub columns_of : Table → CountedElectionView → List (Column ℕ)
+columns_of table x = (table_by table x).0
 
 -- the columns of projects with the last, which stands where an outcome is filled up
 abbrev pub all_columns : CountedElectionView → List (Column ℕ)

@@ -16,8 +16,8 @@ use Rattle.pb_rounds.specs.MostVotes.{is_taken, votes_at}
 use Rattle.pb_rows.specs.Tables.{table_text}
 use Rattle.pb_rows.specs.Writing.{text_of_row}
 use Rattle.pb_commands.proofs.TableColumns.{failing_kept, head_put, passing_put}
-use Rattle.pb_commands.specs.Inner.Tables.{row_of}
-use Rattle.pb_commands.specs.Tables.{columns_of, table_of}
+use Rattle.pb_commands.specs.Inner.Tables.{columns_of, row_of}
+use Rattle.pb_commands.specs.Tables.{table_of}
 use Rattle.pb_commands.specs.declared.table.Table.TheVariants.{Fairness}
 use Rattle.pb_commands.proofs.fairness_table.put_fairness.Goals.{then-has_lost+in_ok-put_loser, else-has_lost}
 use Rattle.pb_commands.proofs.fairness_table.put_fairness.Goals as goal

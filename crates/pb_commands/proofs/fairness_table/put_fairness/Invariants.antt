@@ -6,7 +6,7 @@ use Rattle.pb_price.specs.Supporters.{support_of}
 use Rattle.pb_reasons.specs.Counted.{winners_of}
 use Rattle.pb_rounds.specs.MostVotes.{is_taken, votes_at}
 use Rattle.pb_rows.specs.Tables.{table_text}
-use Rattle.pb_commands.specs.Tables.{columns_of}
+use Rattle.pb_commands.specs.Inner.Tables.{columns_of}
 use Rattle.pb_commands.specs.declared.table.Table.TheVariants.{Fairness}
 use Rattle.pb_commands.proofs.fairness_table.put_fairness.Given as goal
 

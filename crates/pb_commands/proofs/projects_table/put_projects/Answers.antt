@@ -7,8 +7,8 @@ use Rattle.pb_rounds.specs.declared.rule.Rule.{Rule}
 use Rattle.pb_rows.specs.Tables.{table_text}
 use Rattle.pb_rows.specs.Writing.{text_of_row}
 use Rattle.pb_commands.proofs.TableColumns.{file_place_put, head_put, names_taken}
-use Rattle.pb_commands.specs.Inner.Tables.{row_of}
-use Rattle.pb_commands.specs.Tables.{columns_of, table_of}
+use Rattle.pb_commands.specs.Inner.Tables.{columns_of, row_of}
+use Rattle.pb_commands.specs.Tables.{table_of}
 use Rattle.pb_commands.specs.declared.table.Table.TheVariants.{Projects}
 use Rattle.pb_commands.proofs.projects_table.put_projects.Goals as goal
 

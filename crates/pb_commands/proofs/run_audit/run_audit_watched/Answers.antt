@@ -1,8 +1,12 @@
 use Rattle.std.proofs.Common.{◌≡◌, Some, None}
 use Rattle.std.proofs.lemmas.Result.{on_ok_weaker}
 use Rattle.pb_commands.proofs.Endings.{known_map, run_ended, run_given, run_written}
-use Rattle.pb_commands.proofs.RunEnds.{audit_known, audits_pass, of_any, open_audit, refused_audit, written_of_any}
-use Rattle.pb_commands.specs.Audited.{AuditWrites, IsDeskOf}
+use Rattle.pb_commands.proofs.AuditAccepted.{desk_from_outside}
+use Rattle.pb_commands.proofs.AuditEnds.{audit_known, audits_pass, open_audit, refused_audit, report_fails}
+use Rattle.pb_commands.proofs.CountEnds.{none_counted}
+use Rattle.pb_commands.proofs.RunEnds.{of_any, written_of_any}
+use Rattle.pb_commands.specs.Audited.{AuditWrites, IsDeskOf, IsReport}
+use Rattle.pb_commands.specs.Inner.Audited.{IsRefusedDesk}
 use Rattle.pb_commands.specs.Closed.{CountRefuses}
 use Rattle.pb_desk.specs.Desk.{DeskView}
 use Rattle.pb_script.specs.EntryCounts.{counts_of}
@@ -16,8 +20,8 @@ returns-in-Err-clause-runs g c =
     let rule = c.args.counting.now.rule.now in
     let files = g.P.Read.remaining c.args.inputs.file in
     let journals = g.J.Read.remaining c.args.inputs.journal in
-    run_ended (AuditWrites demand rule) (λ bytes rows. CountRefuses rule bytes (Some rows)) files journals _ g.W.Write.contents _ c.in-Err.fault
-    (audits_pass demand rule files journals _ c.in-Err.fault c.in-Err.ensures.reads c.in-Err.ensures.ends)
+    run_ended (AuditWrites demand (IsReport rule)) (λ bytes rows. CountRefuses rule bytes (Some rows)) files journals _ g.W.Write.contents _ c.in-Err.fault
+    (audits_pass (IsReport rule) (CountRefuses rule) demand files journals _ (none_counted rule) c.in-Err.fault c.in-Err.ensures.reads c.in-Err.ensures.ends)
 
 pub returns-then-is_refused-clause-runs : goal.returns-then-is_refused-clause-runs
 returns-then-is_refused-clause-runs g c =
@@ -27,8 +31,8 @@ returns-then-is_refused-clause-runs g c =
     let journals = g.J.Read.remaining c.args.inputs.journal in
     let file = c.in-Ok.ensures.ends.judges in
     let refused = c.is_refused.ensures.refused c.if-is_refused.true in
-    run_ended (AuditWrites demand rule) (λ bytes rows. CountRefuses rule bytes (Some rows)) files journals _ g.W.Write.contents _ OpenDesk
-    (open_audit demand rule files journals _ c.in-Ok.desk refused.0 refused.1 c.in-Ok.ensures.ok file.1 file.0)
+    run_ended (AuditWrites demand (IsReport rule)) (λ bytes rows. CountRefuses rule bytes (Some rows)) files journals _ g.W.Write.contents _ OpenDesk
+    (open_audit (IsReport rule) (CountRefuses rule) demand files journals _ (none_counted rule) c.in-Ok.desk refused.0 refused.1 c.in-Ok.ensures.ok file.1 file.0)
 
 pub returns-in_err-text-clause-runs : goal.returns-in_err-text-clause-runs
 returns-in_err-text-clause-runs g c =
@@ -38,8 +42,10 @@ returns-in_err-text-clause-runs g c =
     let journals = g.J.Read.remaining c.args.inputs.journal in
     let file = c.in-Ok.ensures.ends.judges in
     let fault = c.in_err-text.field-0.0 in
-    run_given (AuditWrites demand rule) (λ bytes rows. CountRefuses rule bytes (Some rows)) files journals _ g.W.Write.contents _ _ (merged (Count fault))
-    c.from_residual.ensures.1 (refused_audit demand rule files journals _ c.in-Ok.desk c.in-Ok.ensures.ok fault c.in_err-text.ensures.fault file.1 file.0)
+    run_given (AuditWrites demand (IsReport rule)) (λ bytes rows. CountRefuses rule bytes (Some rows)) files journals _ g.W.Write.contents _ _ (merged (Count fault))
+    c.from_residual.ensures.1
+    (refused_audit (IsReport rule) (CountRefuses rule) demand files journals _ c.in-Ok.desk c.in-Ok.ensures.ok (IsRefusedDesk c.in-Ok.desk rule)
+    (report_fails demand rule c.in-Ok.desk) (desk_from_outside rule c.in-Ok.desk) fault c.in_err-text.ensures.fault file.1 file.0)
 
 pub returns-clause-runs : goal.returns-clause-runs
 returns-clause-runs g c =
@@ -49,9 +55,9 @@ returns-clause-runs g c =
     let journals = g.J.Read.remaining c.args.inputs.journal in
     let file = c.in-Ok.ensures.ends.judges in
     let text = c.in_ok-text.text.items in
-    run_written (AuditWrites demand rule) (λ bytes rows. CountRefuses rule bytes (Some rows)) files journals _ g.W.Write.contents _ _ text _
+    run_written (AuditWrites demand (IsReport rule)) (λ bytes rows. CountRefuses rule bytes (Some rows)) files journals _ g.W.Write.contents _ _ text _
     (rw c.as_slice.ensures.value at c.write_out.ensures.ok) c.write_out.ensures.fault (rw c.as_slice.ensures.value at c.write_out.ensures.front) file.1 file.0
-    (audit_known demand rule files journals None c.in-Ok.desk c.in-Ok.ensures.ok (c.is_refused.ensures.passed c.if-is_refused.false) text c.in_ok-text.ensures.ok)
+    (audit_known (IsReport rule) (CountRefuses rule) demand files journals None c.in-Ok.desk c.in-Ok.ensures.ok (c.is_refused.ensures.passed c.if-is_refused.false) text c.in_ok-text.ensures.ok)
 
 pub returns-in-Err-clause-demanded : goal.returns-in-Err-clause-demanded
 returns-in-Err-clause-demanded g c = λ is. absurd (c.in-Err.ensures.any is)

@@ -7,8 +7,8 @@ use Rattle.pb_rows.specs.Tables.{table_text}
 use Rattle.pb_rows.specs.Writing.{text_of_row}
 use Rattle.pb_commands.proofs.PaymentsInFile.{payments_known}
 use Rattle.pb_commands.proofs.TableColumns.{head_put, place_put, voter_row_read}
-use Rattle.pb_commands.specs.Inner.Tables.{payments_in_file}
-use Rattle.pb_commands.specs.Tables.{columns_of, table_of}
+use Rattle.pb_commands.specs.Inner.Tables.{columns_of, payments_in_file}
+use Rattle.pb_commands.specs.Tables.{table_of}
 use Rattle.pb_commands.specs.declared.table.Table.TheVariants.{Voters}
 use Rattle.pb_commands.proofs.voters_table.put_voters.Goals as goal
 

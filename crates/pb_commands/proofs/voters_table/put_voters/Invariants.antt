@@ -1,7 +1,7 @@
 use Rattle.std.proofs.Common.{◌≡◌, ◌++◌}
 use Rattle.std.specs.List.{range_with_len}
 use Rattle.pb_rows.specs.Tables.{table_text}
-use Rattle.pb_commands.specs.Tables.{columns_of}
+use Rattle.pb_commands.specs.Inner.Tables.{columns_of}
 use Rattle.pb_commands.specs.declared.table.Table.TheVariants.{Voters}
 use Rattle.pb_commands.proofs.voters_table.put_voters.Given as goal
 

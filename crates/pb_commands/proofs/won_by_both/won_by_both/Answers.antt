@@ -8,4 +8,5 @@ returns-in-Err-clause-fault g c = inl c.in-Err.ensures.fault
 
 pub returns-in-Err-won_by-clause-fault : goal.returns-in-Err-won_by-clause-fault
 returns-in-Err-won_by-clause-fault g c =
-    inr (subst (λ (e : ElectionView). IsRefused c.args.other.now e c.in-Err-won_by.fault) c.in-Ok.ensures.same c.in-Err-won_by.ensures.fault)
+    let own = c.in-Ok.ensures.winners in
+    inr (own.0, own.1, subst (λ (e : ElectionView). IsRefused c.args.other.now e c.in-Err-won_by.fault) c.in-Ok.ensures.same c.in-Err-won_by.ensures.fault)
