@@ -31,7 +31,7 @@ impl TwoRules {
                 "error: --beside names the rule that counts, which can't be compared with itself. Name another rule."
             ),
             TwoRules::NoDecision => eprintln!(rt;
-                "error: the name that --profile gives asks for a decision between two rules, and this command makes none. Omit /decide= and what follows it."
+                "error: the name that --profile gives asks for a decision between two rules, and this command makes none. Give it the rule that applies, which the row `decided` of `pb_app count` names."
             ),
             TwoRules::BesideAlone => eprintln!(rt;
                 "error: --beside names another rule, but nothing says which of the two applies. Add --decide (with --profile: /decide=choices or /decide=worth at the end of the name), or omit --beside."
