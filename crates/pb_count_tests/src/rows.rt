@@ -3,7 +3,8 @@
 use crate::checks::{holds, same, shows};
 use csv::StringRecord;
 use pb_rows::{
-    Records, RecordsFault, RowsWriter, read_number, read_place_list, rows_come_back, write_places,
+    Field, Records, RecordsFault, RowsWriter, read_number, read_place_list, rows_come_back,
+    write_places,
 };
 use std::alloc::Global;
 use std::io;
@@ -138,6 +139,31 @@ fn rows(rt: HostRuntime) {
     same(&rt, found.as_slice(), wanted.as_bytes(), "four rows");
     let nothing = written(&rt, rt.alloc(), &[]);
     holds(&rt, nothing.is_empty(), "no row");
+}
+
+/// Amounts in hundredths, what each is divided by, and the row of it.
+const EXACT: &[(u128, u64, &str)] = &[
+    (0, 7, "0.00\n"),
+    (1_230, 1, "12.30\n"),
+    (10_000, 4, "25.00\n"),
+    (10_000, 3, "100/3\n"),
+    (1, 3, "1/300\n"),
+    (12, 8, "3/200\n"),
+    (50, 30, "1/60\n"),
+    (5, 0, "0.05\n"),
+    (1, u64::MAX, "1/1844674407370955161500\n"),
+    (u128::MAX, u64::MAX, "184467440737095516.17\n"),
+];
+
+#[test]
+fn exact_amounts(rt: HostRuntime) {
+    for (amount, divisor, wanted) in EXACT {
+        let mut rows = RowsWriter::start(rt.alloc());
+        rows.put_fields(&[Field::Exact(*amount, *divisor)])
+            .expect(&rt, "memory");
+        let found = rows.finish().expect(&rt, "memory");
+        same(&rt, found.as_slice(), wanted.as_bytes(), wanted);
+    }
 }
 
 /// Fields that need quotes, and some that need none.

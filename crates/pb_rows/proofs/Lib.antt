@@ -1,4 +1,5 @@
 -- The lemmas that the proofs of this crate share.
+mod ExactText
 mod NumberFacts
 mod OnlyThese
 pub mod PlacesText

@@ -4,6 +4,7 @@ ghost use Rattle.std.specs.Prelude.{◌≡◌, OnOk, string_bytes};
 ghost use Rattle.pb_rows.specs.Tables.{field_text};
 ghost use Rattle.pb_rows.specs.declared.field.Field.TheVariants.{Amount, Number};
 
+use crate::exact::put_exact;
 use itoa::Buffer;
 use pb_core::money::{Money, put_amount};
 use std::alloc::AllocError;
@@ -19,6 +20,9 @@ pub enum Field<'a> {
     Number(u64),
     /// An amount in hundredths: whole units, a point and two decimals, as `12.30`.
     Amount(u128),
+    /// An amount in hundredths, divided by so much (by 0 as by 1): as above where that is whole hundredths, else a
+    /// reduced fraction of a unit, as `100/3`.
+    Exact(u128, u64),
 }
 
 impl Field<'static> {
@@ -50,5 +54,6 @@ pub(crate) fn set_text(text: &mut String, field: Field) -> Result<(), AllocError
             text.push_str(digits.format(number))
         }
         Field::Amount(amount) => put_amount(text, amount),
+        Field::Exact(amount, divisor) => put_exact(text, amount, divisor),
     }
 }

@@ -2,6 +2,7 @@
 //! the same form; and the exact spelling of numbers and of lists of places.
 #![tactic(auto)]
 
+mod exact;
 mod fault;
 mod field;
 mod laws;
@@ -10,6 +11,7 @@ mod places;
 mod records;
 mod rows_writer;
 
+pub use exact::put_exact;
 pub use fault::RecordsFault;
 pub use field::Field;
 pub use laws::rows_come_back;
