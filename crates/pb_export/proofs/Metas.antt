@@ -11,9 +11,10 @@ use Rattle.pb_core.specs.MoneyText.{IsWorth, money_text}
 use Rattle.std.specs.Str.Parse.{digits_value}
 use Rattle.pb_core.proofs.MoneyNamed.{amount_read}
 use Rattle.pb_core.proofs.MoneyParts.{read_parts}
+use Rattle.pb_read.specs.Inner.Forms.{meta_for}
 use Rattle.pb_read.specs.Lengths.{max_length_of}
 use Rattle.pb_read.specs.Rows.{head_of, is_empty, rows_of}
-use Rattle.pb_read.specs.StandsFor.{IsMeta, meta_for}
+use Rattle.pb_read.specs.StandsFor.{IsMeta}
 use Rattle.pb_rows.specs.Reading.{Fields}
 use Rattle.pb_read.specs.MetaRows.{meta_of}
 use Rattle.pb_export.specs.FileRows.{amount_text, meta_rows}

@@ -9,9 +9,10 @@ use Rattle.pb_core.specs.Election.{ElectionView, ProjectView}
 use Rattle.pb_core.specs.Money.{largest_money, money_of}
 use Rattle.pb_core.specs.MoneyText.{money_text}
 use Rattle.pb_rows.specs.Reading.{Fields}
+use Rattle.pb_read.specs.Inner.Forms.{meta_for}
 use Rattle.pb_read.specs.Inner.Fields.{trimmed}
 use Rattle.pb_read.specs.Rows.{head_of, is_blank, rows_of}
-use Rattle.pb_read.specs.StandsFor.{GivesAllButVoters, GivesProject, IsMeta, meta_for}
+use Rattle.pb_read.specs.StandsFor.{GivesAllButVoters, GivesProject, IsMeta}
 use Rattle.pb_export.specs.FileRows.{amount_text, projects_rows}
 use Rattle.pb_export.specs.Inner.Parts.{is_section_word, project_row, projects_from}
 use Rattle.pb_export.specs.declared.further.Further.{Further}

@@ -8,13 +8,14 @@ use Rattle.pb_core.specs.Money.{money_of}
 use Rattle.pb_rows.specs.Reading.{Fields}
 use Rattle.pb_read.proofs.ListFacts.{IsPlain, some≢none, AllByRecursion-right}
 use Rattle.pb_read.proofs.MachineLaws.{project_fault, vote_fault}
+use Rattle.pb_read.specs.Inner.Forms.{meta_for}
 use Rattle.pb_read.specs.Columns.{project_columns, vote_columns, has_fields}
 use Rattle.pb_read.specs.Inner.Machine.{Position, amount_of, project_checks, project_of, row_fault, vote_checks, voter_of}
 use Rattle.pb_read.specs.Inner.Positions.{IsJustAt}
 use Rattle.pb_read.specs.MetaRows.{meta_of}
 use Rattle.pb_read.specs.Rows.{field, head_of, is_empty}
 use Rattle.pb_read.specs.Stages.{IsAt, Next, the_end, blank, head, plain}
-use Rattle.pb_read.specs.StandsFor.{EndsIn, GivesAllButVoters, GivesProject, GivesVoter, IsMeta, meta_for}
+use Rattle.pb_read.specs.StandsFor.{EndsIn, GivesAllButVoters, GivesProject, GivesVoter, IsMeta}
 use Rattle.pb_read.specs.Voting.{is_among, names_only}
 use Rattle.pb_read.specs.declared.columns.ProjectColumns.{ProjectColumns}
 use Rattle.pb_read.specs.declared.columns.VoteColumns.{VoteColumns}

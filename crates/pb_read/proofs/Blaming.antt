@@ -14,18 +14,20 @@ use Rattle.pb_read.specs.Inner.Fields.{record_after}
 use Rattle.pb_read.specs.Inner.Machine.{Position}
 use Rattle.pb_read.specs.Inner.Progresses.{IsOfNoValue, no_value}
 use Rattle.pb_read.specs.Inner.Showing.{IsRefusedNext, IsRefusedRow, IsShownNext}
-use Rattle.pb_read.specs.Refusals.{piece_of}
+use Rattle.pb_read.specs.Refusals.{about, refusal_of}
 use Rattle.pb_read.specs.Rows.{field, is_empty}
 use Rattle.pb_read.specs.Shown.{Sight, refused}
 use Rattle.pb_read.specs.Inner.Showing.{Adds}
 use Rattle.pb_read.specs.Voting.{is_among}
+use Rattle.pb_read.specs.declared.column.Column.TheVariants.{Vote}
 use Rattle.pb_read.specs.declared.columns.VoteColumns.{VoteColumns}
 use Rattle.pb_read.specs.declared.check.Verdict.{Verdict}
 use Rattle.pb_read.specs.declared.check.Verdict.TheVariants.{Passes, LeavesOut, Ends, Done}
+use Rattle.pb_read.specs.declared.fault.ReadFault.{ReadFault}
 use Rattle.pb_read.specs.declared.fault.ReadKind.{ReadKind}
-use Rattle.pb_read.specs.declared.fault.ReadKind.TheVariants.{UnknownProject}
+use Rattle.pb_read.specs.declared.fault.ReadKind.TheVariants.{NoMemory, NotText, ReadFailed, TooManyRecords, UnknownProject}
 use Rattle.pb_read.specs.declared.progress.Stage.{Stage}
-use Rattle.pb_read.specs.declared.progress.Stage.TheVariants.{InVotes}
+use Rattle.pb_read.specs.declared.progress.Stage.TheVariants.{Start, Header, InMeta, InProjects, InVotes}
 use Rattle.pb_read.specs.declared.refusal.Refusal.{Refusal}
 
 -- a piece is none of these ids
@@ -62,5 +64,40 @@ next_shown left rest at p q b c stage kind Done refusal shown = absurd refusal
 next_shown left rest at p q b c stage kind (LeavesOut other) refusal shown = subst (λ k. IsRefusedNext left at p k b c) (sym refusal.0) shown
 next_shown left rest at p q b c stage kind (Ends other) refusal shown = subst (λ k. IsRefusedNext left at p k b c) (sym refusal.0) shown
 
-pub piece_is : (kind : ReadKind) (stage : Stage) (columns : VoteColumns) (e : ElectionView) (row : Fields) → kind ≡ UnknownProject → stage ≡ InVotes columns → piece_of kind (stage, e) row ≡ unknown_piece (project_ids e) (field row columns.vote)
-piece_is kind stage columns e row k s = λ i. piece_of (k i) (s i, e) row
+-- what is told of a vote that names no project
+pub unknown_told : (fault : ReadFault) (stage : Stage) (columns : VoteColumns) (e : ElectionView) (row : Fields) → fault.kind ≡ UnknownProject → stage ≡ InVotes columns
+    → refusal_of (stage, e) row fault ≡ record { fault = fault; column = Some Vote; piece = unknown_piece (project_ids e) (field row columns.vote); earlier = None }
+unknown_told fault stage columns e row k s = λ i. let told = about (k i) (s i, e) row in
+    record { fault = fault; column = told.0; piece = told.1; earlier = told.2 }
+
+-- a fault of this kind is about no value, where the rows come so far
+abbrev IsNone : ReadKind → Position → Fields → ℕ → Type 0
+IsNone kind p row at = refusal_of p row (record { kind = kind; at = at }) ≡ no_value (record { kind = kind; at = at })
+
+pub of_too_many : (p : Position) (row : Fields) (at : ℕ) → IsNone TooManyRecords p row at
+of_too_many (Start, e) row at = refl
+of_too_many (Header name, e) row at = refl
+of_too_many (InMeta meta, e) row at = refl
+of_too_many (InProjects columns, e) row at = refl
+of_too_many (InVotes columns, e) row at = refl
+
+pub of_no_text : (p : Position) (row : Fields) (at : ℕ) → IsNone NotText p row at
+of_no_text (Start, e) row at = refl
+of_no_text (Header name, e) row at = refl
+of_no_text (InMeta meta, e) row at = refl
+of_no_text (InProjects columns, e) row at = refl
+of_no_text (InVotes columns, e) row at = refl
+
+pub of_no_memory : (p : Position) (row : Fields) (at : ℕ) → IsNone NoMemory p row at
+of_no_memory (Start, e) row at = refl
+of_no_memory (Header name, e) row at = refl
+of_no_memory (InMeta meta, e) row at = refl
+of_no_memory (InProjects columns, e) row at = refl
+of_no_memory (InVotes columns, e) row at = refl
+
+pub of_read_failed : (p : Position) (row : Fields) (at : ℕ) → IsNone ReadFailed p row at
+of_read_failed (Start, e) row at = refl
+of_read_failed (Header name, e) row at = refl
+of_read_failed (InMeta meta, e) row at = refl
+of_read_failed (InProjects columns, e) row at = refl
+of_read_failed (InVotes columns, e) row at = refl

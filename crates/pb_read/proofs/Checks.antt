@@ -11,6 +11,7 @@ use Rattle.pb_rows.specs.Reading.{Fields, IsNext}
 use Rattle.pb_read.proofs.DraftFacts.{explains}
 use Rattle.pb_read.proofs.GoesOn.{AllText-from_test, test-from_AllText}
 use Rattle.pb_read.proofs.Tracking.{ended, explained, fault_at, tracks_more, tracks_start}
+use Rattle.pb_read.specs.Inner.Forms.{next_row}
 use Rattle.pb_read.specs.Inner.Checking.{EndsAt, Going, IsGoing, IsRefusal, IsVerdict, Judges, JudgesRow, LeadsTo, LeftHas, StopsAt, text_fault, without}
 use Rattle.pb_read.proofs.Uniqueness.{refused_from_outside}
 use Rattle.pb_read.specs.FirstFault.{IsFaultAt, IsFromOutside}
@@ -20,7 +21,7 @@ use Rattle.pb_read.specs.Rows.{rows_of}
 use Rattle.pb_read.proofs.Alike.{at_just}
 use Rattle.pb_read.specs.Inner.Machine.{Explains, Position, lowest_kind, row_fault, start}
 use Rattle.pb_read.specs.Inner.Fields.{trimmed}
-use Rattle.pb_read.specs.Stages.{IsAt, next_row}
+use Rattle.pb_read.specs.Stages.{IsAt}
 use Rattle.pb_read.specs.declared.progress.Stage.{Stage}
 use Rattle.pb_read.specs.declared.progress.Stage.TheVariants.{InProjects, InVotes}
 use Rattle.pb_read.specs.StandsFor.{StandsFor, most_records}

@@ -17,7 +17,8 @@ use Rattle.pb_read.proofs.Keeps.{IsTidy, IsTidy-trimmed, kept, next_follows, ope
 use Rattle.pb_read.proofs.ListFacts.{some≢none, ok≢err, same_Ok, AllByRecursion-append, AllByRecursion-left, AllByRecursion-right}
 use Rattle.pb_read.proofs.MachineLaws.{run-append}
 use Rattle.pb_read.proofs.Runs.{AreFull, run_fault, run_onto, run_row, runs}
-use Rattle.pb_read.specs.Stages.{the_end, blank, next_row}
+use Rattle.pb_read.specs.Inner.Forms.{next_row}
+use Rattle.pb_read.specs.Stages.{the_end, blank}
 use Rattle.pb_read.specs.declared.progress.Stage.TheVariants.{Start, Header, InMeta, InProjects, InVotes}
 use Rattle.pb_read.specs.declared.section.Section.TheVariants as section
 use Rattle.pb_read.specs.FirstFault.{HasNoFault, IsFirstFault}

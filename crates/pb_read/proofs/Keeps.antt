@@ -19,6 +19,7 @@ use Rattle.pb_core.specs.MoneyText.{hundredths, has_money_form, is_in_hundredths
 use Rattle.pb_core.specs.declared.money_fault.MoneyFault.{MoneyFault}
 use Rattle.pb_core.specs.declared.money_fault.MoneyFault.TheVariants as money
 use Rattle.pb_core.specs.declared.terms.Terms.{Terms}
+use Rattle.pb_read.specs.Inner.Forms.{meta_for, next_row}
 use Rattle.pb_read.specs.declared.fault.ReadKind.TheVariants as kind
 use Rattle.pb_core.proofs.Elections.{IsElection-push_project, IsElection-push_voter}
 use Rattle.pb_core.proofs.Trim.{trim-trim}
@@ -26,14 +27,14 @@ use Rattle.pb_rows.specs.Reading.{Fields}
 use Rattle.pb_read.proofs.ListFacts.{IsPlain, some≢none, ok≢err, AllZip-push, AllByRecursion-append, is_among-Contains}
 use Rattle.pb_read.proofs.MachineLaws.{meta_of-push, passes_project, passes_vote, passes_head, PassesProject, PassesVote}
 use Rattle.pb_read.specs.Columns.{project_columns, vote_columns}
-use Rattle.pb_read.specs.Stages.{Next, the_end, blank, head, plain, next_row}
+use Rattle.pb_read.specs.Stages.{Next, the_end, blank, head, plain}
 use Rattle.pb_read.specs.declared.progress.Stage.TheVariants.{Start, Header, InMeta, InProjects, InVotes}
 use Rattle.pb_read.specs.Inner.Positions.{IsJustAt}
 use Rattle.pb_read.specs.Inner.Machine.{Position, advance, budget_of, limit_of, amount_of, project_of, terms_said, voter_of, with_project, with_voter, with_row, row_fault}
 use Rattle.pb_read.specs.MetaRows.{meta_of, value_of}
 use Rattle.pb_read.specs.Inner.Fields.{trimmed}
 use Rattle.pb_read.specs.Rows.{field, head_of, is_blank, is_empty}
-use Rattle.pb_read.specs.StandsFor.{EndsIn, GivesAllButVoters, GivesProject, GivesVoter, IsMeta, meta_for}
+use Rattle.pb_read.specs.StandsFor.{EndsIn, GivesAllButVoters, GivesProject, GivesVoter, IsMeta}
 use Rattle.pb_read.specs.Voting.{ballot_of, is_among}
 use Rattle.pb_read.specs.declared.columns.ProjectColumns.{ProjectColumns}
 use Rattle.pb_read.specs.declared.columns.VoteColumns.{VoteColumns}

@@ -7,11 +7,12 @@ use Rattle.std.proofs.lemmas.Bool.{cases_order, true≢false}
 use Rattle.std.proofs.lemmas.Option.{same_Some}
 use Rattle.pb_rows.specs.Reading.{Fields}
 use Rattle.pb_read.proofs.ListFacts.{AllByRecursion-right, cond_none, some≢none}
+use Rattle.pb_read.specs.Inner.Forms.{next_row}
 use Rattle.pb_read.specs.Faults.{applies, applies_after}
 use Rattle.pb_read.specs.Kinds.{number_of}
 use Rattle.pb_read.specs.Inner.Machine.{Position, all_kinds, lowest_kind, row_fault}
 use Rattle.pb_read.specs.Inner.Fields.{trimmed}
-use Rattle.pb_read.specs.Stages.{Next, the_end, blank, head, plain, next_row}
+use Rattle.pb_read.specs.Stages.{Next, the_end, blank, head, plain}
 use Rattle.pb_read.specs.StandsFor.{most_records}
 use Rattle.pb_read.specs.declared.fault.ReadKind.{ReadKind}
 use Rattle.pb_read.specs.declared.fault.ReadKind.TheVariants as kinds

@@ -12,9 +12,10 @@ use Rattle.pb_core.specs.declared.money_fault.MoneyFault.TheVariants as money
 use Rattle.pb_rows.specs.Reading.{Fields}
 use Rattle.pb_read.proofs.KeyFacts.{with_each, with_each-same}
 use Rattle.pb_read.proofs.ListFacts.{cond_none, some≢none}
+use Rattle.pb_read.specs.Inner.Forms.{next_row}
 use Rattle.pb_read.specs.Columns.{has_fields}
 use Rattle.pb_read.specs.Faults.{fails_by}
-use Rattle.pb_read.specs.Stages.{head, plain, next_row}
+use Rattle.pb_read.specs.Stages.{head, plain}
 use Rattle.pb_read.specs.Inner.Machine.{Position, with_row, step, bind, run, head_checks, project_checks, vote_checks, vote_row_checks, row_fault}
 use Rattle.pb_read.specs.Lengths.{max_length_of}
 use Rattle.pb_read.specs.MetaRows.{meta_of, value_of}

@@ -12,8 +12,9 @@ use Rattle.pb_read.proofs.GoesOn.{advance-blank, blank_passes, next_row-blank}
 use Rattle.pb_read.proofs.Keeps.{money_of-le}
 use Rattle.pb_read.proofs.MachineLaws.{project_fault, vote_fault}
 use Rattle.pb_read.proofs.Runs.{meta_row_passes}
+use Rattle.pb_read.specs.Inner.Forms.{next_row}
 use Rattle.pb_read.specs.Inner.Drafts.{IsTied}
-use Rattle.pb_read.specs.Stages.{Next, next_row, plain}
+use Rattle.pb_read.specs.Stages.{Next, plain}
 use Rattle.pb_read.specs.Inner.Machine.{Position, Explains, advance, budget_of, project_row_checks, terms_said, vote_row_checks, with_project, with_row, with_value, with_voter, row_fault}
 use Rattle.pb_read.specs.Inner.Progresses.{IsKept, IsRead, IsReady, place_of}
 use Rattle.pb_read.specs.Rows.{field, is_blank}

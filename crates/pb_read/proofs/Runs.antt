@@ -13,15 +13,16 @@ use Rattle.pb_core.specs.Inner.Terms.{opening, terms_of}
 use Rattle.pb_rows.specs.Reading.{Fields}
 use Rattle.pb_read.proofs.ListFacts.{IsPlain, Contains-is_among, AllByRecursion-left, AllByRecursion-right}
 use Rattle.pb_read.proofs.MachineLaws.{run-append, meta_of-push, head_passes, project_passes, vote_passes, PassesProject, PassesVote}
+use Rattle.pb_read.specs.Inner.Forms.{meta_for, next_row}
 use Rattle.pb_read.specs.Columns.{project_columns, vote_columns}
-use Rattle.pb_read.specs.Stages.{Next, head, plain, next_row}
+use Rattle.pb_read.specs.Stages.{Next, head, plain}
 use Rattle.pb_read.specs.declared.progress.Stage.TheVariants.{Start, Header, InMeta, InProjects, InVotes}
 use Rattle.pb_read.specs.Inner.Positions.{IsJustAt}
 use Rattle.pb_read.specs.Inner.Machine.{Position, start, advance, amount_of, project_of, voter_of, run, bind, step, step_or, row_fault}
 use Rattle.pb_read.specs.MetaRows.{meta_of}
 use Rattle.pb_read.specs.Rows.{field, head_of, is_blank, is_empty}
 use Rattle.pb_read.specs.Inner.Opening.{empty}
-use Rattle.pb_read.specs.StandsFor.{EndsIn, GivesAll, GivesAllButVoters, GivesProject, GivesVoter, IsMeta, meta_for}
+use Rattle.pb_read.specs.StandsFor.{EndsIn, GivesAll, GivesAllButVoters, GivesProject, GivesVoter, IsMeta}
 use Rattle.pb_read.specs.Voting.{is_among}
 use Rattle.pb_read.specs.declared.columns.ProjectColumns.{ProjectColumns}
 use Rattle.pb_read.specs.declared.columns.VoteColumns.{VoteColumns}

@@ -7,6 +7,7 @@ use Rattle.csv.specs.Records.{AllText}
 use Rattle.pb_rows.specs.Reading.{Fields}
 use Rattle.pb_read.proofs.Alike.{at_just}
 use Rattle.pb_read.proofs.GoesOn.{end_stands, reached_next, reached_start}
+use Rattle.pb_read.specs.Inner.Forms.{next_row}
 use Rattle.pb_read.specs.Inner.Checking.{Judges, JudgesRow}
 use Rattle.pb_read.specs.Inner.Fields.{record_after, trimmed}
 use Rattle.pb_read.specs.Inner.Machine.{Position, advance, row_fault, start}
@@ -16,7 +17,6 @@ use Rattle.pb_read.specs.Refusals.{refusal_of}
 use Rattle.pb_read.specs.Rows.{rows_of}
 use Rattle.pb_read.specs.Shown.{IsAll, Sight, WereShown, ended, faults_of, kept, refused, seen}
 use Rattle.pb_read.specs.Inner.Showing.{Adds}
-use Rattle.pb_read.specs.Stages.{next_row}
 use Rattle.pb_read.specs.StandsFor.{StandsFor, most_records}
 use Rattle.pb_read.specs.declared.check.Verdict.TheVariants.{Passes, LeavesOut, Ends, Done}
 use Rattle.pb_read.specs.declared.check.Verdict.{Verdict}

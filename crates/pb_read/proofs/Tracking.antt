@@ -4,10 +4,10 @@ use Rattle.std.specs.Prelude.{IfErr, IfOk, IfSome, MatchResult}
 use Rattle.std.proofs.lemmas.Bool.{true≢false}
 use Rattle.pb_core.specs.Election.{ElectionView}
 use Rattle.pb_rows.specs.Reading.{Fields, records_of}
+use Rattle.pb_read.specs.Inner.Forms.{next_row}
 use Rattle.pb_read.specs.Inner.Tracking.{HasCome, IsNextRow, Reached, Tracks}
 use Rattle.pb_read.proofs.GoesOn.{end_stands, first_fault, no_fault_so_far, reached_next, reached_start}
 use Rattle.pb_read.proofs.Uniqueness.{one_election, refused_from_outside}
-use Rattle.pb_read.specs.Stages.{next_row}
 use Rattle.pb_read.specs.FirstFault.{IsFaultAt, IsFirstFault, IsFromOutside}
 use Rattle.pb_read.specs.Inner.Machine.{Position, start, Explains, advance, lowest_kind, row_fault}
 use Rattle.pb_read.specs.Inner.Progresses.{EndsWith}

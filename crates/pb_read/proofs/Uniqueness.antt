@@ -13,12 +13,13 @@ use Rattle.pb_read.proofs.LowestKind.{lowest_is}
 use Rattle.pb_read.proofs.GoesOn.{IsAtFault, is_at_fault, reached_without_fault, rows_of-are_full, run_from_start}
 use Rattle.pb_read.proofs.ListFacts.{same_Ok}
 use Rattle.pb_read.proofs.Runs.{runs}
+use Rattle.pb_read.specs.Inner.Forms.{next_row}
 use Rattle.pb_read.specs.FirstFault.{HasNoFault, IsFaultAt, IsFirstFault, IsFromOutside}
 use Rattle.pb_read.specs.Inner.Machine.{Position, start, run, lowest_kind}
 use Rattle.pb_read.specs.Inner.Tracking.{Reached}
 use Rattle.pb_read.specs.Inner.Fields.{trimmed}
 use Rattle.pb_read.specs.Rows.{rows_of}
-use Rattle.pb_read.specs.Stages.{next_row, the_end}
+use Rattle.pb_read.specs.Stages.{the_end}
 use Rattle.pb_read.specs.StandsFor.{Describes, StandsFor, most_records}
 use Rattle.pb_read.specs.declared.fault.ReadKind.{ReadKind}
 use Rattle.pb_read.specs.declared.fault.ReadKind.TheVariants as kinds

@@ -1,5 +1,5 @@
 -- Which faults apply where a file has come so far.
-use Rattle.std.specs.Prelude.{ℕ, Bool, true, false, not, ◌||◌, ◌==◌, nat_le, List, [], ◌∷◌, length, map}
+use Rattle.std.specs.Prelude.{ℕ, Bool, true, false, not, ◌||◌, ◌==◌, nat_le, List, [], ◌∷◌, length, map, if◌then◌else◌}
 use Rattle.std.specs.Prelude.{Result, Ok, Err, is_none, unwrap_or}
 use Rattle.std.specs.Option.{option_map_or}
 use Rattle.std.specs.List.{list_all}
@@ -11,8 +11,8 @@ use Rattle.pb_core.specs.declared.money_fault.MoneyFault.{MoneyFault}
 use Rattle.pb_core.specs.declared.money_fault.MoneyFault.TheVariants as money
 use Rattle.pb_rows.specs.Reading.{Fields}
 use Rattle.pb_read.specs.Columns.{project_columns, vote_columns, has_fields}
-use Rattle.pb_read.specs.Stages.{Next, the_end, head, plain, next_row}
-use Rattle.pb_read.specs.Rows.{field, is_empty}
+use Rattle.pb_read.specs.Stages.{Next, the_end, blank, head, plain}
+use Rattle.pb_read.specs.Rows.{field, head_of, is_blank, is_empty}
 use Rattle.pb_read.specs.StandsFor.{most_records}
 use Rattle.pb_read.specs.Voting.{is_among, names_only}
 use Rattle.pb_read.specs.declared.fault.ReadKind.{ReadKind}
@@ -70,5 +70,6 @@ applies kind p next = false
 abbrev pub applies_after : ℕ → Stage × ElectionView → List Fields → ReadKind → Bool
 applies_after done p (next ∷ rest) NotText = not (list_all is_utf8 next)
 applies_after done p (next ∷ rest) TooManyRecords = done == most_records
-applies_after done p (next ∷ rest) kind = applies kind p (next_row (map trim next))
+applies_after done p (next ∷ rest) kind = let row = map trim next in
+    applies kind p (if is_blank row then blank else option_map_or head (head_of row) (plain row))
 applies_after done p [] kind = applies kind p the_end

@@ -3,6 +3,7 @@
 pub mod Checking
 pub mod Drafts
 pub mod Fields
+pub mod Forms
 pub mod Ids
 pub mod Machine
 pub mod MoneyKinds

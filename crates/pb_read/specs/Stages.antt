@@ -1,9 +1,7 @@
 -- How far the rows of a file have come, and what comes next.
-use Rattle.std.specs.Prelude.{◌≡◌, List, [], if◌then◌else◌}
-use Rattle.std.specs.Option.{option_map_or}
+use Rattle.std.specs.Prelude.{◌≡◌, List, []}
 use Rattle.pb_core.specs.Election.{ElectionView}
 use Rattle.pb_rows.specs.Reading.{Fields}
-use Rattle.pb_read.specs.Rows.{head_of, is_blank}
 use Rattle.pb_read.specs.StandsFor.{EndsIn, GivesAll, GivesAllButVoters, IsMeta}
 use Rattle.pb_read.specs.declared.progress.Stage.{Stage}
 use Rattle.pb_read.specs.declared.progress.Stage.TheVariants.{Start, Header, InMeta, InProjects, InVotes}
@@ -24,6 +22,3 @@ pub data Next : Type 0 where
   blank : Next
   head : Section → Next
   plain : Fields → Next
-
-abbrev pub next_row : Fields → Next
-next_row row = if is_blank row then blank else option_map_or head (head_of row) (plain row)

@@ -43,14 +43,12 @@ IsMeta meta rows =
     (header : Fields) × (body : List Fields) × EndsIn (λ front. front ≡ []) section.Meta (header ∷ body) rows
     × (meta ≡ meta_of body)
 
--- what META says of an election: its budget, approval as the vote type, and its limit
-abbrev pub meta_for : ElectionView → Meta
-meta_for e = record { budget = Some (Ok e.budget); approval = Some true; max_length = Ok e.max_length }
-
--- META and PROJECTS of an election, with these columns, and a row for each project
+-- META and PROJECTS of an election, with these columns, and a row for each project; what META says is its budget,
+-- approval as the vote type, and its limit
 abbrev pub GivesAllButVoters : ProjectColumns → ElectionView → List Fields → Type 0
 GivesAllButVoters columns e rows =
-    (header : Fields) × (body : List Fields) × EndsIn (IsMeta (meta_for e)) section.Projects (header ∷ body) rows
+    let said : Meta = record { budget = Some (Ok e.budget); approval = Some true; max_length = Ok e.max_length } in
+    (header : Fields) × (body : List Fields) × EndsIn (IsMeta said) section.Projects (header ∷ body) rows
     × (project_columns header ≡ Some columns) × AllZip (GivesProject columns) body e.projects
 
 -- these, and VOTES, with these columns, and a row for each voter

@@ -3,8 +3,8 @@
 ghost use Rattle.std.specs.Prelude.{◌≡◌, ◌≢◌, ◌==◌, position};
 ghost use Rattle.std.specs.List.{slice_split};
 ghost use Rattle.pb_read.specs.Inner.Ids.{is_unknown};
-ghost use Rattle.pb_read.specs.Inner.Progresses.{IsReady, place_of};
-ghost use Rattle.pb_read.specs.Refusals.{amount_and_id, column_of, earlier_of, piece_of, refusal_of};
+ghost use Rattle.pb_read.specs.Inner.Progresses.{IsReady, amount_column, place_of};
+ghost use Rattle.pb_read.specs.Refusals.{is_of_amount, refusal_of};
 ghost use Rattle.pb_read.specs.declared.fault.ReadKind.TheVariants.{NoMemory};
 
 use crate::column::Column;
@@ -21,85 +21,44 @@ impl Progress {
         requires { fault.kind ≢ NoMemory → IsReady self.now }
         ensures { result ≡ refusal_of (place_of self.now) row.now fault }
     {
-        Refusal {
-            fault,
-            column: column_of(self.stage, fault.kind),
-            piece: self.piece_of(row, fault.kind),
-            earlier: self.earlier_of(row, fault.kind),
-        }
-    }
-
-    /// The place of the piece of a vote that is no project's id, where the fault is about one.
-    fn piece_of(&self, row: &Row, kind: ReadKind) -> Option<usize>
-        requires { kind ≢ NoMemory → IsReady self.now }
-        ensures { result ≡ piece_of kind (place_of self.now) row.now }
-    {
-        match kind {
-            ReadKind::UnknownProject => match self.stage {
-                Stage::InVotes(columns) => {
-                    unknown_piece(&self.draft.project_ids, row.field(columns.vote))
-                }
-                _ => None,
+        match (fault.kind, self.stage) {
+            (ReadKind::VoteType, _) => Refusal::at(fault, Column::Key(MetaKey::VoteType)),
+            (ReadKind::BadLength, _) => Refusal::at(fault, Column::Key(MetaKey::MaxLength)),
+            (ReadKind::EmptyId, Stage::InProjects(_)) => Refusal::at(fault, Column::ProjectId),
+            (ReadKind::EmptyId, Stage::InVotes(_)) => Refusal::at(fault, Column::VoterId),
+            (ReadKind::RepeatedProject, Stage::InProjects(columns)) => Refusal {
+                earlier: self.draft.project_ids.get(row.field(columns.id)),
+                ..Refusal::at(fault, Column::ProjectId)
             },
-            _ => None,
-        }
-    }
-
-    /// The place of the earlier project or voter with the same id, where the fault is about one.
-    fn earlier_of(&self, row: &Row, kind: ReadKind) -> Option<u32>
-        requires { kind ≢ NoMemory → IsReady self.now }
-        ensures { result ≡ earlier_of kind (place_of self.now) row.now }
-    {
-        match kind {
-            ReadKind::RepeatedProject => match self.stage {
-                Stage::InProjects(columns) => self.draft.project_ids.get(row.field(columns.id)),
-                _ => None,
+            (ReadKind::RepeatedVoter, Stage::InVotes(columns)) => Refusal {
+                earlier: self.draft.voter_ids.get(row.field(columns.voter)),
+                ..Refusal::at(fault, Column::VoterId)
             },
-            ReadKind::RepeatedVoter => match self.stage {
-                Stage::InVotes(columns) => self.draft.voter_ids.get(row.field(columns.voter)),
-                _ => None,
+            (ReadKind::UnknownProject, Stage::InVotes(columns)) => Refusal {
+                piece: unknown_piece(&self.draft.project_ids, row.field(columns.vote)),
+                ..Refusal::at(fault, Column::Vote)
             },
-            _ => None,
+            (kind, stage) if is_of_amount(kind) => Refusal::at(fault, amount_column(stage)),
+            _ => Refusal::of(fault),
         }
     }
 }
 
-/// The column of the value that a fault of this kind refuses, of a row that comes at this stage.
-fn column_of(stage: Stage, kind: ReadKind) -> Option<Column>
-    ensures { result ≡ column_of kind stage }
+/// Whether a fault of this kind refuses an amount.
+fn is_of_amount(kind: ReadKind) -> bool
+    ensures { result ≡ is_of_amount kind }
 {
-    match kind {
-        ReadKind::VoteType => Some(Column::Key(MetaKey::VoteType)),
-        ReadKind::BadLength => Some(Column::Key(MetaKey::MaxLength)),
-        ReadKind::BadMoney
-        | ReadKind::MoneyTooFine
-        | ReadKind::MoneyTooLarge
-        | ReadKind::ZeroCost => Some(amount_column(stage)),
-        ReadKind::EmptyId | ReadKind::RepeatedProject | ReadKind::RepeatedVoter => {
-            Some(id_column(stage))
-        }
-        ReadKind::UnknownProject => Some(Column::Vote),
-        _ => None,
-    }
+    let number = kind.number();
+    11 <= number && number <= 14
 }
 
 /// The column of an amount: META's budget at the end of META, and otherwise a project's cost.
 fn amount_column(stage: Stage) -> Column
-    ensures { result ≡ (amount_and_id stage).0 }
+    ensures { result ≡ amount_column stage }
 {
     match stage {
         Stage::InMeta(_) => Column::Key(MetaKey::Budget),
         _ => Column::Cost,
-    }
-}
-
-/// The column of an id: in VOTES a voter's, and otherwise a project's.
-fn id_column(stage: Stage) -> Column
-    ensures { result ≡ (amount_and_id stage).1 }
-{
-    match stage {
-        Stage::InVotes(_) => Column::VoterId,
-        _ => Column::ProjectId,
     }
 }
 

@@ -1,8 +1,9 @@
 //! How far a file was read.
 
 ghost use Rattle.std.specs.Prelude.{◌≡◌, ◌≢◌, None, false, Some, IfErr, OnOk, MatchResult};
+ghost use Rattle.pb_read.specs.Inner.Forms.{next_row};
 ghost use Rattle.pb_read.specs.Listed.{is_of_row, leaves_out};
-ghost use Rattle.pb_read.specs.Stages.{head, next_row, plain, the_end};
+ghost use Rattle.pb_read.specs.Stages.{head, plain, the_end};
 ghost use Rattle.pb_core.specs.Inner.Terms.{opening};
 ghost use Rattle.pb_read.specs.Inner.Machine.{meta_checks, terms_said};
 ghost use Rattle.pb_read.specs.Inner.Progresses.{Advances, EndsWith, IsOfNoValue, IsRead, IsReady, Refuses};

@@ -32,4 +32,16 @@ impl Refusal {
             earlier: None,
         }
     }
+
+    /// A refusal of the value in this column.
+    pub(crate) fn at(fault: ReadFault, column: Column) -> Refusal
+        ensures { result ≡ record { fault = fault; column = Some column; piece = None; earlier = None } }
+    {
+        Refusal {
+            fault,
+            column: Some(column),
+            piece: None,
+            earlier: None,
+        }
+    }
 }

@@ -6,11 +6,12 @@ use Rattle.pb_core.specs.Election.{ElectionView}
 use Rattle.pb_rows.specs.Reading.{Fields, IsNext}
 use Rattle.pb_rows.specs.declared.fault.RecordsFault.{RecordsFault}
 use Rattle.pb_rows.specs.declared.fault.RecordsFault.TheVariants as stop
+use Rattle.pb_read.specs.Inner.Forms.{next_row}
 use Rattle.pb_read.specs.FirstFault.{IsFaultAt}
 use Rattle.pb_read.specs.Listed.{AreListed, IsLeftOut, leaves_out}
 use Rattle.pb_read.specs.Inner.Machine.{Position, advance, lowest_kind, row_fault}
 use Rattle.pb_read.specs.Inner.Progresses.{BlamesReader, EndsWith}
-use Rattle.pb_read.specs.Stages.{next_row, the_end}
+use Rattle.pb_read.specs.Stages.{the_end}
 use Rattle.pb_read.specs.StandsFor.{StandsFor, most_records}
 use Rattle.pb_read.specs.Inner.Tracking.{IsNextRow, Tracks}
 use Rattle.pb_read.specs.declared.check.Refused.{Refused}

@@ -14,6 +14,7 @@ use Rattle.pb_core.specs.Money.{money_of}
 use Rattle.pb_core.specs.declared.money_fault.MoneyFault.{MoneyFault}
 use Rattle.pb_core.specs.declared.terms.Terms.{Terms}
 use Rattle.pb_rows.specs.Reading.{Fields}
+use Rattle.pb_read.specs.Inner.Forms.{next_row}
 use Rattle.pb_read.specs.Inner.Fields.{name_field, trimmed}
 use Rattle.pb_read.specs.Columns.{project_columns, vote_columns, has_fields}
 use Rattle.pb_read.specs.Faults.{applies}
@@ -21,7 +22,7 @@ use Rattle.pb_read.specs.Inner.MoneyKinds.{kind_of_money}
 use Rattle.pb_read.specs.Lengths.{max_length_of}
 use Rattle.pb_read.specs.MetaKeys.{key_of}
 use Rattle.pb_read.specs.MetaRows.{meta_of}
-use Rattle.pb_read.specs.Stages.{Next, head, plain, the_end, next_row}
+use Rattle.pb_read.specs.Stages.{Next, head, plain, the_end}
 use Rattle.pb_read.specs.Rows.{field, is_empty, is_word}
 use Rattle.pb_read.specs.Inner.Opening.{empty}
 use Rattle.pb_read.specs.StandsFor.{most_records}

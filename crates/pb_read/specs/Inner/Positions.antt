@@ -3,8 +3,9 @@ use Rattle.std.specs.Prelude.{◌≡◌, List, []}
 use Rattle.pb_core.specs.Election.{ElectionView}
 use Rattle.pb_core.specs.Inner.Terms.{opening, terms_of}
 use Rattle.pb_rows.specs.Reading.{Fields}
+use Rattle.pb_read.specs.Inner.Forms.{meta_for}
 use Rattle.pb_read.specs.Inner.Opening.{empty}
-use Rattle.pb_read.specs.StandsFor.{EndsIn, GivesAll, GivesAllButVoters, IsMeta, meta_for}
+use Rattle.pb_read.specs.StandsFor.{EndsIn, GivesAll, GivesAllButVoters, IsMeta}
 use Rattle.pb_read.specs.declared.columns.ProjectColumns.{ProjectColumns}
 use Rattle.pb_read.specs.declared.progress.Stage.{Stage}
 use Rattle.pb_read.specs.declared.progress.Stage.TheVariants.{Start, Header, InMeta, InProjects, InVotes}

@@ -13,7 +13,10 @@ use Rattle.pb_read.specs.Inner.Drafts.{IsTied}
 use Rattle.pb_read.specs.Inner.Machine.{Explains, Position, advance, row_fault}
 use Rattle.pb_read.specs.Refusals.{refusal_of}
 use Rattle.pb_read.specs.Stages.{Next}
+use Rattle.pb_read.specs.declared.column.Column.{Column}
+use Rattle.pb_read.specs.declared.column.Column.TheVariants.{Key, Cost}
 use Rattle.pb_read.specs.declared.columns.VoteColumns.{VoteColumns}
+use Rattle.pb_read.specs.declared.meta_key.MetaKey.TheVariants as key
 use Rattle.pb_read.specs.declared.progress.Progress.{Progress}
 use Rattle.pb_read.specs.declared.progress.Stage.{Stage}
 use Rattle.pb_read.specs.declared.refusal.Refusal.{Refusal}
@@ -57,6 +60,11 @@ no_value fault = record { fault = fault; column = None; piece = None; earlier = 
 abbrev pub IsOfNoValue : ReadKind → Type 0
 IsOfNoValue kind = (p : Position) (row : Fields) (at : ℕ) →
     refusal_of p row (record { kind = kind; at = at }) ≡ no_value (record { kind = kind; at = at })
+
+-- the column of an amount that is refused at this stage: at the end of META its budget, else a project's cost
+abbrev pub amount_column : Stage → Column
+amount_column (InMeta meta) = Key key.Budget
+amount_column stage = Cost
 
 -- a file may end here, with this election
 abbrev pub EndsWith : Position → ElectionView → Type 0

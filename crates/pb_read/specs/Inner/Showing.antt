@@ -2,12 +2,12 @@
 use Rattle.std.specs.Prelude.{◌≡◌, ℕ, ⊤, Bool, true, false, List, [], ◌∷◌, ◌++◌, length, map, Option, Some, None, Result, Ok, Err, IfSome}
 use Rattle.std.specs.Str.{trim}
 use Rattle.pb_rows.specs.Reading.{Fields}
+use Rattle.pb_read.specs.Inner.Forms.{next_row}
 use Rattle.pb_read.specs.Inner.Fields.{record_after}
 use Rattle.pb_read.specs.Inner.Machine.{Position, advance, row_fault}
 use Rattle.pb_read.specs.Inner.Tracking.{IsNextRow, Reached}
 use Rattle.pb_read.specs.Refusals.{refusal_of}
 use Rattle.pb_read.specs.Shown.{AreShown, IsAll, Sight, WereShown, faults_of, kept, refused, seen}
-use Rattle.pb_read.specs.Stages.{next_row}
 use Rattle.pb_read.specs.declared.check.Refused.{Refused}
 use Rattle.pb_read.specs.declared.check.Verdict.{Verdict}
 use Rattle.pb_read.specs.declared.check.Verdict.TheVariants.{Passes, LeavesOut, Ends, Done}

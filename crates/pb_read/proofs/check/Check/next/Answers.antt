@@ -1,5 +1,5 @@
 use Rattle.std.proofs.Common.{refl}
-use Rattle.pb_read.proofs.Blaming.{next_shown, no_value_next}
+use Rattle.pb_read.proofs.Blaming.{next_shown, no_value_next, of_no_memory, of_no_text, of_read_failed}
 use Rattle.pb_read.proofs.Checks.{no_text_judged, text_judged}
 use Rattle.pb_read.proofs.Showing.{text_shown}
 use Rattle.pb_read.specs.Inner.Progresses.{place_of}
@@ -27,13 +27,13 @@ pub returns-in-Ok-NoText-clause-shown : goal.returns-in-Ok-NoText-clause-shown
 returns-in-Ok-NoText-clause-shown g c =
     let at = place_of c.args.self.now.progress in
     let left = c.args.records.now.left in
-    next_shown left c.read_any.new.records.left c.args.at at at _ _ c.args.self.now.progress.stage kinds.NotText c.refused_by.result c.refused_by.ensures (no_value_next left c.args.at at kinds.NotText _ _ c.of-refusal.result (λ p row at. refl) c.of-refusal.ensures c.refuse.ensures.shown)
+    next_shown left c.read_any.new.records.left c.args.at at at _ _ c.args.self.now.progress.stage kinds.NotText c.refused_by.result c.refused_by.ensures (no_value_next left c.args.at at kinds.NotText _ _ c.of-refusal.result of_no_text c.of-refusal.ensures c.refuse.ensures.shown)
 
 pub returns-after-stopped-clause-shown : goal.returns-after-stopped-clause-shown
 returns-after-stopped-clause-shown g c =
     let at = place_of c.args.self.now.progress in
     let left = c.args.records.now.left in
     no_value_next left c.args.at at c.match-stopped.kind _ _ c.of-refusal-in-Err.result (elim c.match-stopped.branch [
-      | in-NoMemory w ↦ rw w.kind-is (λ p row at. refl)
-      | in-ReadFailed w ↦ rw w.kind-is (λ p row at. refl)
+      | in-NoMemory w ↦ rw w.kind-is of_no_memory
+      | in-ReadFailed w ↦ rw w.kind-is of_read_failed
     ]) c.of-refusal-in-Err.ensures c.refuse-in-Err.ensures.shown
