@@ -78,8 +78,10 @@ PINNED = {
     ("pb_rounds", "MostVotes", "comes_first"): ("pb_rounds", "tests_of_most_votes_are_their_words"),
     ("pb_rounds", "MostVotes", "fits"): ("pb_rounds", "tests_of_most_votes_are_their_words"),
     ("pb_rounds", "MostVotes", "is_taken"): ("pb_rounds", "tests_of_most_votes_are_their_words"),
+    ("pb_rounds", "TieOrder", "by_file"): ("pb_rounds", "ties_have_one_order"),
     ("pb_desk", "Rows", "rows_from"): ("pb_desk", "rows_are_those_of_entries"),
     ("pb_export", "Export", "is_of_file"): ("pb_export", "files_are_so"),
+    ("pb_page", "Markup", "written"): ("pb_page", "texts_stay_texts"),
     ("pb_page", "Amount", "grouped"): ("pb_page", "digits_stand_in_threes"),
     ("pb_page", "Amount", "shown"): ("pb_page", "amounts_stand_by_digits"),
     ("pb_reasons", "BesideVotes", "elected_by_votes"): ("pb_reasons", "most_votes_is_its_rule"),
@@ -99,6 +101,7 @@ PINNED = {
     ("pb_reasons", "Fairness", "needed"): ("pb_reasons", "rows_of_fairness_are_their_words"),
     ("pb_reasons", "Fairness", "spent"): ("pb_reasons", "rows_of_fairness_are_their_words"),
     ("pb_desk", "Replay", "replay"): ("pb_commands", "replay_is_its_steps"),
+    ("pb_script", "Admission", "open_to_all"): ("pb_script", "open_to_all_admits_all_rows"),
     ("pb_script", "ScriptFault", "at_row"): ("pb_commands", "rows_of_script_faults_are_their_words"),
     ("pb_commands", "Ballots", "last_given"): ("pb_commands", "ballots_name_their_entries"),
 }

@@ -241,6 +241,7 @@ impl Carried {
 impl Watch for Carried {
     /// Unless memory is refused, a row of PROJECTS adds a row: its own fields in the further columns, as many of
     /// them as it has. No other record adds or changes one, and the columns are those of the row of column names.
+    /// Where memory was refused once, what is kept is never whole again.
     fn see(&mut self, record: &ByteRecord, _at: u32, part: Part, _election: &Election)
         ensures row { (columns : ProjectColumns) → part ≡ Project columns → AllText (fields_of record.now)
             → self.new.is_whole ≡ true → self.new.further.projects.items ≡ self.old.further.projects.items
@@ -254,15 +255,20 @@ impl Watch for Carried {
         ensures columns { part ≢ Names Projects → self.new.is_whole ≡ true
             → (self.new.of_projects.items ≡ self.old.of_projects.items)
             × (self.new.further.project_names ≡ self.old.further.project_names) }
+        ensures whole { self.new.is_whole ≡ true → self.old.is_whole ≡ true }
     {
         if self.is_whole && self.keep(record, part).is_err() {
             self.is_whole = false;
         }
     }
 
-    fn refuse(&mut self, _record: &ByteRecord, _refusal: Refusal, _stage: &Stage) {}
+    fn refuse(&mut self, _record: &ByteRecord, _refusal: Refusal, _stage: &Stage)
+        ensures { self.new ≡ self.old }
+    {}
 
-    fn end(&mut self, _election: &Election) {}
+    fn end(&mut self, _election: &Election)
+        ensures { self.new ≡ self.old }
+    {}
 }
 
 /// The places of the columns in a row of column names whose names are not these, and did not come before.

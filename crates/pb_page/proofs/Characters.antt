@@ -72,3 +72,16 @@ each_stands c = elim (is_written c) [
   | plain other is ↦ inl (λ e. true≢false (sym (eq-eqb c 38 e) ∙ (or_parts (c == 38) (is_mark c) other).0), append-nil (character c) ∙ is)
   | numbered small is ↦ inr (append-nil (character c) ∙ is)
 ]
+
+-- each that is none of these stands as itself
+pub plain_stands : (c : ℕ) → 32 ≤ c → All (λ special. c ≢ special) (34 ∷ 38 ∷ 39 ∷ 60 ∷ 62 ∷ 127 ∷ []) → written (c ∷ []) ≡ c ∷ []
+plain_stands c above others =
+    let quote : c == 34 ≡ false = ne_eqb c 34 (others 0 0 (omega arith)) in
+    let and : c == 38 ≡ false = ne_eqb c 38 (others 1 0 (omega arith)) in
+    let single : c == 39 ≡ false = ne_eqb c 39 (others 2 0 (omega arith)) in
+    let less : c == 60 ≡ false = ne_eqb c 60 (others 3 0 (omega arith)) in
+    let more : c == 62 ≡ false = ne_eqb c 62 (others 4 0 (omega arith)) in
+    let last : c == 127 ≡ false = ne_eqb c 127 (others 5 0 (omega arith)) in
+    let none : is_special c ≡ false = rw (and, less, more, quote, single, last, le-ltb c 32 above) refl in
+    let is : character c ≡ c ∷ [] = rw none refl in
+    append-nil (character c) ∙ is

@@ -3,8 +3,9 @@
 //! While pb_read reads a .pb file, a `Witness` looks on and keeps what words need of what is refused;
 //! `Warnings` collect what is accepted and probably not meant.
 //! After a run has failed, a text that is a file is looked at again: where a record begins, which quotation
-//! mark is open, what the proved desk answers. Nothing but that each call returns is proved of this, and no
-//! result can change by it but by `--strict`, which refuses a file for a warning.
+//! mark is open, what the proved desk answers. Nothing but that each call returns is proved of this, apart from
+//! the categories that `PageNotes` keeps, and no result can change by it but by `--strict`, which refuses a file
+//! for a warning.
 #![tactic(auto)]
 
 mod approvals;

@@ -11,7 +11,8 @@ ghost use Rattle.pb_page.specs.declared.markup.form.Form.{Form};
 /// A text as it stands in a page never ends the attribute that it stands in, whichever of the two quotes (34,
 /// 39) ends that, opens no tag (60) and closes none (62), and has no control character of ASCII. Each of its
 /// characters stands as itself or as its number, which HTML reads as that character; and as an `&` (38) stands
-/// as its number, each `&` that stands there begins a number. So a text is read as it was.
+/// as its number, each `&` that stands there begins a number. So a text is read as it was. All other characters
+/// stand as themselves.
 pub fn texts_stay_texts()
     ensures attribute { (quote : ℕ) (text after : List ℕ) → (quote ≡ 34) ⊎ (quote ≡ 39)
         → before_first (λ c. c == quote) (written text ++ quote ∷ after) ≡ written text }
@@ -19,6 +20,8 @@ pub fn texts_stay_texts()
     ensures control { (text : List ℕ) → All (λ c. (32 ≤ c) × (c ≢ 127)) (written text) }
     ensures each { (c : ℕ) → ((c ≢ 38) × (written (c ∷ []) ≡ c ∷ []))
         ⊎ (written (c ∷ []) ≡ codes "&#" ++ (decimal c ++ codes ";")) }
+    ensures plain { (c : ℕ) → 32 ≤ c → All (λ special. c ≢ special) (34 ∷ 38 ∷ 39 ∷ 60 ∷ 62 ∷ 127 ∷ [])
+        → written (c ∷ []) ≡ c ∷ [] }
     ensures joined { (one other : List ℕ) → written (one ++ other) ≡ written one ++ written other }
 {}
 

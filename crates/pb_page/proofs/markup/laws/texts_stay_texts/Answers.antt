@@ -1,6 +1,6 @@
 use Rattle.std.proofs.lemmas.Grind.{flat_map-append}
 use Rattle.pb_page.specs.Markup.{character}
-use Rattle.pb_page.proofs.Characters.{each_stands}
+use Rattle.pb_page.proofs.Characters.{each_stands, plain_stands}
 use Rattle.pb_page.proofs.Ends.{attributes_hold, no_control, no_tags}
 use Rattle.pb_page.proofs.markup.laws.texts_stay_texts.Goals as goal
 
@@ -15,6 +15,9 @@ returns-clause-control c = no_control
 
 pub returns-clause-each : goal.returns-clause-each
 returns-clause-each c = each_stands
+
+pub returns-clause-plain : goal.returns-clause-plain
+returns-clause-plain c = plain_stands
 
 pub returns-clause-joined : goal.returns-clause-joined
 returns-clause-joined c = flat_map-append character
