@@ -87,6 +87,10 @@ struct VoteColumn {
     /// letters.
     has_none: bool,
     are_further: bool,
+    /// The first row with several ids in it, measured by how many there are; and the project that the votes of all of
+    /// these name alone, if it is one.
+    list: Option<Odd>,
+    only: Option<u32>,
 }
 
 /// The columns of VOTES, of which those behind the vote may hold votes.
@@ -204,7 +208,7 @@ impl BehindVote {
         let mut all: Vec<Odd> = Vec::new(alloc);
         for column in &self.columns {
             if let Some(odd) = column.odd.filter(|odd| column.holds_votes(odd)) {
-                all.push(odd)?;
+                all.push(column.exchanged().unwrap_or(odd))?;
             }
         }
         if let Some(odd) = self.beyond.odd {
@@ -270,6 +274,8 @@ impl VoteColumn {
             others: 0,
             has_none: false,
             are_further: !is_of_voters,
+            list: None,
+            only: None,
         }
     }
 
@@ -277,6 +283,22 @@ impl VoteColumn {
     fn holds_votes(&self, odd: &Odd) -> bool {
         let is_further = self.are_further && self.has_none && odd.number > 1;
         self.is_open && (self.is_shown || is_further)
+    }
+
+    /// Takes a row with several ids in the column, and this ballot.
+    fn take_list(&mut self, ballot: &[u32], odd: Odd) {
+        let only = match ballot {
+            [place] => Some(*place),
+            _ => None,
+        };
+        self.only = only.filter(|_| self.list.is_none() || self.only == only);
+        self.list = Some(odd.in_form(5).behind(self.list));
+    }
+
+    /// The first row with several ids in the column, if the votes of all such rows, two or more, are one and the same id: then it
+    /// and the vote may be exchanged there.
+    fn exchanged(&self) -> Option<Odd> {
+        self.list.filter(|odd| odd.number > 1 && self.only.is_some() && self.is_named)
     }
 
     /// Takes a value that says whether the vote names the project of the column, if it is one; answers whether it is.
@@ -321,6 +343,9 @@ impl VoteColumn {
         }
         let first = odd.behind(self.odd);
         self.odd = Some(first);
+        if value.contains(',') {
+            self.take_list(ballot, odd);
+        }
         let is_list = is_list(value) && (!self.is_of_voters || self.is_of_persons);
         self.is_shown |= value.contains(',') || is_list;
         self.is_open = self.is_shown || first.number < MOST_SINGLE;

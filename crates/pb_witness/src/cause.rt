@@ -386,7 +386,7 @@ pub(crate) fn are_shifted(witness: &Witness, projects: &Projects) -> bool {
 }
 
 /// Whether an id has the number behind that of another one, or the letter.
-pub(crate) fn comes_next(id: &str, before: &str) -> bool {
+pub fn comes_next(id: &str, before: &str) -> bool {
     let ((front, number), (other_front, other)) = (order_of(id), order_of(before));
     front == other_front && number == other.saturating_add(1)
 }

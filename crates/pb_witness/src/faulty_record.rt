@@ -170,6 +170,11 @@ impl FaultyRecord {
         Ok(None)
     }
 
+    /// Whether it has a code of two bytes for a letter, as the source of an e-mail has.
+    pub fn is_of_mail(&self) -> bool {
+        self.has(has_code)
+    }
+
     /// Whether it is a mark of a merge conflict, between two versions of some rows.
     pub fn is_conflict(&self) -> bool {
         let line = text_at(&self.record, 0);
@@ -422,4 +427,19 @@ pub fn is_hidden(code: u32) -> bool {
 /// Whether a text has no such character but line ends.
 pub fn is_plain(text: &str) -> bool {
     !text.contains(|c: char| c != '\n' && is_hidden(u32::from(c)))
+}
+
+/// Whether a text has a code of two bytes for a letter, such as `=C3=A9`.
+fn has_code(text: &str) -> bool {
+    let mut parts = text.split('=');
+    let _ = parts.next();
+    let mut is_begun = false;
+    for part in parts {
+        let bytes = part.as_bytes();
+        if is_begun && matches!(bytes.first(), Some(b'8' | b'9' | b'A' | b'B')) {
+            return true;
+        }
+        is_begun = matches!(bytes, [b'C'..=b'E', _]);
+    }
+    false
 }

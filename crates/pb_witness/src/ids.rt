@@ -117,7 +117,7 @@ impl Ids {
     }
 
     /// Whether a piece of a text names a project.
-    pub(crate) fn have_one(&self, vote: &str) -> bool {
+    pub fn have_one(&self, vote: &str) -> bool {
         vote.split(',').any(|piece| self.projects.has(piece.trim()))
     }
 

@@ -177,6 +177,7 @@ impl ProjectOddities {
         found: &mut Oddities,
     ) -> Result<(), AllocError> {
         self.take_total(election, found);
+        self.take_answer(election, found);
         let compares = self.votes.is_some() && !has_fault;
         let approvals = Approvals::of(self.alloc, election)?;
         let supporters = approvals.all.as_slice();
@@ -223,6 +224,22 @@ impl ProjectOddities {
             differ = differ.saturating_add(u64::from(votes != *number));
         }
         said == sum && differ > 2
+    }
+
+    /// Takes the project that costs less than 1, and less than a thousandth of each other one, as an answer such as `none of
+    /// these` that needed a cost.
+    fn take_answer(&self, election: &Election, found: &mut Oddities) {
+        let (mut least, mut next, mut cheapest) = (u64::MAX, u64::MAX, None);
+        for (row, project) in self.accepted.iter().zip(election.projects()) {
+            let cost = project.cost().0;
+            if cost < least {
+                (next, least, cheapest) = (least, cost, Some(row.odd));
+            } else {
+                next = next.min(cost);
+            }
+        }
+        let is_so = self.accepted.len() > 2 && least < 100 && least.saturating_mul(1_000) < next;
+        found.take_some(cheapest.filter(|_| is_so).map(|odd| odd.in_form(6)));
     }
 
     /// Takes the first or the last row if it is probably a total.

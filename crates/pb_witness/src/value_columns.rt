@@ -1,6 +1,6 @@
 //! Columns of PROJECTS whose values votes may name in place of the ids.
 
-use crate::changed::{has_one_of, has_word};
+use crate::changed::{has_one_of, has_word, is_digits};
 use crate::columns::MOST_COLUMNS;
 use crate::meta_oddities::whole_number;
 use crate::prelude::*;
@@ -104,7 +104,8 @@ impl ValueColumns {
     }
 
     /// Takes the end of the file, in which so many ballots approve each project. A column is odd that has each id
-    /// that votes name, if nobody approves some projects; or all ids, in another order, and not the rows' numbers;
+    /// that votes name, if nobody approves some projects; or all ids, in another order, and not the rows' numbers (under a
+    /// name that may be of ids, or if they are not of digits alone);
     /// or whose different amounts, by its name of budgets, are together the budget.
     pub(crate) fn end(&self, election: &Election, supporters: &[u64], found: &mut Oddities) {
         let all = supporters.len();
@@ -113,6 +114,8 @@ impl ValueColumns {
             return;
         }
         let budget = election.budget().0;
+        let mut ids = election.projects().iter();
+        let are_words = ids.any(|project| !is_digits(project.id()));
         for column in &self.columns {
             let may_be = column.may_be_budgets && budget > 0;
             let are_parts = may_be && column.count > 1 && column.count < all;
@@ -121,7 +124,8 @@ impl ValueColumns {
             let has = |id: &str| column.values.get(id).is_some();
             let has_all = rows.all(|(project, count)| (without > 0 && *count == 0)
                 || has(project.id()));
-            let is_order = column.may_be_ids && column.count == all && column.other > 0;
+            let may_be = column.may_be_ids || are_words;
+            let is_order = may_be && column.count == all && column.other > 0;
             let is_number = column.numbered == all && !column.is_of_ballot;
             let odd = Odd::of_column(Oddity::RepeatedColumn, self.header, column.place);
             if has_all && without > 0 {

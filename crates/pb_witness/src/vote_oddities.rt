@@ -4,14 +4,19 @@ use crate::behind_vote::{BehindVote, names_other};
 use crate::beside_vote::BesideVote;
 use crate::changed::{form_of, has_digit, has_one_of, is_digits, without_hidden};
 use crate::columns::FurtherColumns;
+use crate::copies::Copies;
 use crate::fields::{count_of, has_byte};
 use crate::last_vote::LastVote;
 use crate::meta_oddities::whole_number;
 use crate::names_row::NamesRow;
+use crate::parts::Parts;
+use crate::phones::Phones;
 use crate::prelude::*;
 use crate::project_oddities::has_total;
+use crate::proxies::Proxies;
 use crate::rankings::Rankings;
 use crate::rows::VoteRows;
+use crate::runs::Runs;
 use crate::unread::Unread;
 use crate::voter_lists::ends_in_projects;
 
@@ -36,6 +41,11 @@ pub(crate) struct VoteOddities {
     behind: BehindVote,
     beside: BesideVote,
     unread: Unread,
+    runs: Runs,
+    copies: Copies,
+    parts: Parts,
+    phones: Phones,
+    proxies: Proxies,
     /// The voters whose ids have a character at an end that can't be seen, or are e-mail addresses with capital letters:
     /// the place among all, and the row.
     marked: Vec<(u32, Mark)>,
@@ -72,6 +82,11 @@ impl VoteOddities {
             behind: BehindVote::of(alloc, names, header, projects)?,
             beside: BesideVote::of(alloc, names, header)?,
             unread: Unread::of(alloc, names, header)?,
+            runs: Runs::new(alloc),
+            copies: Copies::new(alloc),
+            parts: Parts::new(alloc),
+            phones: Phones::new(alloc),
+            proxies: Proxies::of(alloc, names, header)?,
             marked: Vec::new(alloc),
             last_row: None,
             empty: 0,
@@ -106,7 +121,8 @@ impl VoteOddities {
         if self.unread.are_open {
             self.unread.take(row);
         }
-        self.take_id(row, id)?;
+        self.take_id(row, id, found)?;
+        self.take_others(row, id)?;
         let is_long = row.record.len() > self.names;
         if is_long {
             self.take_surplus(row, found);
@@ -120,14 +136,43 @@ impl VoteOddities {
         Ok(())
     }
 
+    /// Takes what a row shows that follows another one, or belongs to it, or to a voter without a row.
+    fn take_others(&mut self, row: &Row<'_>, id: &[u8]) -> Result<(), AllocError> {
+        self.runs.take(row)?;
+        if self.copies.is_open() {
+            self.copies.take(row, id)?;
+        }
+        let ends_in_digit = id.last().is_some_and(|byte| byte.is_ascii_digit());
+        if !ends_in_digit || row.ballot().is_empty() {
+            self.parts.take(row, id)?;
+        }
+        if matches!(id.first(), Some(b'+' | b'0')) {
+            self.phones.take(row, id)?;
+        }
+        if self.proxies.are_open {
+            self.proxies.take(row)?;
+        }
+        Ok(())
+    }
+
     /// Takes the id of a row, which may be that of another row, of several voters, or of none.
-    fn take_id(&mut self, row: &Row<'_>, id: &[u8]) -> Result<(), AllocError> {
+    fn take_id(
+        &mut self,
+        row: &Row<'_>,
+        id: &[u8],
+        found: &mut Oddities,
+    ) -> Result<(), AllocError> {
         let is_plain = is_plain_end(id.first()) && is_plain_end(id.last());
         let is_address = has_byte(id, b'@') && has_capital(row.id());
         if is_address || (!is_plain && is_marked(row.id())) {
             let voters = row.election.voters().len().saturating_sub(1);
             let place = u32::try_from(voters).unwrap_or(u32::MAX);
             self.marked.push((place, row.mark))?;
+        }
+        if !is_plain && id.len() > 1 && is_of_signs(id) {
+            let odd = row.odd(Oddity::NoteRows).in_form(8);
+            found.take(odd.at(odd.id_place));
+            return Ok(());
         }
         let is_begun = matches!(id.first(), Some(b'#' | b'/'));
         if is_begun && (id.starts_with(b"#") || id.starts_with(b"//")) {
@@ -235,11 +280,30 @@ impl VoteOddities {
             let odd = Odd::of_column(Oddity::VotesWithPoints, self.header, odd.value_place);
             found.take(odd.in_form(1).by(projects));
         }
+        self.end_others(election, (rows, last), found)?;
         self.first_row.end(found);
         self.further.end(found);
         self.behind.end(self.alloc, &self.beside, found)?;
         self.unread.end(found)?;
         self.take_marked(election, found)
+    }
+
+    /// Takes what rows show that follow each other, or belong to others; the last is odd so.
+    fn end_others(
+        &self,
+        election: &Election,
+        (rows, last): (&VoteRows, Option<Odd>),
+        found: &mut Oddities,
+    ) -> Result<(), AllocError> {
+        self.runs.end(found);
+        self.copies.end(last, found)?;
+        let first = match (last, rows.first) {
+            (Some(odd), Some(mark)) => Some(Odd { mark, ..odd }),
+            _ => None,
+        };
+        self.parts.end(election, first, found)?;
+        self.phones.end(election, found)?;
+        self.proxies.end(election, found)
     }
 
     /// Takes the rows without a vote that are probably no voters.
@@ -362,6 +426,11 @@ fn is_plain_end(byte: Option<&u8>) -> bool {
         Some(byte) => byte.is_ascii_alphanumeric(),
         None => true,
     }
+}
+
+/// Whether bytes are signs of ASCII alone.
+fn is_of_signs(bytes: &[u8]) -> bool {
+    bytes.iter().all(|byte| byte.is_ascii_punctuation())
 }
 
 /// Whether an id has a character at an end that can't be seen, and is not of ASCII.

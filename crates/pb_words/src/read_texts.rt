@@ -53,7 +53,8 @@ If this budget would pay for the project, write the amount. If others pay, it is
 First compare a few rows with the original: a column may have slid down by one cell. Fill in the id only if the \
     row is a project or a ballot of its own. If it is a part of the row above, join them. {}\n",
     "an earlier row has the same project id.
-Find out whether the rows are one project or two. Two projects need two ids, also in the votes; if a program made \
+Find out whether the rows are one project or two. Two projects need two ids, also in the votes (by \
+    the ballots, since a vote for this id may mean either project, or both); if a program made \
     their ids the same (1.10 and 1.1), get both tables again. One project needs one row, with the cost that is valid, or the sum if the rows \
     are parts of it.\n",
     "an earlier row has the same voter id.

@@ -79,6 +79,10 @@ fn put_each_fault<'c, R: Files>(
     let can_be_read = text.is_file();
     let mut names_row = false;
     let mut told = [false; MANY_CAUSES];
+    if let Some(faulty) = known.witness.refused.iter().find(|it| it.is_of_mail()) {
+        let _ = put_mark(out, text, faulty.mark);
+        return out.put(MAIL);
+    }
     for (place, fault) in faults.iter().enumerate() {
         let refused = known.witness.refused.get(place);
         let Some(faulty) = refused.filter(|it| it.refusal.fault == *fault) else {
@@ -108,6 +112,10 @@ fn put_each_fault<'c, R: Files>(
         );
     }
 }
+
+/// What is said of a file that is the source of an e-mail.
+const MAIL: &str =
+    ": codes such as `=C3=A9` stand for letters: this is the source of an e-mail, in which a `=` at the end of a line cuts it.\nSave the attachment itself, and don't correct the rows.\n";
 
 /// How many causes there are of which words are put once: those of repeated ids, marks of conflicts, and a row that is meant
 /// as a head.

@@ -15,6 +15,9 @@ use pb_witness::fields::{JoinedBy, column_of};
 use pb_witness::heads::{head_of, section_of};
 use pb_witness::quote::{Span, span_of};
 
+/// What begins and ends a part of a text that programs leave out.
+const PARTS: [(&str, &str); 3] = [("/*", "*/"), ("<!--", "-->"), ("(*", "*)")];
+
 impl<R: Files> Case<'_, R> {
     /// Puts what is wrong with a record, or with the values of META before it, and what to do; answers
     /// whether it was found.
@@ -253,12 +256,39 @@ impl<R: Files> Case<'_, R> {
             )
         } else if let Some(place) = self.moved_vote() {
             self.put_moved(out, self.faulty, place)
+        } else if self.is_of_signs() {
+            self.put_signs(out)
         } else if let Some(words) = self.short_words() {
             put_rule(out, words)
         } else {
             return false;
         }
         true
+    }
+
+    /// Whether it is a short row of one field that has only signs.
+    fn is_of_signs(&self) -> bool {
+        let text = self.faulty.at(0);
+        let is_sign = |c: char| c.is_ascii_punctuation();
+        let is_kind = self.faulty.kind() == ReadKind::MissingField;
+        let is_one = self.faulty.record.len() == 1 && !text.is_empty();
+        is_kind && is_one && text.chars().all(is_sign)
+    }
+
+    /// Puts what to do about a line that has only signs, which may say that other rows do not count.
+    fn put_signs(&self, out: &mut WordsWriter) {
+        let ends = PARTS.iter().find(|(begin, _)| *begin == self.faulty.at(0));
+        let end = ends.map_or("", |(_, end)| *end);
+        let is_end = |row: &ByteRecord| !end.is_empty() && text_at(row, 0) == end;
+        match self.text.find(self.faulty.mark, is_end) {
+            Some((_, mark)) => out.fill(
+                "This and `{}` on line {} may say that the rows between them do not count. Ask whoever made the file. If so, delete these rows and the two lines. If not, delete the two lines alone.\n",
+                &[Own(end), Number(line_of(self.text, mark))],
+            ),
+            None => out.put(
+                "Such signs may say of rows above or below that they do not count. Ask whoever made the file before you delete the line. If they say so, delete these rows too.\n",
+            ),
+        }
     }
 
     /// The place of a field behind the id of a short row of VOTES that names projects, and is no vote there.

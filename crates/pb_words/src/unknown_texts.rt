@@ -27,6 +27,18 @@ pub(crate) const ODD_LETTER: &str =
 pub(crate) const RENUMBERED: &str =
     "First find out whether the list was numbered anew after people had voted: then votes with older numbers name wrong projects too, though no program sees it. If so, correct all older votes by the list that these voters had. If not, and the project was withdrawn, take its id out of the votes. If neither, ask whoever made the file which project is meant.\n";
 
+/// What to do about an id whose number comes next to that in the vote above.
+pub(crate) const COUNTED_ON: &str =
+    "But for this number, which is the next one, the vote on the line above is the same. A cell may have been copied downwards, and a spreadsheet counted on: then the votes above this one are wrong too, from the second of them on. Compare all of them with the ballots, and look for other rows that go on so. If all are right, ask whoever made the file which project is meant.\n";
+
+/// What to do about a word beside ids.
+pub(crate) const WORD_BESIDE: &str =
+    "This seems to be a word, beside ids. Look at the ballot, and write all ids that are meant. Keep the row: its other ids are votes. If the ballot can't be read there, or the word says something else, ask whoever made the file.\n";
+
+/// What is said where a program may have read a project's id as another word.
+pub(crate) const READ_AS: &str =
+    "This may be the id of the project {} on line {}: some programs read `NO` as `false`, `YES` as `true`, and `NA` as `nan`. If so, write the id in PROJECTS as the votes have it, also in votes that name it as PROJECTS does. If not, look at the ballot, and ask whoever made the file before you take anything out.\n";
+
 /// What is said first where several ids are unknown.
 pub(crate) const PART: &str =
     "Compare PROJECTS with the list on which people voted: PROJECTS may be only a part of it (the winners, a page, a district). If projects are missing, get the whole list. ";
@@ -97,7 +109,7 @@ pub(crate) fn remedy_of(cause: Cause) -> &'static str {
         Cause::OtherForm =>
             "No id in PROJECTS has this form. Ask whoever made the file what it means.\n",
         Cause::More =>
-            "This is an id with something beside it. Find out what the voter chose (look at the ballot, or ask whoever made the file), and write these ids, with `,` between them. Points and ranks are no approvals: this program can't count them.\n",
+            "This is an id with something beside it. Find out what the voter chose (look at the ballot, or ask whoever made the file), and write these ids, with `,` between them. Points, ranks and marks against a project (as `-` may be) are no approvals: this program can't count them.\n",
         Cause::ChangedProject => "Get the projects again, with their ids as text.\n",
         Cause::Several =>
             "Several projects have almost this id, or this name. Ask whoever made the file which of them is meant.\n",

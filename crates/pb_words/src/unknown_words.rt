@@ -4,16 +4,19 @@ use crate::command_words::{put_clean, put_dropping};
 use crate::prelude::*;
 use crate::read_texts::NOTE;
 use crate::unknown_texts::{
-    ALL_WITHDRAWN, LAST_ROW, LISTED, NAMES, NOT_RENUMBERED, ODD_LETTER, PART, RENUMBERED,
-    difference, is_cut_code, remedy_of, what_of,
+    ALL_WITHDRAWN, COUNTED_ON, LAST_ROW, LISTED, NAMES, NOT_RENUMBERED, ODD_LETTER, PART, READ_AS,
+    RENUMBERED, WORD_BESIDE, difference, is_cut_code, remedy_of, what_of,
 };
 use pb_read::Column;
-use pb_witness::cause::{Cause, odd_letter};
+use pb_witness::cause::{Cause, comes_next, odd_letter};
 use pb_witness::changed::Difference::{Hidden, Zeros};
-use pb_witness::changed::{Difference, without_hidden};
+use pb_witness::changed::{Difference, is_one_of, without_hidden};
 use pb_witness::fields::{column_of, number_in};
 use pb_witness::known::FoundCause;
 use pb_witness::unknown::Votes;
+
+/// What programs make of an id such as `NO`.
+const READ: &str = "false|true|nan";
 
 /// Whether `pb_clean` mends it without an option: it takes characters that can't be seen from the ends of ids
 /// alone.
@@ -85,6 +88,9 @@ impl<R: Files> Case<'_, R> {
         if may_be && self.faulty.is_listed(self.text, self.known.witness) {
             return out.put(LISTED);
         }
+        if is_open && found.cause != Cause::Shifted && self.counts_on() {
+            return out.put(COUNTED_ON);
+        }
         if is_open && self.put_row_cause(out) {
             return;
         }
@@ -106,6 +112,38 @@ impl<R: Files> Case<'_, R> {
         out.fill(what_of(found.cause), &[Quoted(named), Number(place.line)]);
     }
 
+    /// Whether the vote is that of the row above but for the number at its end, which is the next one.
+    fn counts_on(&self) -> bool {
+        let is_first = self.faulty.is_first_row();
+        let above = self
+            .text
+            .row_at(self.faulty.seen.last)
+            .filter(|_| !is_first);
+        let (_, vote) = self.faulty.places();
+        let is_next = |row: &ByteRecord| {
+            comes_next(self.faulty.value(), text_at(row, vote))
+                && self.faulty.value().ends_with(|c: char| c.is_ascii_digit())
+        };
+        above.is_some_and(|row| is_next(&row))
+    }
+
+    /// Puts what to do about a word that is no id: beside ids the row is a vote; and it may be an id that a program read as another
+    /// word. Answers whether it is so.
+    fn put_word(&self, out: &mut WordsWriter) -> bool {
+        let ids = &self.known.witness.ids;
+        let is_beside = ids.have_one(self.faulty.value());
+        let read = (0..self.projects()).find(|place| is_one_of(READ, self.id_of(*place)));
+        match read.and_then(|place| self.known.again.projects.row(place)) {
+            Some(row) => {
+                let line = line_of(self.text, row.mark);
+                out.fill(READ_AS, &[Quoted(row.id.as_str()), Number(line)])
+            }
+            None if is_beside => out.put(WORD_BESIDE),
+            None => return false,
+        }
+        true
+    }
+
     /// Puts what to do about an id that no project has.
     fn put_unknown_remedy(&self, out: &mut WordsWriter, found: &FoundCause) {
         let place = self.place_of(found);
@@ -121,6 +159,7 @@ impl<R: Files> Case<'_, R> {
                 out.fill(LAST_ROW, &[Own(NOTE)]);
                 return out.put(remedy);
             }
+            Cause::Word if self.put_word(out) => {}
             Cause::Unknown if self.known.ids_for(Cause::Unknown) > 1 && !is_above => {
                 out.put(PART);
                 out.put(remedy)

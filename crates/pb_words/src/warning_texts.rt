@@ -72,14 +72,14 @@ Compare the column `vote` with the ballots: the votes may stand in another colum
     ],
     &[TOO_FEW_ROWS, TOO_MANY_ROWS, NO_NUMBER],
     &[
-        "only {value} is counted. The row has {fields} fields, but the number of column names is {number}
+        "only {value} is counted. The row has {fields} fields, but the number of column names is {number}; behind them stands {beyond}
 the row has too many fields: the number of column names is {number}
 Look at some ballots first. If a field before the vote is too many, such as a number of the row, delete it, with its \
     `;`. If `;` is between the ids of the vote, write `,` instead: only the ids before the first `;` are counted.",
         "the row has a third field, {value}, which is ignored
 a row of META has a third field, which is ignored
 If a `;` has cut the amount, write it in one field. If the amount there is the right one, write it into the second field, and delete the third.",
-        "only {value} is counted. The row has {fields} fields, but the number of column names is {number}
+        "only {value} is counted. The row has {fields} fields, but the number of column names is {number}; behind them stands {beyond}
 the row has too many fields: the number of column names is {number}
 Look at some ballots first. If a field before the vote is too many, such as a number of the row, delete it, with its \
     `;`. If the last field says that the vote \
@@ -106,7 +106,7 @@ Check whether votes for it are missing, or whether votes name it by another id."
     &[
         "{value} is more than the budget, so the project can't win
 the project costs more than the budget, so it can't win
-Check whether the amount has too many digits, or is in another unit (cents, for example).",
+Check whether the amount has too many digits, is two amounts one behind the other, or is in another unit (cents, for example).",
     ],
     &[
         "the id has a comma, so no vote can name the project
@@ -166,6 +166,10 @@ It is counted as a project. If it is a total, delete the row. If not, give it an
         "its id is a key of META, which is not read here: the row is counted as any other
 the id of a row is a key of META, which is not read here: the row is counted as any other
 If the row is meant for META, move it there. If not, give it another id.",
+        "its cost, {value}, is less than a thousandth of every other cost
+a cost is less than a thousandth of every other cost
+It is counted as a project. If it is one, check its cost. If it is an answer such as `none of these`, delete its row, take its id \
+    out of the votes, and keep these ballots.",
     ],
     &[
         "the column `votes` says {value}, but the number of vote rows that name the project is {number}
@@ -210,6 +214,22 @@ They are counted as voters. If these rows are a list of the projects or a tally,
         "the end of VOTES, {rows} from here on, has no vote, and nothing in column {column}; every row above has something there
 the end of VOTES, {rows}, has no vote, and nothing in a column that every row above fills
 Each of these is counted as a voter. Look for its ballot. If there is none, as where ids were only prepared, delete its row.",
+        "but for their ids, {rows} from here on are those from line {line} on, in the same order
+but for their ids, {rows} are earlier ones again, in the same order
+A stack of ballots may have been scanned or typed twice. Count the ballots on paper. If these are too many, delete the later \
+    rows of the two. If not, keep all.",
+        "the id is another row's with a word behind it, and both have the same vote. This concerns {rows}
+an id is another row's with a word behind it, and both have the same vote. This concerns {rows}
+Both are counted as voters. Ask what the word means. If it cancels the other row, delete both, and keep a row with the voter's \
+    new vote, if there is one. If it marks a copy, delete the copy. If these are two people, keep both.",
+        "each second row is without a vote, from this one on. This concerns {rows}
+each second row is without a vote. This concerns {rows}
+They are counted as voters. Look at some ballots. If these rows are the back sides of the ballots, delete each second \
+    row, from this one on, and no other, even if it has no vote either. If not, keep all.",
+        "the id, {value}, has only signs
+an id has only signs
+It is counted as a voter. Such signs may say of rows that they do not count, as `/*` and `*/` of all rows between them. Ask. If \
+    so, delete these rows and the signs. If not, find out whether this row is a voter.",
     ],
     &[
         "a field in quotation marks runs over several lines that look like rows
@@ -244,11 +264,25 @@ The vote may be a formula that was not filled down. Look at some ballots. If the
 a column has names of projects, and the vote names others. This concerns {rows}
 A lookup may have found another project, or the column `vote` may have been sorted alone. Compare these rows with the \
     ballots. If some votes are wrong, get all votes again.",
+        "{value}, in column {column}, is several ids, and where this column has several the vote is always the same one. This \
+    concerns {rows}
+where a column has several ids, the vote is always the same one. This concerns {rows}
+The two columns may be exchanged in a part of the table. Compare all rows that have this vote with the ballots, also those \
+    with one id in that column. Where the columns are exchanged, exchange them back. If they are not, and these choices \
+    count as much as those in `vote`, write all ids of a voter into the column `vote`. If they are no votes in any row, call \
+    the column `comment`.",
     ],
     &[
         "the vote names {twice} more than once, which counts once
 the vote names a project more than once, which counts once
-If another project was meant, correct the id by the voter's ballot.",
+If another project was meant, correct the id by the voter's ballot. If not, write it once.",
+        "the vote has all projects of the one above it, and more; and so has each of the next ones. This concerns {rows}
+a vote has all projects of the one above it, and more; and so has each of the next ones. This concerns {rows}
+A form may not have been cleared between voters, so that these votes have other voters' choices too. Compare all of them \
+    with the ballots, or ask the voters.",
+        "the vote is the one above it but for one id, which is the next in number; and so is each of the next ones. This concerns {rows}
+a vote is the one above it but for one id, which is the next in number; and so is each of the next ones. This concerns {rows}
+A cell may have been copied downwards, and a spreadsheet counted on. Compare all of these votes with the ballots.",
     ],
     &[
         "{number} columns have this name, and only the first is read
@@ -270,7 +304,8 @@ Compare some votes with the ballots. If the ballots have the values of this colu
     one `comment`. If not, a lookup may have taken the wrong column: get all votes again.",
         "it has the same ids as `project_id`, in another order, and is not read
 a column of PROJECTS has the same ids as `project_id`, in another order, and is not read
-Ask which of the two the votes mean. Call that column `project_id`, and the other one `comment`.",
+Ask which of the two the votes mean. Call that column `project_id`, and the other one `comment`. If only some voters mean \
+    this one, as on ballots in another language, write the ids of `project_id` in their votes instead.",
     ],
     &[
         "points are ignored: every project named in a vote counts the same
@@ -332,6 +367,13 @@ Delete it, or type the id anew.",
         "but for capital letters this e-mail address is that of another row, so the voter may be counted twice
 but for capital letters a voter's e-mail address is that of another row, so the voter may be counted twice
 Find out whether these are one voter, and which of the two ballots is valid.",
+        "the ids are {number} groups whose ids differ only at their ends, and the rows with each end name projects of their own
+the ids are {number} groups whose ids differ only at their ends, and the rows with each end name projects of their own
+Each group may be the sheets of one ballot, and is counted as several voters. Look at some ballots. If so, make one row \
+    of each group, with all ids of its votes, and `,` between them. If these are different people, keep the rows.",
+        "but for the code of its country this phone number is that of another row, so the voter may be counted twice
+but for the code of its country a voter's phone number is that of another row, so the voter may be counted twice
+Find out whether these are one voter, and which of the two ballots is valid. Take the other one out.",
     ],
     &[
         "all projects together cost {sum}, which is less than a hundredth of it
@@ -348,6 +390,10 @@ It may be their sum, and not the budget. Compare it with the decision on the bud
         "its numbers are ignored: every row is counted as one ballot
 VOTES has numbers of ballots, which are ignored: every row is counted as one ballot
 If a row stands for several ballots, write a row for each of them, with an id of its own.",
+        "{value}, in column {column}, is like the ids of voters, but no row has an id that stands there
+a column has ids like those of voters, but no row has one of them
+If the row is also the ballot of that voter, as where somebody voted for others, write a row for each of them, with the same vote. \
+    If it takes the place of that voter's ballot, or is of somebody else, call the column `comment`.",
     ],
 ];
 

@@ -203,7 +203,8 @@ fn put_odd_remedy<R: Files>(out: &mut WordsWriter, text: &Text<R>, odd: &Odd, od
         (None, Oddity::ThousandsMark) if oddities.has_decimals => out.put(BESIDE_DECIMALS),
         _ => {
             put_text(out, text, odd, (said_of(odd).2, None));
-            let are_many = odd.oddity == Oddity::TwiceInVote && oddities.count(odd.oddity) > 1;
+            let is_twice = odd.oddity == Oddity::TwiceInVote && odd.form == 0;
+            let are_many = is_twice && oddities.count(odd.oddity) > 1;
             out.put(if are_many { MANY_TWICE } else { "\n" });
         }
     }
@@ -317,6 +318,7 @@ fn put_text<R: Files>(
                 match name {
                     "column" => put_column_name(out, text, odd),
                     "fields" => out.fill("{}", &[Number(fields)]),
+                    "beyond" => out.fill("{}", &[Quoted(beyond_of(odd, row))]),
                     "line" => out.fill("{}", &[Number(line)]),
                     "note" => out.put(NOTE),
                     "own_rows" => out.put(OWN_ROWS),
@@ -335,6 +337,16 @@ fn put_text<R: Files>(
             _ => out.put(piece),
         }
     }
+}
+
+/// The first text of a row behind its columns, whose number the odd row is measured by.
+fn beyond_of<'r>(odd: &Odd, row: Option<&'r ByteRecord>) -> &'r str {
+    let Some(row) = row else {
+        return "";
+    };
+    let names = usize::try_from(odd.number).unwrap_or(usize::MAX);
+    let mut texts = (names..row.len()).map(|place| text_at(row, place));
+    texts.find(|text| !text.is_empty()).unwrap_or("")
 }
 
 /// Puts the name of the column that an odd row is spoken of for, or its number.

@@ -1,0 +1,132 @@
+//! What votes show that follow each other: a form that was not cleared, and a cell that was copied downwards.
+
+use crate::cause::comes_next;
+use crate::changed::has_digit;
+use crate::prelude::*;
+
+/// The fewest rows that go on so, one behind the other.
+const FEWEST: u64 = 3;
+
+/// Rows that go on from the row above in one way.
+#[derive(Clone, Copy, Default)]
+struct Run {
+    /// The first of those just above, measured by how many there are.
+    open: Option<Odd>,
+    /// The first of all that are enough, measured by how many there are.
+    found: Option<Odd>,
+}
+
+impl Run {
+    /// Takes a row that goes on.
+    fn take(&mut self, odd: Odd) {
+        let open = odd.behind(self.open);
+        self.open = Some(open);
+        if open.number >= FEWEST {
+            let first = self.found.unwrap_or(open.by(0));
+            let more = if open.number == FEWEST { FEWEST } else { 1 };
+            self.found = Some(first.by(first.number.saturating_add(more)));
+        }
+    }
+}
+
+/// The rows of VOTES that go on from the row above.
+#[derive(Drop)]
+pub(crate) struct Runs {
+    /// The vote above, as long as the votes are in order: then it shows nothing that they go on.
+    before: String,
+    are_sorted: bool,
+    /// The votes that have all projects of the vote above, and more; and those in which one id is the next one.
+    grown: Run,
+    counted: Run,
+}
+
+impl Runs {
+    /// No row yet.
+    pub(crate) fn new(alloc: Global) -> Runs {
+        Runs {
+            before: String::new(alloc),
+            are_sorted: true,
+            grown: Run::default(),
+            counted: Run::default(),
+        }
+    }
+
+    /// Takes a row that is accepted.
+    pub(crate) fn take(&mut self, row: &Row<'_>) -> Result<(), AllocError> {
+        if self.are_sorted {
+            self.are_sorted = are_in_order(self.before.as_str(), row.value());
+            self.before.clear();
+            self.before.push_str(row.value())?;
+        }
+        let (ballot, voters) = (row.ballot(), row.election.voters());
+        let above = voters.get(voters.len().saturating_sub(2));
+        let before = above.map_or(ballot, |voter| voter.ballot.places());
+        if grows(before, ballot) {
+            self.grown.take(row.odd(Oddity::TwiceInVote).in_form(1));
+        } else {
+            self.grown.open = None;
+        }
+        if counts_on(before, ballot, row.election) {
+            self.counted.take(row.odd(Oddity::TwiceInVote).in_form(2));
+        } else {
+            self.counted.open = None;
+        }
+        Ok(())
+    }
+
+    /// Takes the end of the file.
+    pub(crate) fn end(&self, found: &mut Oddities) {
+        if !self.are_sorted {
+            found.take_some(self.grown.found);
+            found.take_some(self.counted.found);
+        }
+    }
+}
+
+/// Whether two texts are in order.
+fn are_in_order(one: &str, other: &str) -> bool {
+    for (byte, next) in one.as_bytes().iter().zip(other.as_bytes()) {
+        if byte != next {
+            return byte < next;
+        }
+    }
+    one.len() <= other.len()
+}
+
+/// Whether a ballot has all projects of the one above, and more.
+fn grows(before: &[u32], ballot: &[u32]) -> bool {
+    let has = |place: &u32| ballot.binary_search(place).is_ok();
+    !before.is_empty() && before.len() < ballot.len() && before.iter().all(has)
+}
+
+/// Whether a ballot has one project in place of one above, next to it by its place and by the number in its id.
+fn counts_on(before: &[u32], ballot: &[u32], election: &Election) -> bool {
+    // Most ballots differ from the one above by their first projects already.
+    let may_be = match (before, ballot) {
+        ([one, ..], [other, ..]) => *one <= *other && *other <= one.saturating_add(1),
+        _ => false,
+    };
+    if !may_be || before.len() != ballot.len() {
+        return false;
+    }
+    let mut next = None;
+    for (one, other) in before.iter().zip(ballot) {
+        if one != other {
+            if next.is_some() || *other != one.saturating_add(1) {
+                return false;
+            }
+            next = Some(*other);
+        }
+    }
+    let Some(place) = next else {
+        return false;
+    };
+    let id = id_at(election, place);
+    has_digit(id) && comes_next(id, id_at(election, place.saturating_sub(1)))
+}
+
+/// The id of the project at this place.
+fn id_at(election: &Election, place: u32) -> &str {
+    let project = election.projects().get(place as usize);
+    project.map_or("", |project| project.id())
+}
