@@ -97,12 +97,14 @@ PINNED = {
     ("pb_reasons", "Reasons", "voter_payments"): ("pb_reasons", "payments_of_a_voter_are_their_words"),
     ("pb_reasons", "Reasons", "paid_for"): ("pb_reasons", "payments_of_a_voter_are_their_words"),
     ("pb_reasons", "Reasons", "round_of"): ("pb_reasons", "payments_of_a_voter_are_their_words"),
+    ("pb_reasons", "Reasons", "project_reason"): ("pb_commands", "endings_are_their_words"),
     ("pb_reasons", "Fairness", "losers"): ("pb_reasons", "rows_of_fairness_are_their_words"),
     ("pb_reasons", "Fairness", "needed"): ("pb_reasons", "rows_of_fairness_are_their_words"),
     ("pb_reasons", "Fairness", "spent"): ("pb_reasons", "rows_of_fairness_are_their_words"),
     ("pb_desk", "Replay", "replay"): ("pb_commands", "replay_is_its_steps"),
     ("pb_script", "Admission", "open_to_all"): ("pb_script", "open_to_all_admits_all_rows"),
     ("pb_script", "ScriptFault", "at_row"): ("pb_commands", "rows_of_script_faults_are_their_words"),
+    ("pb_faults", "Fault", "merged"): ("pb_commands", "out_of_memory_is_one_fault"),
     ("pb_commands", "Ballots", "last_given"): ("pb_commands", "ballots_name_their_entries"),
 }
 

@@ -14,6 +14,8 @@ mod ThreeVoters
 pub mod DeskRuns
 pub mod Recounts
 pub mod TablesTell
+mod EndingWords
+mod MemoryTold
 pub mod TableColumns
 pub mod PaymentsInFile
 pub mod PaymentsText

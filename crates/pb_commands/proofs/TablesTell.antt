@@ -30,7 +30,7 @@ use Rattle.pb_reasons.proofs.Tellable.{count_can_be_told}
 use Rattle.pb_reasons.specs.Totals.{totals_of}
 
 -- a project that is not elected has no round
-no_round : (elected : List ElectedView) (place : ℕ) → is_elected elected place ≡ false → length elected ≤ round_of elected place
+pub no_round : (elected : List ElectedView) (place : ℕ) → is_elected elected place ≡ false → length elected ≤ round_of elected place
 no_round elected place none = elim (cases_lt (round_of elected place) (length elected)) [
   | inl less ↦ absurd (true≢false (sym (lt-ltb _ _ less) ∙ sym (elected_has_round elected place) ∙ none))
   | inr more ↦ more

@@ -1,9 +1,11 @@
 //! Laws of the definitions.
 
-ghost use Rattle.std.specs.Prelude.{◌≡◌, ◌≢◌, ◌↔◌, ◌⊎◌, ◌<◌, ◌==◌, ◌+◌, ◌++◌, ℕ, All, Bool, Contains, List};
-ghost use Rattle.std.specs.Prelude.{[], ◌∷◌, None, Option, Some, false, filter, length, map, true};
+ghost use Rattle.std.specs.Prelude.{◌≡◌, ◌≢◌, ◌↔◌, ◌⊎◌, ◌<◌, ◌==◌, ◌+◌, ◌-◌, ◌++◌, ℕ, All, Bool, Contains, List};
+ghost use Rattle.std.specs.Prelude.{[], ◌∷◌, ◌||◌, None, Option, Some, codes, count_by, false, filter, if◌then◌else◌};
+ghost use Rattle.std.specs.Prelude.{length, map, slice_index_or, true};
 ghost use Rattle.std.specs.Bool.{MatchBool};
-ghost use Rattle.pb_core.specs.Election.{IsElection};
+ghost use Rattle.std.specs.Str.{bytes_eq};
+ghost use Rattle.pb_core.specs.Election.{ElectionView, IsElection};
 ghost use Rattle.pb_core.specs.Request.{EntryView, Cast, Replace, Shut};
 ghost use Rattle.pb_desk.specs.Audit.{IsSound};
 ghost use Rattle.pb_desk.specs.Desk.{DeskView, closed_election, standing_of};
@@ -14,7 +16,14 @@ ghost use Rattle.pb_desk.specs.Step.{step, voter_of};
 ghost use Rattle.pb_read.specs.StandsFor.{StandsFor, most_records};
 ghost use Rattle.pb_rows.specs.Reading.{records_of};
 ghost use Rattle.pb_rows.specs.Writing.{text_of_row};
+ghost use Rattle.pb_price.specs.Price.{total_rest};
+ghost use Rattle.pb_price.specs.Supporters.{cost_at, support_of, supporters_at};
+ghost use Rattle.pb_reasons.specs.Counted.{CountedView, is_selected};
 ghost use Rattle.pb_reasons.specs.CountedElection.{CountedElectionView, IsCountIn};
+ghost use Rattle.pb_reasons.specs.Reasons.{paid_for, project_reason};
+ghost use Rattle.pb_reasons.specs.declared.project_reason.Ending.TheVariants as ending;
+ghost use Rattle.pb_rounds.specs.MostVotes.{votes_at};
+ghost use Rattle.pb_rounds.specs.Run.{ElectedView, is_elected};
 ghost use Rattle.pb_rounds.specs.declared.rule.Rule.{Rule};
 ghost use Rattle.pb_script.specs.ScriptFault.{at_row};
 ghost use Rattle.pb_script.specs.ScriptReading.{fault_of_row};
@@ -24,6 +33,7 @@ ghost use Rattle.pb_script.specs.declared.admission.RowRefusal.{RowRefusal};
 ghost use Rattle.pb_script.specs.declared.script_fault.ScriptFault.TheVariants.{NoMemory, ReadFailed};
 ghost use Rattle.pb_script.specs.declared.script_fault.ScriptFault.TheVariants.{TooManyRows};
 ghost use Rattle.pb_faults.specs.DeskRow.{entries_row};
+ghost use Rattle.pb_faults.specs.Fault.{merged, told};
 ghost use Rattle.pb_commands.specs.Audited.{AuditWrites, IsDeskOf, IsReport, IsTextOf};
 ghost use Rattle.pb_commands.specs.Ballots.{last_given};
 ghost use Rattle.pb_commands.specs.Closed.{Gives};
@@ -36,6 +46,7 @@ ghost use Rattle.pb_commands.specs.Tables.{IsTableOf};
 ghost use Rattle.pb_commands.specs.declared.table.Table.TheVariants.{Report};
 
 use pb_core::answer::Answer;
+use pb_faults::AppFault;
 
 /// What is written is a function of the bytes that are read and of the rule: a file has one report at
 /// most, and a file and a journal have one text at most, and one table of ballots of each kind.
@@ -121,4 +132,38 @@ pub fn replay_is_its_steps()
         ≡ record { ballots = map (λ v. (v.id, v.ballot)) o.election.voters; is_shut = false } }
     ensures one_more { (o : OpeningView) (journal : List EntryView) (x : EntryView)
         → replay o (journal ++ x ∷ []) ≡ step o (replay o journal) x.request }
+{}
+
+/// How a project ended. If it is elected, the round is told that elected it, from 1, its price, what that collected, and
+/// how many of its supporters paid all of it. Otherwise, if it is added, the number by which it is; and if it is neither,
+/// what its supporters have left together, and what lacks to its cost.
+pub fn endings_are_their_words()
+    ensures votes { (e : ElectionView) (c : CountedView) (place : ℕ)
+        → (project_reason e c place).votes ≡ votes_at (support_of e) place }
+    ensures won { (e : ElectionView) (c : CountedView) (before : List ElectedView) (w : ElectedView)
+        → (later : List ElectedView) → c.outcome.elected ≡ before ++ w ∷ later
+        → All (λ (v : ElectedView). v.place ≢ w.place) before
+        → (project_reason e c w.place).ending ≡ ending.Won (record {
+          round = length before + 1;
+          price = w.price;
+          collected = w.collected;
+          in_full = count_by (λ voter. paid_for e c.outcome w.place voter == w.price)
+              (supporters_at (support_of e) w.place);
+        }) }
+    ensures added { (e : ElectionView) (c : CountedView) (before : List ℕ) (place : ℕ) (later : List ℕ)
+        → is_elected c.outcome.elected place ≡ false → c.added ≡ before ++ place ∷ later
+        → All (λ other. other ≢ place) before
+        → (project_reason e c place).ending ≡ ending.Added (record { number = length before + 1 }) }
+    ensures lost { (e : ElectionView) (c : CountedView) (place : ℕ) → is_selected c place ≡ false
+        → let left = total_rest (supporters_at (support_of e) place) c.outcome.rests in
+        (project_reason e c place).ending
+        ≡ ending.Lost (record { left = left; missing = cost_at (support_of e) place - left }) }
+{}
+
+/// Out of memory is one fault, whichever crate met it: each fault of which `NoMemory` is told by its name, or memory by
+/// its line, is that one, and any other stays as it is.
+pub fn out_of_memory_is_one_fault()
+    ensures { (fault : AppFault) → let fields = (told fault).1 in
+        merged fault ≡ (if bytes_eq (slice_index_or fields 2 []) (codes "NoMemory")
+        || bytes_eq (slice_index_or fields 0 []) (codes "memory") then AppFault.Memory else fault) }
 {}
