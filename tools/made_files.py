@@ -99,8 +99,7 @@ def many_projects(is_exported=False, keeps_voters=False):
         rows += [f'c{at};p{at};project {at};{cost};s{at}' for at, cost in enumerate(costs)]
     has_age = keeps_voters or not is_exported
     rows += ['VOTES', 'voter_id;vote' + ';age' * has_age]
-    # No vote is for the project after that of the vote above, as where a cell was copied downwards.
-    rows += [f'v{at};p{7 * at % 300}' + f';{18 + at}' * has_age for at in range(300)]
+    rows += [f'v{at};p{at}' + f';{18 + at}' * has_age for at in range(300)]
     return ''.join(row + '\n' for row in rows).encode()
 
 

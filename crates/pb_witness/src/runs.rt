@@ -9,14 +9,14 @@ const FEWEST: u64 = 3;
 
 /// Rows that go on from the row above in one way.
 #[derive(Clone, Copy, Default)]
-struct Run {
+struct Series {
     /// The first of those just above, measured by how many there are.
     open: Option<Odd>,
     /// The first of all that are enough, measured by how many there are.
     found: Option<Odd>,
 }
 
-impl Run {
+impl Series {
     /// Takes a row that goes on.
     fn take(&mut self, odd: Odd) {
         let open = odd.behind(self.open);
@@ -35,9 +35,11 @@ pub(crate) struct Runs {
     /// The vote above, as long as the votes are in order: then it shows nothing that they go on.
     before: String,
     are_sorted: bool,
+    /// Whether the votes are in the order of their projects in the file: then it shows nothing either.
+    are_placed: bool,
     /// The votes that have all projects of the vote above, and more; and those in which one id is the next one.
-    grown: Run,
-    counted: Run,
+    grown: Series,
+    counted: Series,
 }
 
 impl Runs {
@@ -46,8 +48,9 @@ impl Runs {
         Runs {
             before: String::new(alloc),
             are_sorted: true,
-            grown: Run::default(),
-            counted: Run::default(),
+            are_placed: true,
+            grown: Series::default(),
+            counted: Series::default(),
         }
     }
 
@@ -61,6 +64,7 @@ impl Runs {
         let (ballot, voters) = (row.ballot(), row.election.voters());
         let above = voters.get(voters.len().saturating_sub(2));
         let before = above.map_or(ballot, |voter| voter.ballot.places());
+        self.are_placed = self.are_placed && are_placed_in_order(before, ballot);
         if grows(before, ballot) {
             self.grown.take(row.odd(Oddity::TwiceInVote).in_form(1));
         } else {
@@ -76,7 +80,7 @@ impl Runs {
 
     /// Takes the end of the file.
     pub(crate) fn end(&self, found: &mut Oddities) {
-        if !self.are_sorted {
+        if !self.are_sorted && !self.are_placed {
             found.take_some(self.grown.found);
             found.take_some(self.counted.found);
         }
@@ -88,6 +92,16 @@ fn are_in_order(one: &str, other: &str) -> bool {
     for (byte, next) in one.as_bytes().iter().zip(other.as_bytes()) {
         if byte != next {
             return byte < next;
+        }
+    }
+    one.len() <= other.len()
+}
+
+/// Whether two ballots are in order, by the places of their projects.
+fn are_placed_in_order(one: &[u32], other: &[u32]) -> bool {
+    for (place, next) in one.iter().zip(other) {
+        if place != next {
+            return place < next;
         }
     }
     one.len() <= other.len()
