@@ -14,7 +14,8 @@ use Rattle.pb_desk.specs.Desk.{DeskView}
 use Rattle.pb_desk.specs.Replay.{IsLegal}
 use Rattle.pb_shared.specs.Clerk.{Begins, CanHave, GrowsByOthers}
 use Rattle.pb_shared.specs.Inner.Entries.{entries_by}
-use Rattle.pb_shared.specs.Rule.{ClerkFits, RoleFits, Runs, DeskRule}
+use Rattle.pb_shared.specs.Inner.ClerkFits.{ClerkFits}
+use Rattle.pb_shared.specs.Rule.{RoleFits, Runs, DeskRule}
 use Rattle.pb_shared.specs.Inner.Rule.{history, Sitter}
 use Rattle.pb_shared.specs.Inner.Plays.{CanSee, won, lost, published, freed, has_read, tries_lock, publishes, frees, reads}
 use Rattle.pb_shared.specs.declared.seat_view.About.{About}
@@ -55,7 +56,13 @@ goes_on a slots id me i f then go s r count at small =
 module _ (a : About) (lock : ℕ) (home : Slot) (later : List EntryView) (seat_of : ℕ → ℕ) (views : List SeatView) (id : ℕ) (v : SeatView) (role : v.role ≡ Clerk)
     (r : Runs a lock home (history a later) later seat_of views) (at : get_elem? views id ≡ some v) where
   pub fits : ClerkFits a lock home (history a later) later seat_of id v
-  fits = subst (λ ρ. RoleFits a lock home (history a later) later seat_of ρ id v) role (r.each id v at)
+  fits =
+      let own : RoleFits a lock home (history a later) later seat_of Clerk id v = subst (λ ρ. RoleFits a lock home (history a later) later seat_of ρ id v) role (r.each id v at) in record {
+        about = own.0;
+        sheet = own.1;
+        told = own.2;
+        brought = own.3;
+      }
 
   can_see : CanSee v (history a later)
   can_see = record {
@@ -71,7 +78,7 @@ module _ (a : About) (lock : ℕ) (home : Slot) (later : List EntryView) (seat_o
     holder = λ n e. stays_there Holds views id v w at keep (seat_of n) (r.holder n e);
     free = r.free;
     in_slot = r.in_slot;
-    each = each_of (λ j u. RoleFits a lock home (history a later) later seat_of u.role j u) views id w (subst (λ ρ. RoleFits a lock home (history a later) later seat_of ρ id w) (sym role') own) (λ j u other there. r.each j u there);
+    each = each_of (λ j u. RoleFits a lock home (history a later) later seat_of u.role j u) views id w (subst (λ ρ. RoleFits a lock home (history a later) later seat_of ρ id w) (sym role') (own.about, own.sheet, own.told, own.brought)) (λ j u other there. r.each j u there);
   }
 
   -- a step of the clerk who holds the lock before it or after it
@@ -87,7 +94,7 @@ module _ (a : About) (lock : ℕ) (home : Slot) (later : List EntryView) (seat_o
     holder = holder';
     free = free';
     in_slot = in_slot';
-    each = each_of (λ j u. RoleFits a lock' home' (history a later') later' seat_of u.role j u) views id w (subst (λ ρ. RoleFits a lock' home' (history a later') later' seat_of ρ id w) (sym role') own)
+    each = each_of (λ j u. RoleFits a lock' home' (history a later') later' seat_of u.role j u) views id w (subst (λ ρ. RoleFits a lock' home' (history a later') later' seat_of ρ id w) (sym role') (own.about, own.sheet, own.told, own.brought))
         (λ j u other there. seat_moves a lock lock' home home' later later' more seat_of grows v.sheet.number others u.role j u (λ same. other (sym same ∙ fits.sheet.its_seat)) (r.each j u there));
   }
 

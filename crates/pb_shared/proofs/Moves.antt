@@ -85,12 +85,8 @@ module _ (a : About) (lock lock' : ℕ) (home home' : mathlib.Core.Option.Option
   seat_moves Stock seat v apart f =
       (f.0, λ n from below. let b = f.1 n from below in (sheet_moves seat false (new_sheet a.desk.value.journal n) (λ same. apart (ap seat_of (sym same) ∙ b.its_seat)) b).1)
   seat_moves Clerk seat v apart f =
-      let s = sheet_moves seat v.holds v.sheet (λ same. apart (ap seat_of (sym same) ∙ f.sheet.its_seat)) f.sheet in record {
-        about = f.about;
-        sheet = s.1;
-        told = longer v.told f.told;
-        brought = λ home_is. absurd (true≢false (sym (f.brought home_is).0 ∙ s.0));
-      }
+      let s = sheet_moves seat v.holds v.sheet (λ same. apart (ap seat_of (sym same) ∙ f.1.its_seat)) f.1 in
+      (f.0, s.1, longer v.told f.2, λ home_is. absurd (true≢false (sym (f.3 home_is).0 ∙ s.0)))
   seat_moves Guest seat v apart f =
       (f.0, longer v.sheet.seen f.1, λ k d inside. let x = f.2 k d inside in (sheet_moves seat false _ (λ same. apart (ap seat_of (sym same) ∙ x.its_seat)) x).1)
   seat_moves Spent seat v apart f = tt
@@ -111,12 +107,7 @@ module _ (a : About) (lock : ℕ) (home : mathlib.Core.Option.Option (Option Des
 
   pub seat_stays : (role : Role) (seat : ℕ) (v : SeatView) → ((n : ℕ) → seat_of n ≡ seat → seat_of' n ≡ seat) → RoleFits a lock home (history a later) later seat_of role seat v → RoleFits a lock home (history a later) later seat_of' role seat v
   seat_stays Stock seat v same f = (f.0, λ n from below. let b = f.1 n from below in sheet_stays seat seat false (new_sheet a.desk.value.journal n) (same n b.its_seat) b)
-  seat_stays Clerk seat v same f = record {
-    about = f.about;
-    sheet = sheet_stays seat seat v.holds v.sheet (same v.sheet.number f.sheet.its_seat) f.sheet;
-    told = f.told;
-    brought = f.brought;
-  }
+  seat_stays Clerk seat v same f = (f.0, sheet_stays seat seat v.holds v.sheet (same v.sheet.number f.1.its_seat) f.1, f.2, f.3)
   seat_stays Guest seat v same f = (f.0, f.1, λ k d inside. let x = f.2 k d inside in sheet_stays seat seat false _ (same _ x.its_seat) x)
   seat_stays Spent seat v same f = tt
 

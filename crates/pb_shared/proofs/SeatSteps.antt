@@ -158,12 +158,7 @@ tells a id other v w role role' s r at apart that =
       r.5,
       merges a lock home later seat_of seat_of s.views id other v w both r.6 at apart there_
           (λ h. h) (holds_not w (ap is_clerk role')) (λ n is. refl) (λ j _ _ n e. e)
-          (subst (λ ρ. RoleFits a lock home (history a later) later seat_of ρ id both) (sym role) record {
-            about = own.about;
-            sheet = own.sheet;
-            told = its.1;
-            brought = own.brought;
-          }),
+          (subst (λ ρ. RoleFits a lock home (history a later) later seat_of ρ id both) (sym role) (own.about, own.sheet, its.1, own.brought)),
     )
 
 -- the numbers' seats, with this seat for one of them
@@ -204,12 +199,12 @@ deals a id v role few s r at =
           let h = stays_there Holds s.views id v left at (λ h. absurd (holds_not v (ap is_clerk role) h)) (seat_of n) (runs.holder n is) in
           subst (λ j. (u : SeatView) × (get_elem? (views' ++ right ∷ []) j ≡ some u) × Holds u) (sym (reseated-else seat_of k seat n other))
           (h.0, at_longer views' (right ∷ []) (seat_of n) h.0 h.1, h.2))
-          (each_and Fits views' right record {
-            about = own.0;
-            sheet = subst (λ (z : About). SheetFits a lock home (history a later) later seat_of' seat false (new_sheet z.desk.value.journal k)) (sym own.0) (sheet_stays a lock home later seat_of seat_of' id seat false (new_sheet a.desk.value.journal k) (reseated-here seat_of k seat k refl) its);
-            told = (history a later, refl);
-            brought = λ is. absurd (true≢false (sym is));
-          } (each_of Fits s.views id left
+          (each_and Fits views' right (
+            own.0,
+            subst (λ (z : About). SheetFits a lock home (history a later) later seat_of' seat false (new_sheet z.desk.value.journal k)) (sym own.0) (sheet_stays a lock home later seat_of seat_of' id seat false (new_sheet a.desk.value.journal k) (reseated-here seat_of k seat k refl) its),
+            (history a later, refl),
+            λ is. absurd (true≢false (sym is)),
+          ) (each_of Fits s.views id left
           (subst (λ ρ. RoleFits a lock home (history a later) later seat_of' ρ id left) (sym role) (
             own.0,
             λ n from below.

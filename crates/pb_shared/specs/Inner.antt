@@ -8,3 +8,4 @@ pub mod Newcomers
 pub mod SharedView
 pub mod Entries
 pub mod AllClerks
+pub mod ClerkFits

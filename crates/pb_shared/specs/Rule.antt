@@ -30,20 +30,14 @@ module _ (a : About) (lock : ℕ) (home : slot.Option (Option DeskView)) (journa
     pub found : All (λ word. (word ≤ a.clerks) × (word ≢ x.number + 1)) x.found
     pub read : All (λ word. word ≤ length x.seen) x.read
 
-  -- what a clerk's seat knows is true: its sheet, what it was told, and that the desk is home if it brought
-  -- it back
-  pub record ClerkFits (seat : ℕ) (v : SeatView) : Type 0 where
-    pub about : v.about ≡ a
-    pub sheet : SheetFits seat v.holds v.sheet
-    pub told : Begins v.told journal
-    pub brought : v.home ≡ true → (v.holds ≡ true) × (home ≡ slot.some (Some (record a.desk.value { journal = journal })))
-
-  -- what a seat knows is true: the clerks in stock have made no call; what a note has seen begins the
-  -- history; the sheets of clerks who were handed back are true
+  -- what a seat knows is true: the clerks in stock have made no call; a clerk's own sheet and what it was told are
+  -- so, and the desk is home if it brought it back; what a note has seen begins the history; the sheets of clerks
+  -- who were handed back are true
   abbrev pub RoleFits : Role → ℕ → SeatView → Type 0
   RoleFits Stock seat v = (v.about ≡ a) × ((number : ℕ) → v.sheet.number ≤ number → number < a.clerks
       → SheetFits seat false (new_sheet a.desk.value.journal number))
-  RoleFits Clerk seat v = ClerkFits seat v
+  RoleFits Clerk seat v = (v.about ≡ a) × SheetFits seat v.holds v.sheet × Begins v.told journal
+      × (v.home ≡ true → (v.holds ≡ true) × (home ≡ slot.some (Some (record a.desk.value { journal = journal }))))
   RoleFits Guest seat v =
       (v.about ≡ a) × Begins v.sheet.seen journal × All (SheetFits seat false) v.returned
   RoleFits Spent seat v = ⊤
