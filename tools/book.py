@@ -68,6 +68,8 @@ PINNED = {
     ("pb_price", "Supporters", "supporters_of"): ("pb_price", "supporters_approve"),
     ("pb_price", "Price", "price_at"): ("pb_price", "price_is_least_payment"),
     ("pb_rounds", "Count", "count_of"): ("pb_rounds", "count_is_computed"),
+    ("pb_rounds", "Count", "is_too_fine"): ("pb_rounds", "count_is_computed"),
+    ("pb_rounds", "Count", "has_too_fine_cost"): ("pb_rounds", "count_is_computed"),
     ("pb_rounds", "Count", "opening_share"): ("pb_rounds", "opening_share_is_largest"),
     ("pb_rounds", "Run", "outcome_of"): ("pb_rounds", "run_is_its_rule"),
     ("pb_rounds", "Run", "payment_of"): ("pb_rounds", "payments_are_their_words"),

@@ -213,6 +213,22 @@ OF_TWINS = [
 # How many pages these make.
 COUNT = len(HIDING) + len(STARTS) + len(FIGURES) + len(TEXTS) + len(OF_TWINS) + 19
 
+# By most votes v2 and v3 have projects that cost more than by shares (crates/pb_app/cases/decided.txt), so that they apply.
+DECIDED_FILE = (pathlib.Path(__file__).resolve().parent.parent / 'crates/pb_app/cases/data/filling.pb').read_bytes()
+DECIDED_OPTIONS = ['--completion', 'add1u', '--decide', 'worth']
+NAMES = 'ES/votes/add1u/hundredths/step=1.00/ties=file/decide=worth, MV/ties=file, MV/ties=file, MV/ties=file'
+# Changes of its page, each with what has to be named of it.
+OF_DECIDED = [
+    ("value='1'>1</data> by the first rule", "value='3'>3</data> by the first rule", 'the voters with more by the first rule|3|1'),
+    ("value='2'>2</data> by the other one", "value='2'>0</data> by the other one", 'the voters with more by the other rule, as it is shown|0|2'),
+    ("<data class='decided_other' value='2'>2</data>", '2', 'the voters with more by the other rule||2'),
+    ('/decide=worth</code>', '/decide=choices</code>', f'the names of the rules|decide=choices|{NAMES}'),
+    ('So <code>MV/ties=file</code>', 'So <code>ES/votes/add1u/hundredths/step=1.00/ties=file</code>', f'the names of the rules|MV/ties=file, ES/votes|{NAMES}'),
+    (' --decide worth --beside MV/ties=file', '', 'the options of the count|raises|decided by worth beside MV/ties=file'),
+    (' --decide worth --beside', ' --decide choices --beside', 'the options of the count|decided by choices|decided by worth'),
+    ("<h2 id='decided'>Which rule applies</h2>", "<h2 id='decided'>Which rule applies</h2><p>The other rule never applies.</p><div>x</div>", '<div> within <section>'),
+]
+
 
 def between(text, opening, closing):
     """A part of a text from the first opening to the next closing, with both."""

@@ -1,5 +1,5 @@
 """What a page says in a language, from a file of words alone: written from docs/formats.md, with no code of the program."""
-import decimal, re
+import decimal, fractions, math, re
 
 GROUPS = {'none': '', 'comma': ',', 'point': '.', 'apostrophe': '’', 'space': '\u202f'}
 POINTS = {'point': '.', 'comma': ','}
@@ -37,8 +37,13 @@ class PageWords:
         digits = self.count(units) + ('' if is_whole else self.point + hundredths)
         return digits if self.currency is None else self.say('amount', amount=digits, currency=self.currency)
 
-    def shows(self, value, text):
-        """Whether people who read this text read this value in it, and no other number."""
+    def shows(self, value, text, is_up=False):
+        """Whether people who read this text read this value in it, and no other number. A fraction is shown in whole hundredths,
+        rounded down, or up."""
+        if '/' in value:
+            hundredths = 100 * fractions.Fraction(value)
+            whole = math.ceil(hundredths) if is_up else math.floor(hundredths)
+            value = f'{whole // 100}.{whole % 100:02}'
         if self.currency is not None:
             text = text.replace(self.currency, '')
         digits = rf'[0-9]{{1,3}}(?:{re.escape(self.group)}[0-9]{{3}})*' if self.group else '[0-9]+'

@@ -1,14 +1,14 @@
 """The files of conformance/, each with its reports by profile.
 
 For each NAME.pb, NAME.txt has lines of remarks, which begin with `#`, and then for each profile a line
-    == ES/MEASURE/COMPLETION/hundredths[/step=AMOUNT][/raises=MOST]/ties=TIES[: status STATUS]
+    == ES/MEASURE/COMPLETION/hundredths|fine[/step=AMOUNT][/raises=MOST]/ties=TIES[: status STATUS]
 or `== MV/ties=TIES` for most votes first, and the lines of standard output up to the next such line.
 """
 import collections, re
 from arguments import TOP
 
 FOLDER = TOP / 'conformance'
-HEAD = re.compile(r'== ((?:MV|ES/(votes|cost)/(none|add1|utilitarian|add1u)/hundredths'
+HEAD = re.compile(r'== ((?:MV|ES/(votes|cost)/(none|add1|utilitarian|add1u)/(hundredths|fine)'
                   r'(?:/step=([0-9]+)[.]([0-9]{2}))?(?:/raises=([0-9]+))?)/ties=([a-z,]*(?:lot:[A-Za-z0-9-]+)?))(?:: status ([1-9]))?')
 # What stands as completion for most votes first, which has no other options.
 MOST_VOTES = 'most-votes'
@@ -24,13 +24,14 @@ class Malformed(Exception):
 
 def options_of(head):
     """The options to which a profile's line gives a value."""
-    _, measure, completion, units, decimals, raises, ties, _ = head.groups()
+    _, measure, completion, money, units, decimals, raises, ties, _ = head.groups()
     named = {'ties': ties} if ties != 'file' else {}
     if measure is None:
         return {'completion': MOST_VOTES} | named
     options = {'measure': measure, 'completion': completion}
     options |= {'step': int(units + decimals)} if units else {}
-    return options | ({'raises': int(raises)} if raises else {}) | named
+    options |= {'raises': int(raises)} if raises else {}
+    return options | ({'money': money} if money == 'fine' else {}) | named
 
 
 def words_of(options):
@@ -51,7 +52,7 @@ def cases_of(path):
         head = HEAD.fullmatch(first)
         if not head or not text.endswith('\n') or '\n\n' in text:
             raise Malformed(f'{path.name} has no profile with a report at: {first}')
-        yield Case(path.with_suffix('.pb'), head[1], options_of(head), text, int(head[8] or 0))
+        yield Case(path.with_suffix('.pb'), head[1], options_of(head), text, int(head[9] or 0))
 
 
 def all_cases():

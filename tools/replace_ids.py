@@ -33,7 +33,7 @@ AMOUNTS, AMOUNT = {('meta', 'budget'), ('projects', 'cost')}, re.compile('[0-9]+
 ENTRY = re.compile('[0-9]+;[0-9]+;(?:cast|replace|withdraw|shut);[0-9,]*;[a-z-]+(?: [0-9]+)?')
 NO_COLUMN = 'a field without a column'
 # The options of a count that have a value.
-RULE = ('measure', 'completion', 'step', 'raises')
+RULE = ('measure', 'completion', 'step', 'raises', 'rule', 'ties', 'money', 'profile', 'decide', 'beside')
 csv.field_size_limit(1 << 30)
 
 

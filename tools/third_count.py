@@ -15,9 +15,10 @@ from third_file import Election, Refused
 MEASURES, COMPLETIONS = ('votes', 'cost'), ('none', 'add1', 'utilitarian', 'add1u')
 MOST_VOTES = 'most-votes'
 
-# What is counted by: a measure, a completion, a step in hundredths, how many raises there may be, and what breaks ties:
-# names of keys and perhaps a lot.
-Rule = collections.namedtuple('Rule', 'measure completion step most ties')
+# What is counted by: a measure, a completion, a step in hundredths, how many raises there may be, what breaks ties
+# (names of keys and perhaps a lot), and how finely money is divided.
+Rule = collections.namedtuple('Rule', 'measure completion step most ties money')
+MONEY = HUNDREDTHS, FINE = 'hundredths', 'fine'
 SEED = '[A-Za-z0-9-]{1,64}'
 
 
@@ -53,32 +54,63 @@ def least_price(cost, rests):
     return low
 
 
+def exact_price(cost, rests):
+    """What each pays where these rests come to the cost exactly, those that are less as a whole; None where they don't."""
+    rests = sorted(rests)
+    for poor, rest in enumerate(rests):
+        price = fractions.Fraction(cost - sum(rests[:poor]), len(rests) - poor)
+        if price <= rest:
+            return price
+    return None
+
+
+def parts_of(election, rule):
+    """Into how many parts a hundredth is divided. All shares, prices and payments are in parts."""
+    return max(1, 10_000 * len(election.ballots)) if rule.money == FINE else 1
+
+
+def opening_share(election, rule):
+    voters = len(election.ballots)
+    return parts_of(election, rule) * election.budget // voters if voters else 0
+
+
+def refuse_too_fine(election, rule):
+    """Refuses a count of fine money whose largest share, or a cost, is no number of 64 bits."""
+    parts = parts_of(election, rule)
+    raised = parts * rule.step * rule.most if rule.completion in ('add1', 'add1u') else 0
+    largest = [opening_share(election, rule) + raised, *(parts * cost for cost in election.costs.values())]
+    if rule.money == FINE and max(largest) >= 2**64:
+        raise Refused('fault;count;6;TooFine', 1)
+
+
 def run(election, rule, share):
     """What the rounds elect at a share, in their order: each project's price, and what it collected."""
     elected, rests = {}, dict.fromkeys(election.ballots, share)
+    parts, price_of = parts_of(election, rule), exact_price if rule.money == FINE else least_price
 
     def order(priced):
         project, price = priced
         return fractions.Fraction(price, election.costs[project]) if rule.measure == 'cost' else price
 
     while True:
-        prices = {project: least_price(election.costs[project], [rests[voter] for voter in election.supporters[project]])
-                  for project in in_order(election, rule) if project not in elected}
+        prices = {it: price_of(parts * election.costs[it], [rests[voter] for voter in election.supporters[it]])
+                  for it in in_order(election, rule) if it not in elected}
         prices = {project: price for project, price in prices.items() if price is not None}
         if not prices:
             return elected
         # Of equals `min` gives the first.
         best, price = min(prices.items(), key=order)
-        paid = {voter: min(rests[voter], price) for voter in election.supporters[best]}
+        # A price that is no whole number of parts is paid rounded down.
+        paid = {voter: min(rests[voter], price // 1) for voter in election.supporters[best]}
         rests.update({voter: rests[voter] - payment for voter, payment in paid.items()})
         elected[best] = price, sum(paid.values())
 
 
 def decided(election, rule):
     """How often the share is raised, the share, and what is elected there."""
-    opening, answer = election.budget // len(election.ballots) if election.ballots else 0, None
+    answer = None
     for raises in range(rule.most + 1):
-        share = opening + raises * rule.step
+        share = opening_share(election, rule) + raises * parts_of(election, rule) * rule.step
         elected = run(election, rule, share)
         left = election.budget - election.cost_of(elected)
         if left < 0:
@@ -105,22 +137,28 @@ def report(election, rule):
         raise Refused('fault;count;2;StepRange', 2)
     if not 0 <= rule.most <= 10**6:
         raise Refused('fault;count;3;RaisesRange', 2)
+    refuse_too_fine(election, rule)
     raises, share, elected = (0, 0, {}) if rule.completion == MOST_VOTES else decided(election, rule)
     added = filled_up(election, rule, elected) if rule.completion in ('utilitarian', 'add1u', MOST_VOTES) else []
+    parts = parts_of(election, rule)
     yield 'budget', money(election.budget)
     yield 'voters', len(election.ballots)
-    yield 'share', money(share)
+    yield 'share', money(share, parts)
     yield 'raises', raises
     for project, (price, _) in elected.items():
-        yield 'elected', project, money(election.costs[project]), money(price)
+        yield 'elected', project, money(election.costs[project]), money(price, parts)
     for project in added:
         yield 'added', project, money(election.costs[project]), len(election.supporters[project])
     yield 'spent', money(election.cost_of([*elected, *added]))
-    yield 'surplus', money(sum(collected for _, collected in elected.values()) - election.cost_of(elected))
+    more = sum(collected for _, collected in elected.values()) - parts * election.cost_of(elected)
+    yield ('uncovered', money(-more, parts)) if rule.money == FINE else ('surplus', money(more))
 
 
-def money(amount):
-    return f'{amount // 100}.{amount % 100:02}'
+def money(amount, parts=1):
+    """An amount of so many parts of a hundredth: as a fraction of a unit, where it is no whole number of hundredths."""
+    exact = fractions.Fraction(amount, parts)
+    whole = exact.numerator
+    return f'{whole // 100}.{whole % 100:02}' if exact.denominator == 1 else str(exact / 100)
 
 
 def given_arguments():
@@ -132,10 +170,11 @@ def given_arguments():
     parser.add_argument('--step', type=int, default=100, metavar='HUNDREDTHS', help='what a raise adds')
     parser.add_argument('--raises', type=int, default=10**6, metavar='MOST', help='how many there may be')
     parser.add_argument('--rule', choices=('equal-shares', MOST_VOTES), help='most-votes has no shares')
+    parser.add_argument('--money', choices=MONEY, default=HUNDREDTHS, help='how finely money is divided')
     parser.add_argument('--ties', type=ties, default='file', metavar='RULE', help='what breaks ties')
     given = parser.parse_args()
     completion = MOST_VOTES if given.rule == MOST_VOTES else given.completion
-    return given.file, Rule(given.measure, completion, given.step, given.raises, given.ties)
+    return given.file, Rule(given.measure, completion, given.step, given.raises, given.ties, given.money)
 
 
 def main():

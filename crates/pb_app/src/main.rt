@@ -10,6 +10,7 @@ mod keeping_watch;
 mod marks;
 mod notes;
 mod page;
+mod page_count;
 mod page_maker;
 mod perform;
 mod published;

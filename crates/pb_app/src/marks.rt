@@ -3,13 +3,14 @@
 ghost use Rattle.std.specs.Prelude.{◌≡◌, IfSome, IsTrue, Some};
 
 use pb_command_line::currency::is_currency;
-use pb_command_line::{Method, PageRun, SaidRule, is_link};
+use pb_command_line::{Decider, Method, PageRun, SaidRule, is_link};
 use pb_core::money::Money;
 use pb_core::no_memory::NoMemory;
 use pb_rounds::measure::Measure;
 use pb_rounds::options::{Completion, LARGEST_STEP, MOST_RAISES};
-use pb_rounds::rule::FillUp;
-use pb_rounds::rule_names::{completion_named, measure_named};
+use pb_rounds::profile_named::profile_named;
+use pb_rounds::rule::{FillUp, Rule};
+use pb_rounds::rule_names::{completion_named, grain_named, measure_named};
 use pb_rounds::tie_rule::{TieRule, ties_named};
 use std::alloc::Global;
 
@@ -26,6 +27,10 @@ pub(crate) struct Marks {
     /// It has the comparison with most votes.
     compares: bool,
     pub(crate) rule: SaidRule,
+    /// By what it was decided which of two rules applies.
+    decider: Option<Decider>,
+    /// The other rule.
+    beside: Option<Rule>,
 }
 
 /// An option of a rule that has a value.
@@ -37,6 +42,7 @@ enum RuleOption {
     Step,
     Raises,
     Ties,
+    Money,
 }
 
 impl Marks {
@@ -57,6 +63,8 @@ impl Marks {
             currency: currency_of(alloc, page)?,
             compares: page.contains("<h2 id='compared'>"),
             rule: rule_of(page),
+            decider: Decider::named(decision_of(page).0),
+            beside: profile_named(alloc, decision_of(page).1)?,
         })
     }
 
@@ -69,6 +77,8 @@ impl Marks {
         ensures currency { IfSome asked.now.currency (λ currency. result.currency ≡ Some currency) }
         ensures words { result.words ≡ asked.now.words }
         ensures compares { IsTrue asked.now.compares → IsTrue result.compares }
+        ensures decider { IfSome asked.now.decider (λ decider. result.decider ≡ Some decider) }
+        ensures beside { IfSome asked.now.beside (λ rule. result.beside ≡ Some rule) }
     {
         let files = text_of(&self.files).filter(|link| is_link(link));
         let recount = text_of(&self.recount).filter(|link| is_link(link));
@@ -83,6 +93,11 @@ impl Marks {
             compares: asked.compares || self.compares,
             same_as: asked.same_as,
             given: asked.given.or(&self.rule),
+            decider: asked.decider.or(self.decider),
+            beside: match asked.beside {
+                Some(rule) => Some(rule),
+                None => self.beside,
+            },
         }
     }
 }
@@ -158,6 +173,7 @@ fn rule_of(page: &str) -> SaidRule {
     rule.measure = Some(Measure::Votes);
     rule = rule.completed(Some((Completion::Add1, FillUp::Nothing)));
     rule.ties = Some(TieRule::file());
+    rule.grain = grain_named("hundredths");
     let mut option = None;
     for word in commands.split_whitespace() {
         match option {
@@ -167,6 +183,7 @@ fn rule_of(page: &str) -> SaidRule {
             Some(RuleOption::Step) => rule.step = step_named(word),
             Some(RuleOption::Raises) => rule.max_raises = raises_named(word),
             Some(RuleOption::Ties) => rule.ties = ties_named(word),
+            Some(RuleOption::Money) => rule.grain = grain_named(word),
             None => {}
         }
         if word == "--plain" {
@@ -174,7 +191,24 @@ fn rule_of(page: &str) -> SaidRule {
         }
         option = option_named(word);
     }
+    // A decided count has the rule that was given there, and its limit where the one that applies has one.
+    let limit = between(page, "<data class='limit' value='", "'>");
+    rule.max_raises = rule.max_raises.or(limit.and_then(raises_named));
     rule
+}
+
+/// What decided, and the name of the other rule, as the command says them; empty texts where it does not.
+fn decision_of(page: &str) -> (&str, &str) {
+    match between(page, "<pre><code>", "</code></pre>").and_then(behind_decide) {
+        Some(decision) => decision.split_once(" --beside ").unwrap_or((decision, "")),
+        None => ("", ""),
+    }
+}
+
+/// What stands behind the option for what decides.
+fn behind_decide(commands: &str) -> Option<&str> {
+    let (_, decision) = commands.split_once(" --decide ")?;
+    Some(decision)
 }
 
 /// The option of a rule that this word is, if it is one with a value.
@@ -186,6 +220,7 @@ fn option_named(word: &str) -> Option<RuleOption> {
         "--step" => Some(RuleOption::Step),
         "--raises" => Some(RuleOption::Raises),
         "--ties" => Some(RuleOption::Ties),
+        "--money" => Some(RuleOption::Money),
         _ => None,
     }
 }

@@ -12,6 +12,8 @@ use std::alloc::Global;
 pub(crate) struct Notes {
     /// The rule of the count.
     pub(crate) rule: Rule,
+    /// The other rule by which the ballots are counted too, if one is named, or may apply.
+    pub(crate) beside: Option<Rule>,
     /// The entries of the journal that was written or audited.
     pub(crate) entries: EntryCounts,
     /// How many rows of `serve` were refused, for whatever reason.
@@ -33,6 +35,7 @@ impl Notes {
     pub(crate) fn new(alloc: Global, rule: Rule, seen: Warnings) -> Notes {
         Notes {
             rule,
+            beside: None,
             entries: EntryCounts::new(),
             refused: 0,
             by_rule: RuleCounts::new(),

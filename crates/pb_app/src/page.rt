@@ -12,7 +12,7 @@ use crate::run_page::run_page;
 use crate::system::System;
 use crate::worded::{refusal_of, words_file_words};
 use pb_command_line::PageRun;
-use pb_commands::AppFault;
+use pb_commands::{AppFault, Decide};
 use pb_faults::RunText;
 use pb_page::{Speech, WordsFault};
 use pb_streams::{End, RunRefusal, open_file};
@@ -21,17 +21,18 @@ use pb_witness::warnings::Warnings;
 use std::fs::File;
 use std::io::{ErrorKind, Read, Write};
 
-/// Counts these ballots, and writes the page of the outcome. If a file of words is given, the page is in its
+/// Counts these ballots, and writes the page of the outcome, which is by the rule that applies where that is decided. If a file of words is given, the page is in its
 /// language, and it is read first. What else refuses the page, and when, is as for the tables. Nothing is
 /// written but the whole page. Where the fault is `Write` some of it may have gone out; on any other refusal
 /// the writer is as it was.
 pub(crate) fn page<'a, R: System, W: Write>(
     run: &CommandRun<'a, R>,
     asked: &PageRun<'a>,
+    decide: Option<Decide>,
     writer: &mut W,
     seen: &mut Warnings,
 ) -> Result<(), RunRefusal>
-    ensures ok { OnOk result ((e : ElectionView) × HasWritten (IsPageBy asked.now run.now.counting.rule.now e)
+    ensures ok { OnOk result ((e : ElectionView) × HasWritten (IsPageBy asked.now run.now.counting.rule.now decide e)
         (W.contents writer.old) (W.contents writer.new)) }
     ensures unchanged { IfErr result (λ refusal.
         refusal ≢ RunRefusal.Fault AppFault.Write → writer.new ≡ writer.old) }
@@ -39,6 +40,7 @@ pub(crate) fn page<'a, R: System, W: Write>(
     let speech = speech_of(run.counting.rt, asked.words)?;
     let maker = PageMaker {
         run: asked,
+        decide,
         speech: &speech,
         file: &run.kinship.file,
         journal: &run.kinship.journal,
@@ -60,7 +62,7 @@ fn write_page<'a, R: System, W: Write>(
     watch: &mut KeepingWatch<'_, Warnings, PageNotes>,
     writer: &mut W,
 ) -> Result<(), AppFault>
-    ensures ok { OnOk result ((e : ElectionView) × HasWritten (IsPageBy maker.now.run.now run.now.counting.rule.now e)
+    ensures ok { OnOk result ((e : ElectionView) × HasWritten (IsPageBy maker.now.run.now run.now.counting.rule.now maker.now.decide e)
         (W.contents writer.old) (W.contents writer.new)) }
     ensures unchanged { IfErr result (λ fault. fault ≢ AppFault.Write → writer.new ≡ writer.old) }
 {

@@ -4,15 +4,16 @@ ghost use Rattle.std.specs.Prelude.{◌≡◌, IfOk, IfSome};
 ghost use Rattle.pb_app.specs.Inner.Page.{AreAsked, IsPageOf};
 
 use crate::keeping_watch::KeepingWatch;
+use crate::page_count::PageCount;
 use crate::tongue::Tongue;
 use pb_command_line::currency::is_currency;
 use pb_command_line::{PROGRAM, PageRun, TextSource};
-use pb_commands::Counting;
+use pb_commands::{Counting, Decide};
 use pb_core::election::Election;
 use pb_core::gate::Gate;
 use pb_core::money::Money;
 use pb_core::no_memory::NoMemory;
-use pb_page::{Categories, Facts, Language, ReadText, page_of};
+use pb_page::{Categories, Decided, Facts, Language, ReadText, page_of};
 use pb_reasons::CountedElection;
 use pb_streams::Hex;
 use pb_witness::page_notes::PageNotes;
@@ -27,6 +28,8 @@ const INPUT: &str = "standard input";
 #[derive(Drop)]
 pub(crate) struct PageMaker<'a, 'p, 'r, S> {
     pub(crate) run: &'p PageRun<'r>,
+    /// How it is decided by which rule the count is, if it is.
+    pub(crate) decide: Option<Decide>,
     pub(crate) speech: &'a S,
     /// The digest of the .pb file, once that is read.
     pub(crate) file: &'a Cell<Option<Hex>>,
@@ -45,6 +48,8 @@ struct SeenOfFile<'a> {
     notes: &'a PageNotes,
     /// The different categories of the projects.
     categories: &'a [&'a str],
+    /// How it was decided by which rule the count is, if it was.
+    decided: Option<Decided>,
 }
 
 impl<S: Tongue> PageMaker<'_, '_, '_, S> {
@@ -53,9 +58,9 @@ impl<S: Tongue> PageMaker<'_, '_, '_, S> {
         &self,
         counting: &Counting<T, G>,
         watch: &KeepingWatch<'_, H, PageNotes>,
-        count: &CountedElection,
+        counted: &PageCount,
     ) -> Result<Vec<u8>, NoMemory>
-        ensures { IfOk result (λ text. IsPageOf self.now.run.now count.now text.items) }
+        ensures { IfOk result (λ text. IsPageOf self.now.run.now counted.now.decided counted.now.count text.items) }
     {
         let notes = &watch.keeper;
         if !notes.is_whole() {
@@ -68,8 +73,9 @@ impl<S: Tongue> PageMaker<'_, '_, '_, S> {
             journal: self.journal.get(),
             notes,
             categories: categories.as_slice(),
+            decided: counted.decided,
         };
-        let page = page_with(counting, count, self.speech, &seen);
+        let page = page_with(counting, &counted.count, self.speech, &seen);
         drop(categories);
         page
     }
@@ -82,7 +88,7 @@ fn page_with<'a, T: Threads + Sync, G: Gate, S: Tongue>(
     speech: &'a S,
     seen: &'a SeenOfFile<'a>,
 ) -> Result<Vec<u8>, NoMemory>
-    ensures { IfOk result (λ text. IsPageOf seen.now.run.now count.now text.items) }
+    ensures { IfOk result (λ text. IsPageOf seen.now.run.now seen.now.decided count.now text.items) }
 {
     let (rt, alloc, gate) = (counting.rt, counting.alloc, counting.gate);
     let said = speech.said(alloc, currency_of(seen))?;
@@ -107,7 +113,7 @@ fn currency_of<'a>(seen: &'a SeenOfFile<'a>) -> Option<&'a str> {
 
 /// What the page says beside the outcome, in this language, which has this title for a page without one.
 fn facts_of<'a>(seen: &'a SeenOfFile<'a>, title: &'a str, language: Language<'a>) -> Facts<'a>
-    ensures { AreAsked seen.now.run.now result }
+    ensures { AreAsked seen.now.run.now seen.now.decided result }
 {
     let run = seen.run;
     let journal = match (&run.ballots.journal, &seen.journal) {
@@ -121,6 +127,7 @@ fn facts_of<'a>(seen: &'a SeenOfFile<'a>, title: &'a str, language: Language<'a>
         files: run.files,
         recount: run.recount,
         compares: run.compares,
+        decided: seen.decided,
         categories: categories_of(seen),
         program: PROGRAM,
         language,

@@ -1,11 +1,12 @@
 //! What the command line asks for, done on real files.
 
 use crate::command_run::CommandRun;
+use crate::deciding::{decide_by, decide_of};
 use crate::export::export;
 use crate::notes::Notes;
 use crate::page::page;
 use crate::published::Published;
-use crate::same_page::same_page;
+use crate::same_page::{Compared, same_page};
 use crate::serve::serve;
 use crate::system::System;
 use crate::tables::{audit, ballots, check, compare, count, desk, tell, ties};
@@ -40,8 +41,9 @@ pub(crate) fn perform<'a, R: System>(
 ) -> Result<(), RunRefusal> {
     output.look()?;
     let published = Published::of(progress.rt, asked)?;
-    let rule = published.rule(asked);
-    notes.rule = published.rule(asked);
+    let rule = published.rule(&*asked);
+    notes.rule = published.rule(&*asked);
+    notes.beside = published.beside(&*asked);
     let prepared = Prepared {
         asked,
         rule: &rule,
@@ -151,14 +153,22 @@ fn page_or_same<'a, R: System, W: Write>(
 ) -> Result<(), RunRefusal> {
     let published = run.published;
     let (Some(text), Some(marks)) = (&published.text, &published.marks) else {
-        return page(run, asked, writer, seen);
+        return page(run, asked, decide_of(run.asked), writer, seen);
     };
     let filled = marks.filled(asked);
-    if refuses_page(run.counting.rt, &filled) {
-        let said = String::new(run.counting.alloc);
-        return Err(RunRefusal::Told(End::Arguments, Ok(said)));
+    match refuses_page(run.counting.rt, run.counting.alloc, &filled) {
+        Ok(false) => {}
+        Ok(true) => {
+            let said = String::new(run.counting.alloc);
+            return Err(RunRefusal::Told(End::Arguments, Ok(said)));
+        }
+        Err(_) => return Err(RunRefusal::Fault(AppFault::Memory)),
     }
-    same_page(run, &filled, text.as_slice(), writer, seen)
+    let compared = Compared {
+        page: text.as_slice(),
+        decide: decide_by(filled.decides(run.asked.rule.options.workers)),
+    };
+    same_page(run, &filled, &compared, writer, seen)
 }
 
 /// The table that a task writes which writes one and no report.

@@ -2,7 +2,7 @@
 
 use crate::marks::Marks;
 use crate::system::System;
-use pb_command_line::{Asked, Task};
+use pb_command_line::{Asked, Decider, Task};
 use pb_commands::AppFault;
 use pb_faults::RunText;
 use pb_rounds::rule::Rule;
@@ -38,14 +38,31 @@ impl Published {
         }
     }
 
-    /// The rule that is asked for, and where the page is compared, what is not given as the page marks it.
-    pub(crate) fn rule(&self, asked: &Asked<'_>) -> Rule {
+    /// The rule that is asked for, and where a page is compared, what is not given as the page marks it.
+    pub(crate) fn rule<'a>(&'a self, asked: &'a Asked<'a>) -> Rule {
         match (&asked.task, &self.marks) {
             (Task::Page(run), Some(marks)) => {
-                let said = run.given.or(&marks.rule);
-                said.rule(asked.rule.options.workers)
+                let filled = marks.filled(run);
+                filled.given.rule(asked.rule.options.workers)
             }
             _ => asked.rule,
         }
     }
+
+    /// In the same way the other rule by which the ballots are counted too, or which may apply, if any.
+    pub(crate) fn beside<'a>(&'a self, asked: &'a Asked<'a>) -> Option<Rule> {
+        match (&asked.task, &self.marks) {
+            (Task::Page(run), Some(marks)) => {
+                let filled = marks.filled(run);
+                other_of(filled.decides(asked.rule.options.workers))
+            }
+            _ => asked.beside(),
+        }
+    }
+}
+
+/// The other rule, if it may apply.
+fn other_of(decides: Option<(Decider, Rule)>) -> Option<Rule> {
+    let (_, other) = decides?;
+    Some(other)
 }

@@ -3,9 +3,9 @@
 ghost use Rattle.std.specs.Prelude.{◌≡◌, ◌≢◌, ◌==◌, ◌≤◌, ℕ, IfOk, IfSome, List, None, count_by};
 ghost use Rattle.std.specs.Prelude.{length, take};
 ghost use Rattle.pb_core.specs.Election.{ElectionView};
-ghost use Rattle.pb_commands.specs.Closed.{CountRefuses, Gives};
+ghost use Rattle.pb_commands.specs.Closed.{Gives};
 ghost use Rattle.pb_commands.specs.Ends.{Ends, IfBothKnown, known};
-ghost use Rattle.pb_app.specs.Inner.Page.{FirstDiffers, IsPageBy};
+ghost use Rattle.pb_app.specs.Inner.Page.{FirstDiffers, IsPageBy, PageRefuses};
 
 use crate::keeping_watch::KeepingWatch;
 use crate::page_maker::PageMaker;
@@ -18,7 +18,7 @@ use pb_witness::page_notes::PageNotes;
 use std::io::Read;
 use std::thread::Threads;
 
-/// Reads an election, counts it by the rule, makes the page of the count, and says where a published page first
+/// Reads an election, counts it by the rule, or by the one that applies, makes the page of the count, and says where a published page first
 /// differs from it, if it does: the number of bytes before that. What refuses the count, and when, is as for the
 /// page.
 pub(crate) fn run_same<
@@ -37,19 +37,19 @@ pub(crate) fn run_same<
 ) -> Result<Option<usize>, AppFault>
     ensures same { IfOk result (λ found. found ≡ None → IfBothKnown (P.remaining inputs.file)
         (known J.remaining inputs.journal) (λ bytes journal.
-        Gives (IsPageBy maker.now.run.now counting.now.rule.now) bytes journal published.now)) }
+        Gives (IsPageBy maker.now.run.now counting.now.rule.now maker.now.decide) bytes journal published.now)) }
     ensures differs { IfOk result (λ found. IfSome found (λ at. IfBothKnown (P.remaining inputs.file)
         (known J.remaining inputs.journal) (λ bytes journal. (text : List ℕ)
-        × Gives (IsPageBy maker.now.run.now counting.now.rule.now) bytes journal text
+        × Gives (IsPageBy maker.now.run.now counting.now.rule.now maker.now.decide) bytes journal text
         × FirstDiffers text published.now at))) }
 
     // Whether or not the bytes are known that were read.
     ensures is_page { IfOk result (λ found. found ≡ None
-        → (e : ElectionView) × IsPageBy maker.now.run.now counting.now.rule.now e published.now) }
+        → (e : ElectionView) × IsPageBy maker.now.run.now counting.now.rule.now maker.now.decide e published.now) }
     ensures is_other { IfOk result (λ found. IfSome found (λ at. (e : ElectionView) × (text : List ℕ)
-        × IsPageBy maker.now.run.now counting.now.rule.now e text × FirstDiffers text published.now at)) }
-    ensures ends { Ends (Gives (IsPageBy maker.now.run.now counting.now.rule.now))
-        (CountRefuses counting.now.rule.now) (P.remaining inputs.file)
+        × IsPageBy maker.now.run.now counting.now.rule.now maker.now.decide e text × FirstDiffers text published.now at)) }
+    ensures ends { Ends (Gives (IsPageBy maker.now.run.now counting.now.rule.now maker.now.decide))
+        (PageRefuses counting.now.rule.now maker.now.decide) (P.remaining inputs.file)
         (known J.remaining inputs.journal) (H.refused_for watch.new.warnings.now) result }
 {
     let mut made = Vec::new(counting.alloc);

@@ -12,7 +12,7 @@ use crate::page_maker::PageMaker;
 use crate::run_same::{line_ends, run_same};
 use crate::system::System;
 use pb_command_line::PageRun;
-use pb_commands::{AppFault, write_out};
+use pb_commands::{AppFault, Decide, write_out};
 use pb_faults::PageRefusal;
 use pb_page::Speech;
 use pb_streams::{End, RunRefusal};
@@ -21,26 +21,34 @@ use pb_witness::warnings::Warnings;
 use pb_words::same_words::differs_words;
 use std::io::Write;
 
+/// The published page that a run compares with the one that it makes, and how it is decided by which rule that is.
+#[derive(Clone, Copy)]
+pub(crate) struct Compared<'p> {
+    pub(crate) page: &'p [u8],
+    pub(crate) decide: Option<Decide>,
+}
+
 /// Counts these ballots, and writes the row `same` where the published page is just the page of the outcome.
 /// Else the first line that differs refuses it. What refuses the page, and when, is as for `page`.
 pub(crate) fn same_page<'a, R: System, W: Write>(
     run: &CommandRun<'a, R>,
     asked: &PageRun<'a>,
-    published: &[u8],
+    published: &Compared<'_>,
     writer: &mut W,
     seen: &mut Warnings,
 ) -> Result<(), RunRefusal>
-    ensures ok { OnOk result ((e : ElectionView) × IsPageBy asked.now run.now.counting.rule.now e published.now
+    ensures ok { OnOk result ((e : ElectionView) × IsPageBy asked.now run.now.counting.rule.now published.now.decide e published.now.page.now
         × Appends (W.contents writer.old) (W.contents writer.new) (codes "same\n")) }
     ensures unchanged { IfErr result (λ refusal.
         refusal ≢ RunRefusal.Fault AppFault.Write → writer.new ≡ writer.old) }
     ensures differs { IfErr result (λ refusal. IfDiffers refusal (λ line. (e : ElectionView) × (text : List ℕ)
-        × IsPageBy asked.now run.now.counting.rule.now e text
-        × (at : ℕ) × FirstDiffers text published.now at × (line ≡ line_of published.now at))) }
+        × IsPageBy asked.now run.now.counting.rule.now published.now.decide e text
+        × (at : ℕ) × FirstDiffers text published.now.page.now at × (line ≡ line_of published.now.page.now at))) }
 {
     let speech = speech_of(run.counting.rt, asked.words)?;
     let maker = PageMaker {
         run: asked,
+        decide: published.decide,
         speech: &speech,
         file: &run.kinship.file,
         journal: &run.kinship.journal,
@@ -49,12 +57,12 @@ pub(crate) fn same_page<'a, R: System, W: Write>(
         warnings: seen,
         keeper: PageNotes::new(run.counting.alloc),
     };
-    let found = difference(run, &maker, &mut watch, published);
+    let found = difference(run, &maker, &mut watch, published.page);
     drop(watch);
     drop(speech);
     match found? {
         None => Ok(write_out(writer, b"same\n", AppFault::Write)?),
-        Some(at) => Err(differs(run, asked, published, at)),
+        Some(at) => Err(differs(run, asked, published.page, at)),
     }
 }
 
@@ -67,9 +75,9 @@ fn difference<'a, R: System>(
     published: &[u8],
 ) -> Result<Option<usize>, AppFault>
     ensures same { IfOk result (λ found. found ≡ None
-        → (e : ElectionView) × IsPageBy maker.now.run.now run.now.counting.rule.now e published.now) }
+        → (e : ElectionView) × IsPageBy maker.now.run.now run.now.counting.rule.now maker.now.decide e published.now) }
     ensures other { IfOk result (λ found. IfSome found (λ at. (e : ElectionView) × (text : List ℕ)
-        × IsPageBy maker.now.run.now run.now.counting.rule.now e text × FirstDiffers text published.now at)) }
+        × IsPageBy maker.now.run.now run.now.counting.rule.now maker.now.decide e text × FirstDiffers text published.now at)) }
 {
     let inputs = run.inputs(&maker.run.ballots)?;
     run_same(&run.counting, inputs, watch, maker, published)

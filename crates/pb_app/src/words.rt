@@ -10,7 +10,6 @@ use pb_durable::file_beside::read_file_beside;
 use pb_export::ExportFault;
 use pb_faults::RunText;
 use pb_rounds::count_fault::CountFault;
-use pb_rounds::options::CountOptions;
 use pb_rounds::rule::Rule;
 use pb_script::ScriptFault;
 use pb_streams::{End, ProgressLine, RunRefusal, behind_link};
@@ -133,9 +132,9 @@ pub(crate) fn say_rule<R: System>(rt: &R, asked: &Asked<'_>, notes: &Notes) {
     let (file, _) = asked.task.paths();
     if let (Some(named), true) = (notes.seen.rule(), counts) {
         // A decision is by two rules, and the file may name the other one.
-        let is_other = match asked.decides {
-            Some((_, other)) => named.0.eq_ignore_ascii_case(other.word()),
-            None => false,
+        let is_other = match (&asked.task, notes.beside) {
+            (Task::Compare(_), _) | (_, None) => false,
+            (_, Some(other)) => named.0.eq_ignore_ascii_case(other.word()),
         };
         if !is_other {
             say_words(rt, rule_words(rt, rt.alloc(), file, named, &notes.rule));
@@ -191,7 +190,7 @@ fn words_of<R: System>(
         }
         AppFault::OtherFile => words_of_other_file(rt, first, path),
         AppFault::OpenDesk => open_desk_words(alloc, second),
-        AppFault::Count(fault) => words_of_count(alloc, asked, fault, &notes.rule.options),
+        AppFault::Count(fault) => words_of_count(alloc, asked, fault, notes),
         AppFault::TooManyRuns => too_many_runs_words(alloc, counted.path()),
         AppFault::Export(ExportFault::SectionWord) => heading_words(rt, alloc, first, second),
         AppFault::Export(_) => comma_words(rt, alloc, first, task.journal().is_some()),
@@ -209,16 +208,11 @@ fn words_of<R: System>(
     }
 }
 
-/// Words for a count by these options that was refused, or where two rules are compared for one of both.
-fn words_of_count(
-    alloc: Global,
-    asked: &Asked<'_>,
-    fault: CountFault,
-    options: &CountOptions,
-) -> Said {
-    let task = &asked.task;
+/// Words for a count that was refused, or where two rules are compared for one of both.
+fn words_of_count(alloc: Global, asked: &Asked<'_>, fault: CountFault, notes: &Notes) -> Said {
+    let (task, options) = (&asked.task, &notes.rule.options);
     let counted = task.journal().unwrap_or(task.texts().0);
-    match asked.beside() {
+    match notes.beside {
         Some(other) => { either_count_words(alloc, counted.path(), fault, options, &other.options) }
         None => count_words(alloc, counted.path(), fault, options),
     }
@@ -320,7 +314,7 @@ pub(crate) fn say_spent<R: System>(
     progress: &ProgressLine<'_, R>,
 ) {
     let own = &notes.rule;
-    let Some(other) = asked.beside() else {
+    let Some(other) = notes.beside else {
         return say_spent_by(rt, asked, own, took, progress);
     };
     match OfTwo::of(CountFault::RaisesSpent, &own.options, &other.options) {

@@ -25,6 +25,8 @@ pub(crate) enum Takes {
     Decide,
     /// The name of a rule for ties.
     Ties,
+    /// How finely money is counted, by name.
+    Money,
     /// The name of a rule, where none of what it says is said by an option of its own.
     Profile,
     /// A text, which its help calls so.
@@ -69,6 +71,7 @@ impl Argument {
             Takes::Method => "RULE",
             Takes::Decide => "BY",
             Takes::Ties => "TIES",
+            Takes::Money => "MONEY",
             Takes::Profile => "NAME",
             Takes::Path | Takes::Nothing | Takes::All => self.name,
         }

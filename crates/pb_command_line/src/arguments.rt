@@ -139,7 +139,7 @@ pub(crate) const MEASURE: Argument = Argument {
 pub(crate) const RULE: Argument = Argument {
     name: "rule",
     takes: Takes::Method,
-    help: "Which rule counts. equal-shares: the Method of Equal Shares; most-votes: projects win in the order of their votes, each if the rest of the budget pays for it. There are no shares with most-votes, so it can't be used with --measure, --completion, --plain, --step or --raises, nor with fairness or page --compare, nor with compare or --decide unless --beside names another rule [default: equal-shares]",
+    help: "Which rule counts. equal-shares: the Method of Equal Shares; most-votes: projects win in the order of their votes, each if the rest of the budget pays for it. There are no shares with most-votes, so it can't be used with --measure, --completion, --plain, --step, --raises or --money, nor with fairness or page --compare, nor with compare or --decide unless --beside names another rule [default: equal-shares]",
 };
 
 /// Which of equal projects comes first.
@@ -149,11 +149,18 @@ pub(crate) const TIES: Argument = Argument {
     help: "Which of equal projects wins. file: the one that comes first in FILE; votes: the one with more votes; cost: the cheaper one; votes,cost and cost,votes: by the one, then by the other. Each of the last four may end in ,lot:SEED, and lot:SEED may stand alone: then a lot that SEED draws decides; SEED has 1 to 64 of A-Z, a-z, 0-9 and -. Projects that are still equal go by FILE [default: file]",
 };
 
+/// How finely money is counted.
+pub(crate) const MONEY: Argument = Argument {
+    name: "money",
+    takes: Takes::Money,
+    help: "How finely shares, prices and payments are counted. hundredths: in whole ones, shares rounded down and prices up; fine: shares and prices are exact, and payments are rounded down to parts of which a hundredth has 10,000 for each voter [default: hundredths]",
+};
+
 /// The one name of the rule.
 pub(crate) const PROFILE: Argument = Argument {
     name: "profile",
     takes: Takes::Profile,
-    help: "The rule by its name, in place of --rule, --measure, --completion, --plain, --step and --ties; for example ES/cost/add1u/hundredths/step=1.00/ties=file (without shares that are raised: ES/votes/none/hundredths/ties=file; most votes first: MV)",
+    help: "The rule by its name, in place of --rule, --measure, --completion, --plain, --step, --ties and --money; for example ES/cost/add1u/hundredths/step=1.00/ties=file (without shares that are raised: ES/votes/none/hundredths/ties=file; most votes first: MV)",
 };
 
 /// The file that gets the result.
@@ -272,21 +279,21 @@ pub(crate) const BY_PROJECT: Argument = Argument {
 pub(crate) const BESIDE: Argument = Argument {
     name: "beside",
     takes: Takes::Text("NAME"),
-    help: "Compares with the rule of this name, as for --profile, in place of most votes first; --raises and --workers are for both counts [default: MV, with the same ties]",
+    help: "Compares with the rule of this name, as for --profile, in place of most votes first; --raises and --workers are for both counts [default: most votes first, with the ties of the first rule]",
 };
 
 /// By what it is judged which of two rules applies.
 pub(crate) const DECIDE: Argument = Argument {
     name: "decide",
     takes: Takes::Decide,
-    help: "Counts by a second rule too. Its result applies if more voters have more by it (choices: more winners among their choices; worth: winners among them that cost more together), otherwise that of the first rule. With --profile, write /decide=BY at the end of the name",
+    help: "Counts by a second rule too. Its result applies if the voters who have more by it outnumber those who have more by the first rule (choices: more winners among their choices; worth: winners among them that cost more together); otherwise that of the first rule does. With --profile, write /decide=BY at the end of the name",
 };
 
 /// The rule that may apply in place of the one that is given.
 pub(crate) const DECIDED_BESIDE: Argument = Argument {
     name: "beside",
     takes: Takes::Text("NAME"),
-    help: "The second rule by its name, as for --profile; --raises and --workers are for both counts [default: MV, with the same ties]",
+    help: "The second rule by its name, as for --profile; --raises and --workers are for both counts [default: most votes first, with the ties of the first rule]",
 };
 
 /// What a page is about.
@@ -328,7 +335,7 @@ pub(crate) const CURRENCY: Argument = Argument {
 pub(crate) const COMPARE: Argument = Argument {
     name: "compare",
     takes: Takes::Nothing,
-    help: "Adds a table that compares this result with that of another rule, by which the projects with the most votes win",
+    help: "Adds a table that compares this result with that of another rule, by which the projects with the most votes win; not with --decide",
 };
 
 /// The published page that is compared with the one that is made.
@@ -379,7 +386,7 @@ pub(crate) fn of_count() -> &'static [Argument] {
 }
 
 const OF_COUNT: &[Argument] = &[
-    WORKERS, STEP, RAISES, PLAIN, COMPLETION, MEASURE, RULE, TIES, PROFILE,
+    WORKERS, STEP, RAISES, PLAIN, COMPLETION, MEASURE, RULE, TIES, MONEY, PROFILE,
 ];
 
 /// The options of what prints the result of a count, which stand together too.

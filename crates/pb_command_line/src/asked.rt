@@ -1,7 +1,6 @@
 //! What parsed arguments ask for.
 
 use crate::rule::{SaidRules, decides, rule_of};
-use crate::said_rule::SaidRule;
 use crate::task::{
     Admits, Asked, AuditRun, Ballots, BallotsRun, CheckRun, CompareRun, CountRun, DeskRun,
     OneChange, PageRun, ServeRun, Task, WhatIfRun, Whose,
@@ -87,7 +86,7 @@ fn count_of<'a>(
             ballots,
             whose: whose_of(given),
         }),
-        "page" => Task::Page(page_of(given, &rules.said, ballots)),
+        "page" => Task::Page(page_of(given, rules, ballots)),
         "export" => Task::Export(ballots),
         _ => return None,
     };
@@ -95,7 +94,7 @@ fn count_of<'a>(
 }
 
 /// The page that the arguments ask for.
-fn page_of<'a>(given: &ArgMatches<'a>, said: &SaidRule, ballots: Ballots<'a>) -> PageRun<'a> {
+fn page_of<'a>(given: &ArgMatches<'a>, rules: &SaidRules, ballots: Ballots<'a>) -> PageRun<'a> {
     PageRun {
         ballots,
         title: given.get_str("title"),
@@ -105,7 +104,9 @@ fn page_of<'a>(given: &ArgMatches<'a>, said: &SaidRule, ballots: Ballots<'a>) ->
         currency: given.get_str("currency"),
         compares: given.get_flag("compare"),
         same_as: given.get_str("same-as").map(source_at),
-        given: *said,
+        given: rules.said,
+        decider: rules.decider,
+        beside: rules.beside,
     }
 }
 

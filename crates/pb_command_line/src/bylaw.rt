@@ -35,16 +35,16 @@ const LOT: &str =
 
 /// The second count, where one decides.
 const SECOND: &str =
-    " These projects are the first result. In a second result the whole budget goes to projects that have supporters: those with the most supporters first, among these the cheapest first, each if what is left covers its cost, and equal ones in the order above. For each voter the two results are compared by";
+    " These projects are the first result. For a second result, the whole budget goes to projects that have supporters: those with the most supporters first, among these the cheapest first, each if what is left covers its cost. Equal projects come in the same order as above. What remains is not spent. For each voter it is found out by which of the two results";
 
 /// What of the choices of a voter that win is compared.
-const BY_CHOICES: &str = "how many winning projects the voter approved";
+const BY_CHOICES: &str = "more of the projects that the voter approved win";
 
-const BY_WORTH: &str = "what the winning projects that the voter approved cost together";
+const BY_WORTH: &str = "the winning projects that the voter approved cost more together";
 
 /// Which result applies.
 const APPLIES: &str =
-    "If more voters have more by the second result than by the first, the second applies; otherwise the first does.";
+    "If the voters of whom this is the second result outnumber those of whom it is the first, the second result applies. Otherwise, also if they are equally many, the first one applies.";
 
 /// What stands behind the name of a rule with a lot.
 const SEED_OF_NAME: &str = ", with the seed in place of SEED";

@@ -2,8 +2,8 @@
 
 use crate::argument::{Argument, Takes};
 use crate::arguments::{
-    AGAINST, ALL, COMPLETION, COST, DECIDE, FIRST, HISTORY, MEASURE, PLAIN, PROJECT, RULE, STEP,
-    TIES, VOTER, VOTERS,
+    AGAINST, ALL, COMPLETION, COST, DECIDE, FIRST, HISTORY, MEASURE, MONEY, PLAIN, PROJECT, RULE,
+    STEP, TIES, VOTER, VOTERS,
 };
 use crate::commands::{CommandForm, forms};
 use crate::decider::DECIDERS;
@@ -11,7 +11,7 @@ use crate::helps::{ABOUT, AFTER_HELP};
 use crate::method::METHODS;
 use crate::rule::is_of_count;
 use clap::{Arg, ArgAction, Command};
-use pb_rounds::rule_names::{COMPLETIONS, MEASURES};
+use pb_rounds::rule_names::{COMPLETIONS, GRAINS, MEASURES};
 use std::alloc::{AllocError, Global};
 
 /// The program's name and its version, which is the same for each build of it.
@@ -146,6 +146,7 @@ fn option<'a>(arg: Arg<'a>, value_name: &'static str, takes: Takes) -> Result<Ar
         Takes::Completion => arg.value_parser(COMPLETIONS).conflicts_with(PLAIN.name),
         Takes::Method => Ok(arg.value_parser(METHODS)),
         Takes::Decide => Ok(arg.value_parser(DECIDERS)),
+        Takes::Money => Ok(arg.value_parser(GRAINS)),
         Takes::Profile => alone(arg),
         Takes::Amount(_) => arg.conflicts_with(VOTERS.name),
         _ => Ok(arg),
@@ -160,5 +161,6 @@ fn alone<'a>(arg: Arg<'a>) -> Result<Arg<'a>, AllocError> {
         .conflicts_with(PLAIN.name)?
         .conflicts_with(STEP.name)?
         .conflicts_with(TIES.name)?
-        .conflicts_with(DECIDE.name)
+        .conflicts_with(DECIDE.name)?
+        .conflicts_with(MONEY.name)
 }

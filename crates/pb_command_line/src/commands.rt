@@ -5,9 +5,9 @@ use crate::argument_group::ArgumentGroup::{OfCount, OfResult, Own};
 use crate::arguments::{
     AGAINST, ALL, BESIDE, BY_ID, BY_PROJECT, CLERKS, COMPARE, COMPLETION, COST, CURRENCY, DECIDE,
     DECIDED_BESIDE, DIGEST, DIGESTS, DURABLE, ELECTION, FILES, FIRST, HISTORY, JOURNAL, KEEP_FILE,
-    KEEP_VOTERS, LEAST, LEFT_BY, MEASURE, NO_SHUT, OTHER_FILE, OUTPUT, PLAIN, PROFILE, PROGRESS,
-    PROJECT, QUIET, QUIET_BALLOTS, QUIET_DESK, QUIET_SERVE, RECOUNT, REQUIRE_SHUT, ROLL, RULE,
-    SAME_AS, SCRIPT, SERVED, SHUT, STEP, STRICT, TIES, TITLE, VOTER, VOTERS, WORDS,
+    KEEP_VOTERS, LEAST, LEFT_BY, MEASURE, MONEY, NO_SHUT, OTHER_FILE, OUTPUT, PLAIN, PROFILE,
+    PROGRESS, PROJECT, QUIET, QUIET_BALLOTS, QUIET_DESK, QUIET_SERVE, RECOUNT, REQUIRE_SHUT, ROLL,
+    RULE, SAME_AS, SCRIPT, SERVED, SHUT, STEP, STRICT, TIES, TITLE, VOTER, VOTERS, WORDS,
 };
 use crate::helps::{AFTER_BALLOTS, AFTER_SERVE};
 
@@ -167,6 +167,7 @@ const PAGE: &CommandForm = &CommandForm {
             ELECTION, LEFT_BY, OTHER_FILE, TITLE, FILES, RECOUNT, WORDS, CURRENCY, COMPARE, SAME_AS,
         ]),
         OfCount,
+        Own(&[DECIDE, DECIDED_BESIDE]),
         OfResult,
     ],
 };
@@ -296,5 +297,7 @@ pub(crate) const BYLAW: &CommandForm = &CommandForm {
     name: "bylaw",
     notes: "Manual pages: man pb_app-counting.",
     about: "Prints the rule of a count as a paragraph for a by-law",
-    groups: &[Own(&[STEP, PLAIN, COMPLETION, MEASURE, RULE, TIES, PROFILE])],
+    groups: &[Own(&[
+        STEP, PLAIN, COMPLETION, MEASURE, RULE, TIES, MONEY, PROFILE, DECIDE,
+    ])],
 };

@@ -21,7 +21,7 @@ pub(crate) const BEFORE: &str = "/decide=";
 
 impl Decider {
     /// The one with this name, if one has it.
-    pub(crate) fn named(name: &str) -> Option<Decider> {
+    pub fn named(name: &str) -> Option<Decider> {
         if name == CHOICES {
             Some(Decider::Choices)
         } else if name == WORTH {

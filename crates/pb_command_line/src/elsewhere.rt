@@ -8,13 +8,22 @@ use std::alloc::{AllocError, Global};
 /// What `clap` says of what it can't pass as a value either.
 const DASHES: &str = "  tip: to pass '";
 
+/// What it says of an option that the command has and that is written alike.
+const ALIKE: &str = "  tip: a similar argument exists: ";
+
 /// The text of a refusal by `clap`, without the lines about `--`, behind which nothing is an option: no
-/// command takes a value that looks like one.
-pub(crate) fn without_dashes(alloc: Global, text: &str) -> Result<String, AllocError> {
+/// command takes a value that looks like one; and without the line about an option that is written alike, if another
+/// command has the one that was given.
+pub(crate) fn without_tips(
+    alloc: Global,
+    text: &str,
+    is_elsewhere: bool,
+) -> Result<String, AllocError> {
     let mut out = String::new(alloc);
     let mut is_blank = false;
     for line in text.split('\n') {
-        if !line.starts_with(DASHES) && !(line.is_empty() && is_blank) {
+        let is_tip = line.starts_with(DASHES) || (is_elsewhere && line.starts_with(ALIKE));
+        if !is_tip && !(line.is_empty() && is_blank) {
             push_behind(&mut out, "\n", line)?;
             is_blank = line.is_empty();
         }
@@ -91,7 +100,11 @@ fn others_with(
         drop(others);
         return Ok(None);
     }
-    let words = if command.starts_with("-") {
+    let words = if !command.starts_with("-") && !others.as_str().contains(',') {
+        format!(in alloc;
+            "`pb_app {command}` has no option --{name}. Only the command {others} has it.\n"
+        )
+    } else if command.starts_with("-") {
         format!(in alloc;
             "Name a command first. These commands have the option --{name}: {others}.\n"
         )

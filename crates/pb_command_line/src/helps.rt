@@ -25,6 +25,8 @@ Which rule your city has:
   Then use these two options with every command that counts. Without them the program uses --measure votes --completion add1.
   If your city does not use this method, its rule is probably that the projects with the most votes win:
   --rule most-votes. The command pb_app compare shows the result of that rule beside the result of Equal Shares.
+  If the by-law says that the result of Equal Shares applies unless more voters do better by most votes, add --decide choices
+  (or --decide worth) to count, audit, projects, voters, page and export.
   A by-law should name the measure, the completion, the step of a raise, and how ties are broken.
 
 Examples:

@@ -5,12 +5,12 @@ use crate::bylaw::bylaw_text;
 use crate::command_line::command_line;
 use crate::commands::BYLAW;
 use crate::decider::Decider;
-use crate::elsewhere::{elsewhere_words, uncounted_words, without_dashes};
+use crate::elsewhere::{elsewhere_words, uncounted_words, without_tips};
 use crate::flaw::Flaw;
 use crate::numbers::{BadNumber, bad_number};
 use crate::rule::{
-    OF_NAMES, SaidRules, are_one, bad_ties, compares, named_rule, refuse_name, rule_of, undecided,
-    without_shares,
+    OF_NAMES, SaidRules, are_one, bad_ties, compares, is_filled, named_rule, refuse_name, rule_of,
+    undecided, without_shares,
 };
 use crate::task::Asked;
 use crate::two_rules::TwoRules;
@@ -74,21 +74,20 @@ fn parsed_by<'a, R: Print + Eprint>(
             return Ok(Parsed::Ends(BAD_ARGUMENTS));
         }
         rules = SaidRules::of(alloc, given)?;
-        if let Some(flaw) = undecided(name, &rules) {
+        if let Some(flaw) = undecided(name, given, &rules) {
             return Ok(refused_by(rt, flaw));
         }
-        if let Some(flaw) = without_shares(
-            name,
-            compares(name, given, &rules),
-            &rules.said,
-            rules.beside.as_ref(),
-        ) {
+        let compares = compares(name, given, &rules);
+        if let Some(flaw) = without_shares(name, compares, &rules.said, rules.beside.as_ref()) {
             return Ok(refused_by(rt, flaw));
         }
         let rule = rule_of(given, &rules.said);
         if let Some(other) = &rules.beside {
-            if are_one(alloc, &rule, other)? {
-                return Ok(refused_by(rt, Flaw::TwoRules(TwoRules::BesideItself)));
+            if !is_filled(given) && are_one(alloc, &rule, other)? {
+                return Ok(refused_by(
+                    rt,
+                    Flaw::TwoRules(TwoRules::BesideItself(rules.decider.is_some())),
+                ));
             }
         }
         if name == BYLAW.name {
@@ -196,17 +195,17 @@ fn say_refused<R: Eprint>(
     error: &Error,
     arguments: &[String],
 ) -> Result<(), AllocError> {
-    let text = format!(in alloc; "{error}")?;
-    let words = without_dashes(alloc, text.as_str());
-    drop(text);
-    let words = words?;
-    let _ = rt.eprint(words.as_str());
-    drop(words);
     let more = match error.kind() {
         ErrorKind::UnknownArgument => elsewhere_words(alloc, arguments)?,
         ErrorKind::MissingRequiredArgument => uncounted_words(alloc, arguments)?,
         _ => None,
     };
+    let text = format!(in alloc; "{error}")?;
+    let words = without_tips(alloc, text.as_str(), more.is_some());
+    drop(text);
+    let words = words?;
+    let _ = rt.eprint(words.as_str());
+    drop(words);
     if let Some(words) = more {
         let _ = rt.eprint(words.as_str());
         drop(words);

@@ -2,29 +2,32 @@
 
 use crate::argument::Argument;
 use crate::arguments::{
-    BESIDE, COMPARE, COMPLETION, DECIDE, MEASURE, PLAIN, PROFILE, RAISES, RULE, STEP, TIES,
-    of_count,
+    BESIDE, COMPARE, COMPLETION, DECIDE, MEASURE, MONEY, PLAIN, PROFILE, RAISES, RULE, SAME_AS,
+    STEP, TIES, of_count,
 };
-use crate::commands::BYLAW;
-use crate::decider::{Decider, split_name};
+use crate::decider::{BEFORE, Decider, split_name};
 use crate::elsewhere::has_option;
 use crate::flaw::{Flaw, TIES_ARE};
 use crate::method::Method;
 use crate::said_rule::SaidRule;
 use crate::task::PageRun;
-use crate::two_rules::TwoRules;
+use crate::two_rules::{Comparing, TwoRules};
 use clap::ArgMatches;
 use pb_core::money::Money;
+use pb_price::Grain;
 use pb_rounds::measure::Measure;
 use pb_rounds::options::{Completion, CountOptions};
 use pb_rounds::profile_named::{nearest_rule, profile_named};
 use pb_rounds::rule::{FillUp, Rule};
-use pb_rounds::rule_names::{completion_named, measure_named};
+use pb_rounds::rule_names::{completion_named, grain_named, measure_named};
 use pb_rounds::tie_rule::{TieRule, ties_named};
 use std::alloc::{AllocError, Global};
 
 /// The options that say a part of how shares are used.
-const OF_SHARES: &[Argument] = &[MEASURE, COMPLETION, PLAIN, STEP, RAISES];
+const OF_SHARES: &[Argument] = &[MEASURE, COMPLETION, PLAIN, STEP, MONEY, RAISES];
+
+/// How what decides begins behind the name of a rule, also where it is not whole.
+const DECIDES: &str = "/decide";
 
 /// The options that give a rule by its name.
 pub(crate) const OF_NAMES: &[Argument] = &[PROFILE, BESIDE];
@@ -84,16 +87,31 @@ fn decider_of(given: &ArgMatches<'_>) -> Option<Decider> {
 /// The other rule, and by what it is judged which one applies, if that is asked: without a name it is most votes first,
 /// with the ties of the rule that counts.
 pub(crate) fn decides(given: &ArgMatches<'_>, rules: &SaidRules) -> Option<(Decider, Rule)> {
-    let by = rules.decider?;
-    let rule = match rules.beside {
-        Some(rule) => rule,
-        None => {
-            let mut said = SaidRule::method(Method::MostVotes);
-            said.ties = rules.said.ties;
-            rule_of(given, &said)
-        }
+    let workers = given.get_one("workers");
+    decision_by(
+        rules.decider,
+        rules.beside,
+        &rules.said,
+        workers.unwrap_or(CountOptions::standard().workers),
+    )
+}
+
+/// The same, where this decides, the other rule is this one, if it is named, and this is said of the rule that counts.
+/// As many raises are allowed by both.
+pub(crate) fn decision_by(
+    decider: Option<Decider>,
+    beside: Option<Rule>,
+    said: &SaidRule,
+    workers: u32,
+) -> Option<(Decider, Rule)> {
+    let by = decider?;
+    let mut other = match beside {
+        Some(rule) => SaidRule::named(&rule),
+        None => SaidRule::method(Method::MostVotes),
     };
-    Some((by, rule))
+    other.ties = other.ties.or(said.ties);
+    other.max_raises = said.max_raises;
+    Some((by, other.rule(workers)))
 }
 
 /// Whether both rules have one name.
@@ -203,7 +221,7 @@ fn is_given(given: &ArgMatches<'_>, option: &str) -> bool {
 /// result is compared with it.
 pub(crate) fn without_shares<'a>(
     command: &str,
-    compares: bool,
+    compares: Option<Comparing>,
     said: &SaidRule,
     beside: Option<&Rule>,
 ) -> Option<Flaw<'a>> {
@@ -219,11 +237,7 @@ pub(crate) fn without_shares<'a>(
     if command == "fairness" {
         return Some(Flaw::NoShares);
     }
-    if compares {
-        Some(Flaw::TwoRules(TwoRules::OneRule(has_option(command, BESIDE.name))))
-    } else {
-        None
-    }
+    compares.map(|by| Flaw::TwoRules(TwoRules::OneRule(by)))
 }
 
 /// Whether there is a rule, and shares are raised by it.
@@ -231,38 +245,82 @@ fn raises_shares(rule: Option<&Rule>) -> bool {
     rule.is_some_and(|rule| matches!(rule.options.completion, Completion::Add1))
 }
 
-/// Whether the arguments of this command ask for a comparison with most votes first, which they don't name.
-pub(crate) fn compares(command: &str, given: &ArgMatches<'_>, rules: &SaidRules) -> bool {
-    match command {
-        "compare" => rules.beside.is_none(),
-        "page" => given.get_flag(COMPARE.name),
-        _ => rules.decider.is_some() && rules.beside.is_none(),
+/// Which comparison with most votes first the arguments of this command ask for, if they do, and don't name it.
+pub(crate) fn compares(
+    command: &str,
+    given: &ArgMatches<'_>,
+    rules: &SaidRules,
+) -> Option<Comparing> {
+    if command == "page" && given.get_flag(COMPARE.name) {
+        return Some(Comparing::Page);
+    }
+    if rules.beside.is_some() || is_filled(given) {
+        return None;
+    }
+    match (command, rules.decider) {
+        ("compare", _) => Some(Comparing::Beside),
+        ("bylaw", Some(_)) => Some(Comparing::Bylaw),
+        (_, Some(_)) => Some(Comparing::Deciding),
+        (_, None) => None,
     }
 }
 
+/// Whether a published page says what the options leave open.
+pub(crate) fn is_filled(given: &ArgMatches<'_>) -> bool {
+    given.get_str(SAME_AS.name).is_some()
+}
+
 /// What is asked for of the comparison step that this command has not, or of the other rule where nothing decides.
-pub(crate) fn undecided<'a>(command: &str, rules: &SaidRules) -> Option<Flaw<'a>> {
-    match (rules.decider, rules.beside) {
-        (Some(_), _) if command != BYLAW.name && !has_option(command, DECIDE.name) => {
-            Some(Flaw::TwoRules(TwoRules::NoDecision))
+pub(crate) fn undecided<'a>(
+    command: &str,
+    given: &ArgMatches<'_>,
+    rules: &SaidRules,
+) -> Option<Flaw<'a>> {
+    let flaw = match (rules.decider, rules.beside) {
+        (Some(_), _) if command == "compare" => TwoRules::BothShown,
+        (Some(_), _) if !has_option(command, DECIDE.name) => TwoRules::NoDecision,
+        (Some(_), _) if command == "page" && given.get_flag(COMPARE.name) => {
+            TwoRules::ComparedToo
         }
-        (None, Some(_)) if has_option(command, DECIDE.name) => Some(Flaw::TwoRules(
-            TwoRules::BesideAlone,
-        )),
-        _ => None,
-    }
+        (None, Some(_)) if has_option(command, DECIDE.name) && !is_filled(given) => {
+            TwoRules::BesideAlone
+        }
+        _ => return None,
+    };
+    Some(Flaw::TwoRules(flaw))
 }
 
 /// Says on standard error why a page is refused that is made as options and a published page say together, and
 /// answers whether it is.
-pub fn refuses_page<R: Eprint>(rt: &R, run: &PageRun<'_>) -> bool {
-    match without_shares("page", run.compares, &run.given, None) {
+pub fn refuses_page<R: Eprint>(
+    rt: &R,
+    alloc: Global,
+    run: &PageRun<'_>,
+) -> Result<bool, AllocError> {
+    match page_flaw(alloc, run)? {
         Some(flaw) => {
             flaw.say(rt);
-            true
+            Ok(true)
         }
-        None => false,
+        None => Ok(false),
     }
+}
+
+/// What is wrong with the rules of such a page, if something is.
+fn page_flaw<'a>(alloc: Global, run: &PageRun<'_>) -> Result<Option<Flaw<'a>>, AllocError> {
+    let compares = match (run.compares, run.decider, run.beside) {
+        (true, Some(_), _) => return Ok(Some(Flaw::TwoRules(TwoRules::ComparedToo))),
+        (_, None, Some(_)) => return Ok(Some(Flaw::TwoRules(TwoRules::BesideAlone))),
+        (true, None, None) => Some(Comparing::Page),
+        (false, Some(_), None) => Some(Comparing::Deciding),
+        (false, _, _) => None,
+    };
+    if let Some(other) = &run.beside {
+        if are_one(alloc, &run.given.rule(1), other)? {
+            return Ok(Some(Flaw::TwoRules(TwoRules::BesideItself(true))));
+        }
+    }
+    Ok(without_shares("page", compares, &run.given, run.beside.as_ref()))
 }
 
 /// What options say of the rule that each say a part of it.
@@ -271,6 +329,7 @@ fn by_options(given: &ArgMatches<'_>) -> SaidRule {
     said.measure = measure_of(given);
     said.step = given.get_one::<u32>("step").map(step_of);
     said.ties = ties_of(given);
+    said.grain = grain_of(given);
     said
 }
 
@@ -282,20 +341,57 @@ pub(crate) fn refuse_name<R: Eprint>(
     option: &str,
     name: &str,
 ) -> Result<(), AllocError> {
+    if name.trim().contains(|c: char| c == ';' || c == ' ') {
+        let _ = eprintln!(rt;
+            "option --{option}: {name:?} is not the name of a rule. Of two names give the first with --profile, and the second with --beside."
+        );
+        return Ok(());
+    }
     if let Some(ties) = no_ties(name) {
         let _ = eprintln!(rt;
             "option --{option}: {name:?} is not the name of a rule: {ties:?} is no rule for ties. {TIES_ARE}"
         );
         return Ok(());
     }
+    if let Some((rule, _)) = name.split_once(DECIDES) {
+        return refuse_decider(rt, alloc, option, name, rule);
+    }
     let nearest = match nearest_rule(name).profile(alloc) {
         Ok(nearest) => nearest,
         Err(_) => return Err(AllocError),
     };
-    let behind = name.strip_prefix(rule_name(option, name)).unwrap_or("");
     let _ = eprintln!(rt;
-        "option --{option}: {name:?} is not the name of a rule. The nearest one is {nearest}{behind}."
+        "option --{option}: {name:?} is not the name of a rule. The nearest one is {nearest}."
     );
+    drop(nearest);
+    Ok(())
+}
+
+/// Says of a name that is to say what decides what can stand behind it, which begins with the name of this rule.
+fn refuse_decider<R: Eprint>(
+    rt: &R,
+    alloc: Global,
+    option: &str,
+    name: &str,
+    rule: &str,
+) -> Result<(), AllocError> {
+    let Ok(nearest) = nearest_rule(rule).profile(alloc) else {
+        return Err(AllocError);
+    };
+    let behind = name.strip_prefix(rule).unwrap_or("");
+    let _ = if option == BESIDE.name {
+        eprintln!(rt;
+            "option --{option}: {name:?} is not the name of a rule. What decides stands at the end of the name that --profile gives, and not here: give {nearest}."
+        )
+    } else if split_name(name).1.is_some() {
+        eprintln!(rt;
+            "option --{option}: {name:?} is not the name of a rule. The nearest one is {nearest}{behind}."
+        )
+    } else {
+        eprintln!(rt;
+            "option --{option}: {name:?} is not the name of a rule. At its end can stand /decide=choices or /decide=worth: give {nearest}{BEFORE}choices or {nearest}{BEFORE}worth."
+        )
+    };
     drop(nearest);
     Ok(())
 }
@@ -329,6 +425,11 @@ fn ties_of(given: &ArgMatches<'_>) -> Option<TieRule> {
 /// A step of so many hundredths.
 fn step_of(hundredths: u32) -> Money {
     Money(u64::from(hundredths))
+}
+
+/// How finely money is counted, if an option says so.
+fn grain_of(given: &ArgMatches<'_>) -> Option<Grain> {
+    grain_named(given.get_str(MONEY.name)?)
 }
 
 /// The measure, if an option names one.

@@ -2,6 +2,7 @@
 
 use crate::method::Method;
 use pb_core::money::Money;
+use pb_price::Grain;
 use pb_rounds::measure::Measure;
 use pb_rounds::options::{Completion, CountOptions};
 use pb_rounds::rule::{FillUp, Rule};
@@ -23,6 +24,8 @@ pub struct SaidRule {
     pub step: Option<Money>,
     /// The most raises that are allowed.
     pub max_raises: Option<u32>,
+    /// How finely money is counted.
+    pub grain: Option<Grain>,
     /// Which of equal projects comes first.
     pub ties: Option<TieRule>,
 }
@@ -54,6 +57,7 @@ impl SaidRule {
             fill_up: Some(rule.fill_up),
             step,
             max_raises: None,
+            grain: Some(options.grain),
             ties: Some(rule.ties),
         }
     }
@@ -82,6 +86,7 @@ impl SaidRule {
             fill_up: None,
             step: None,
             max_raises: None,
+            grain: None,
             ties: None,
         }
     }
@@ -96,6 +101,7 @@ impl SaidRule {
             fill_up: self.fill_up.or(other.fill_up),
             step: self.step.or(other.step),
             max_raises: self.max_raises.or(other.max_raises),
+            grain: self.grain.or(other.grain),
             ties: match self.ties {
                 Some(ties) => Some(ties),
                 None => other.ties,
@@ -124,6 +130,7 @@ impl SaidRule {
             workers,
             completion: self.completion.unwrap_or(standard.completion),
             measure: self.measure.unwrap_or(standard.measure),
+            grain: self.grain.unwrap_or(standard.grain),
         };
         Rule {
             options,

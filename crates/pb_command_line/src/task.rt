@@ -1,6 +1,7 @@
 //! What the arguments of the command line ask for.
 
 use crate::decider::Decider;
+use crate::rule::decision_by;
 use crate::said_rule::SaidRule;
 use crate::text_source::TextSource;
 use pb_core::money::Money;
@@ -122,6 +123,17 @@ pub struct PageRun<'a> {
     pub same_as: Option<TextSource<'a>>,
     /// The rule, as far as options say it.
     pub given: SaidRule,
+    /// By what it is judged whether another rule applies, if that is asked.
+    pub decider: Option<Decider>,
+    /// The other rule, if it is named.
+    pub beside: Option<Rule>,
+}
+
+impl PageRun<'_> {
+    /// The other rule, and by what it is judged which one applies, if that is asked, for so many workers.
+    pub fn decides(&self, workers: u32) -> Option<(Decider, Rule)> {
+        decision_by(self.decider, self.beside, &self.given, workers)
+    }
 }
 
 /// The one change of an election that is counted.

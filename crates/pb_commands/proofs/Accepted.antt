@@ -1,6 +1,7 @@
 -- Which faults come from outside, what merged faults are, and that a file has one report.
-use Rattle.std.proofs.Common.{◌≡◌, ◌≢◌, ℕ, List, None, Ok, Err, refl, sym, ◌∙◌, ap, subst, inl, inr}
+use Rattle.std.proofs.Common.{◌≡◌, ◌≢◌, ℕ, List, [], None, Ok, Err, refl, sym, ◌∙◌, ap, subst, inl, inr}
 use Rattle.std.specs.Prelude.{IfErr, IsErrAnd, Result}
+use Rattle.std.proofs.lemmas.Bool.{true≢false}
 use Rattle.std.proofs.lemmas.Option.{none-some}
 use Rattle.pb_core.specs.Election.{ElectionView}
 use Rattle.pb_read.proofs.Uniqueness.{one_election}
@@ -12,7 +13,7 @@ use Rattle.pb_export.specs.declared.export_fault.ExportFault.TheVariants as expo
 use Rattle.pb_read.specs.declared.fault.ReadKind.{ReadKind}
 use Rattle.pb_read.specs.declared.fault.ReadKind.TheVariants.{NoMemory}
 use Rattle.pb_core.specs.Order.{in_order}
-use Rattle.pb_reasons.specs.Counted.{counted}
+use Rattle.pb_reasons.specs.Counted.{CountedView, counted}
 use Rattle.pb_reasons.specs.CountedElection.{CountedElectionView, IsCountIn, IsFaultIn}
 use Rattle.pb_rounds.proofs.OneOrder.{one_order}
 use Rattle.pb_rounds.specs.TieOrder.{IsSortedFor}
@@ -95,18 +96,27 @@ merged_again (Serving why) = refl
 -- the count of an election that has an outcome is refused from outside alone
 count_from_outside : (e : ElectionView) (options : CountOptions) (o : OutcomeView) → IsCountOf e options o
     → (fault : CountFault) → IsCountFault e options fault → IsOutsideFault (merged (Count fault))
-count_from_outside e options o is_count count.WorkerCount refused = absurd (none-some _ (sym is_count.in_range ∙ refused))
-count_from_outside e options o is_count count.StepRange refused = absurd (none-some _ (sym is_count.in_range ∙ refused))
-count_from_outside e options o is_count count.RaisesRange refused = absurd (none-some _ (sym is_count.in_range ∙ refused))
+count_from_outside e options o is_count count.WorkerCount refused = absurd (none-some _ (sym is_count.in_range.0 ∙ refused))
+count_from_outside e options o is_count count.StepRange refused = absurd (none-some _ (sym is_count.in_range.0 ∙ refused))
+count_from_outside e options o is_count count.RaisesRange refused = absurd (none-some _ (sym is_count.in_range.0 ∙ refused))
 count_from_outside e options o is_count count.RaisesSpent refused = absurd (none-some _ (sym (spent_is_none e options refused) ∙ is_computed e options o is_count))
+count_from_outside e options o is_count count.TooFine refused = absurd (true≢false (sym refused.1 ∙ is_count.in_range.1))
 count_from_outside e options o is_count count.NoMemory refused = refl
 
--- a report doesn't say how many prices were computed
-report_of_other : (e : ElectionView) (fill_up : FillUp) (o : OutcomeView) (priced : List ℕ)
-    → report_of e (counted e fill_up (record o { priced = priced })) ≡ report_of e (counted e fill_up o)
+-- a report doesn't say in which order the projects stand in the file
+abbrev report_by : Rule → ElectionView → CountedView → List ℕ
+report_by rule e c = report_of (record { election = e; order = []; rule = rule; counted = c })
+
+report_is : (x : CountedElectionView) → report_of x ≡ report_by x.rule x.election x.counted
 unfolding report_of
-report_of_other e Nothing o priced = refl
-report_of_other e MostVotes o priced = refl
+report_is x = refl
+
+-- nor how many prices were computed
+report_of_other : (rule : Rule) (e : ElectionView) (fill_up : FillUp) (o : OutcomeView) (priced : List ℕ)
+    → report_by rule e (counted e fill_up (record o { priced = priced })) ≡ report_by rule e (counted e fill_up o)
+unfolding report_of
+report_of_other rule e Nothing o priced = refl
+report_of_other rule e MostVotes o priced = refl
 
 -- an election stands in one way as ties take its projects
 pub one_sorted : (ties : TieRule) (e : ElectionView) (order other : List ℕ) (s t : ElectionView) → IsSortedFor ties e order s → IsSortedFor ties e other t → s ≡ t
@@ -126,6 +136,7 @@ counted_from_outside rule e x is count.WorkerCount refused = fault_from_outside 
 counted_from_outside rule e x is count.StepRange refused = fault_from_outside rule e x is count.StepRange (refused (λ same. cc))
 counted_from_outside rule e x is count.RaisesRange refused = fault_from_outside rule e x is count.RaisesRange (refused (λ same. cc))
 counted_from_outside rule e x is count.RaisesSpent refused = fault_from_outside rule e x is count.RaisesSpent (refused (λ same. cc))
+counted_from_outside rule e x is count.TooFine refused = fault_from_outside rule e x is count.TooFine (refused (λ same. cc))
 counted_from_outside rule e x is count.NoMemory refused = refl
 
 -- an election has one report by a rule
@@ -135,9 +146,10 @@ one_report rule e a b (x, is, same) (y, other, also) =
     let (o, is_count, filled) = is.2 in
     let (p, other_count, other_filled) = other.2 in
     let outcome = one_outcome x.election rule.options o p is_count (subst (λ (s : ElectionView). IsCountOf s rule.options p) (sym sorted) other_count) in
-    same ∙ ap (report_of x.election) filled ∙ ap (λ o. report_of x.election (counted x.election rule.fill_up o)) outcome
-    ∙ report_of_other x.election rule.fill_up p o.priced ∙ ap (λ (s : ElectionView). report_of s (counted s rule.fill_up p)) sorted
-    ∙ ap (report_of y.election) (sym other_filled) ∙ sym also
+    same ∙ report_is x ∙ ap (λ r. report_by r x.election x.counted) is.0 ∙ ap (report_by rule x.election) filled
+    ∙ ap (λ o. report_by rule x.election (counted x.election rule.fill_up o)) outcome
+    ∙ report_of_other rule x.election rule.fill_up p o.priced ∙ ap (λ (s : ElectionView). report_by rule s (counted s rule.fill_up p)) sorted
+    ∙ ap (report_by rule y.election) (sym other_filled) ∙ ap (λ r. report_by r y.election y.counted) (sym other.0) ∙ sym (report_is y) ∙ sym also
 
 report_told : (rule : Rule) (e : ElectionView) (text : List ℕ) → IsTableOf Report rule e text → IsReport rule e text
 unfolding table_of

@@ -56,6 +56,8 @@ module _ {Y : Type 0} (IsSuch : ElectionView → Y → Type 0) (rule other : Rul
         let file = file_of bytes journal e leaves in (file.0, file.1, beside_refuses rule other bytes journal file.0 e count.RaisesRange (λ is. cc) leaves refused)
     either_fails e count.RaisesSpent bytes journal refused leaves =
         let file = file_of bytes journal e leaves in (file.0, file.1, beside_refuses rule other bytes journal file.0 e count.RaisesSpent (λ is. cc) leaves refused)
+    either_fails e count.TooFine bytes journal refused leaves =
+        let file = file_of bytes journal e leaves in (file.0, file.1, beside_refuses rule other bytes journal file.0 e count.TooFine (λ is. cc) leaves refused)
 
     either_bars : (e : ElectionView) (fault : CountFault) (bytes : List ℕ) (journal : Option (List ℕ)) → IsRefusedBeside rule other e fault → Leaves bytes journal e
         → (y : Y) → Gives IsSuch bytes journal y → IsOutsideFault (merged (Count fault))

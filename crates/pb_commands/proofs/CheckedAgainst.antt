@@ -75,6 +75,7 @@ count_fails IsIt e rule count.WorkerCount is fails = (e, is, fails (λ same. cc)
 count_fails IsIt e rule count.StepRange is fails = (e, is, fails (λ same. cc))
 count_fails IsIt e rule count.RaisesRange is fails = (e, is, fails (λ same. cc))
 count_fails IsIt e rule count.RaisesSpent is fails = (e, is, fails (λ same. cc))
+count_fails IsIt e rule count.TooFine is fails = (e, is, fails (λ same. cc))
 
 pub count_refused : {T : Type 0} (IsIt : ElectionView → Type 0) (e : ElectionView) (rule : Rule) (fault : CountFault) (r : Result T AppFault)
     → IsErrAnd r (λ app. app ≡ merged (Count fault)) → IsIt e → (fault ≢ count.NoMemory → IsFaultIn rule e fault) → IfErr r (CheckFails IsIt rule)
@@ -100,6 +101,7 @@ count_reads count.WorkerCount is = cc is
 count_reads count.StepRange is = cc is
 count_reads count.RaisesRange is = cc is
 count_reads count.RaisesSpent is = cc is
+count_reads count.TooFine is = cc is
 
 pub count_unwritten : {T : Type 0} (fault : CountFault) (r : Result T AppFault) → IsErrAnd r (λ app. app ≡ merged (Count fault)) → IfErr r (λ app. app ≢ Write)
 count_unwritten fault r from = given_fault (λ app. app ≢ Write) r (merged (Count fault)) from (count_reads fault)

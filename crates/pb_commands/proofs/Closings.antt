@@ -39,16 +39,16 @@ none_follows IsSuch d text unshut is =
 
 -- the desk's row and the report of a count of its ballots are what is to be written of the desk
 pub report_of_count : (rule : Rule) (d : DeskView) (x : CountedElectionView) → (standing_of d).is_shut ≡ true → IsCountIn rule (closed_election d) x
-    → IsTextOf (IsReport rule) d (text_of_row (entries_row d) ++ report_of x.election x.counted)
-report_of_count rule d x shut is_count = (report_of x.election x.counted, refl, when_true (standing_of d).is_shut _ _ shut (x, is_count, refl))
+    → IsTextOf (IsReport rule) d (text_of_row (entries_row d) ++ report_of x)
+report_of_count rule d x shut is_count = (report_of x, refl, when_true (standing_of d).is_shut _ _ shut (x, is_count, refl))
 
 -- the report of a shut desk's ballots goes after the desk's row
 pub report_follows : (rule : Rule) (d : DeskView) (x : CountedElectionView) (before middle after : List ℕ) → (standing_of d).is_shut ≡ true
-    → IsCountIn rule (closed_election d) x → middle ≡ before ++ text_of_row (entries_row d) → after ≡ middle ++ report_of x.election x.counted
+    → IsCountIn rule (closed_election d) x → middle ≡ before ++ text_of_row (entries_row d) → after ≡ middle ++ report_of x
     → (text : List ℕ) × IsTextOf (IsReport rule) d text × (after ≡ before ++ text)
 report_follows rule d x before middle after shut count row_is put =
     let row = text_of_row (entries_row d) in
-    let report = report_of x.election x.counted in (
+    let report = report_of x in (
       row ++ report,
       (report, refl, when_true (standing_of d).is_shut _ _ shut (x, count, refl)),
       put ∙ ap (λ (t : List ℕ). t ++ report) row_is ∙ append_assoc before row report,

@@ -55,6 +55,7 @@ module _ (rule : Rule) (files : Option (List ℕ)) (journals : Option (Option (L
   count_fails e count.StepRange bytes journal refused leaves = let file = file_of bytes journal e leaves in (file.0, file.1, (e, leaves, refused (λ is. cc)))
   count_fails e count.RaisesRange bytes journal refused leaves = let file = file_of bytes journal e leaves in (file.0, file.1, (e, leaves, refused (λ is. cc)))
   count_fails e count.RaisesSpent bytes journal refused leaves = let file = file_of bytes journal e leaves in (file.0, file.1, (e, leaves, refused (λ is. cc)))
+  count_fails e count.TooFine bytes journal refused leaves = let file = file_of bytes journal e leaves in (file.0, file.1, (e, leaves, refused (λ is. cc)))
 
   pub count_bars : (e : ElectionView) (fault : CountFault) (bytes : List ℕ) (journal : Option (List ℕ)) → IsRefusal rule e fault → Leaves bytes journal e
       → (x : CountedElectionView) → Outcomes rule bytes journal x → IsOutsideFault (merged (Count fault))

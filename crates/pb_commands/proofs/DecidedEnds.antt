@@ -122,6 +122,11 @@ desk_fails demand decide rule d count.RaisesSpent bytes rows refused is = (
   is.stands,
   beside_refuses rule decide.other bytes (Some rows) d.opening.election (closed_election d) count.RaisesSpent (λ is. cc) (d, is, (refused.0, refl)) refused.1,
 )
+desk_fails demand decide rule d count.TooFine bytes rows refused is = (
+  d.opening.election,
+  is.stands,
+  beside_refuses rule decide.other bytes (Some rows) d.opening.election (closed_election d) count.TooFine (λ is. cc) (d, is, (refused.0, refl)) refused.1,
+)
 
 -- one that has such a text is refused from outside alone
 report_outside : (decide : Decide) (rule : Rule) (e : ElectionView) (report : List ℕ) → IsDecided Report decide rule e report → (fault : CountFault) → IsRefusedBeside rule decide.other e fault

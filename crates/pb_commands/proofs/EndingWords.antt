@@ -7,8 +7,10 @@ use Rattle.std.proofs.lemmas.Bool.{eq-eqb, lt-ltb, ne_eqb, or_parts}
 use Rattle.std.proofs.lemmas.List.Elements.{All-head, All-tail}
 use Rattle.std.proofs.lemmas.Option.{slice_get_past, slice_get_read}
 use Rattle.pb_core.specs.Election.{ElectionView}
+use Rattle.pb_price.specs.Grain.{in_parts}
 use Rattle.pb_price.specs.Price.{total_rest}
 use Rattle.pb_price.specs.Supporters.{cost_at, support_of, supporters_at}
+use Rattle.pb_price.specs.declared.grain.Grain.{Grain}
 use Rattle.pb_reasons.proofs.Positions.{some_has_position}
 use Rattle.pb_reasons.proofs.TieWords.{round_is}
 use Rattle.pb_reasons.specs.Counted.{CountedView, is_selected}
@@ -32,12 +34,13 @@ module _ (place : ℕ) where
       let rest = number_is before later (All-tail (λ q. q ≢ place) p before others) in
       one_more false p (before ++ place ∷ later) (ne_eqb p place (All-head (λ q. q ≢ place) p before others)) ∙ omega (arith, rest)
 
-module _ (e : ElectionView) (c : CountedView) where
+module _ (grain : Grain) (e : ElectionView) (c : CountedView) where
   pub won_told : (before : List ElectedView) (w : ElectedView) (later : List ElectedView) → c.outcome.elected ≡ before ++ w ∷ later
       → All (λ (v : ElectedView). v.place ≢ w.place) before
-      → (project_reason e c w.place).ending ≡ ending.Won (record {
+      → (project_reason grain e c w.place).ending ≡ ending.Won (record {
         round = length before + 1;
         price = w.price;
+        exact = w.exact;
         collected = w.collected;
         in_full = count_by (λ voter. paid_for e c.outcome w.place voter == w.price) (supporters_at (support_of e) w.place);
       })
@@ -50,17 +53,17 @@ module _ (e : ElectionView) (c : CountedView) where
       slice_get_read (before ++ w ∷ later) _ (length before) w refl (omega (arith, length-append before (w ∷ later))) (sym (get_or-append_seam before w later w)) in
       let found : slice_get elected (round_of elected w.place) ≡ Some w =
       ap (slice_get elected) numbered ∙ (ap (λ (es : List ElectedView). slice_get es (length before)) split ∙ here) in
-      ap (ending_of e c w.place) found
-      ∙ ap (λ n. ending.Won (record { round = n + 1; price = w.price; collected = w.collected; in_full = in_full })) numbered
+      ap (ending_of grain e c w.place) found
+      ∙ ap (λ n. ending.Won (record { round = n + 1; price = w.price; exact = w.exact; collected = w.collected; in_full = in_full })) numbered
 
   -- none elected it
   past : (place : ℕ) → is_elected c.outcome.elected place ≡ false
-      → (project_reason e c place).ending ≡ ending_of e c place None
+      → (project_reason grain e c place).ending ≡ ending_of grain e c place None
   past place none =
-      ap (ending_of e c place) (slice_get_past c.outcome.elected (round_of c.outcome.elected place) (no_round c.outcome.elected place none))
+      ap (ending_of grain e c place) (slice_get_past c.outcome.elected (round_of c.outcome.elected place) (no_round c.outcome.elected place none))
 
   pub added_told : (before : List ℕ) (place : ℕ) (later : List ℕ) → is_elected c.outcome.elected place ≡ false → c.added ≡ before ++ place ∷ later
-      → All (λ other. other ≢ place) before → (project_reason e c place).ending ≡ ending.Added (record { number = length before + 1 })
+      → All (λ other. other ≢ place) before → (project_reason grain e c place).ending ≡ ending.Added (record { number = length before + 1 })
   added_told before place later none split others =
       let numbered : number_in place c.added ≡ length before = ap (number_in place) split ∙ number_is place before later others in
       let taken : is_taken c.added place ≡ true =
@@ -70,7 +73,7 @@ module _ (e : ElectionView) (c : CountedView) where
 
   pub lost_told : (place : ℕ) → is_selected c place ≡ false
       → let left = total_rest (supporters_at (support_of e) place) c.outcome.rests in
-      (project_reason e c place).ending ≡ ending.Lost (record { left = left; missing = cost_at (support_of e) place - left })
+      (project_reason grain e c place).ending ≡ ending.Lost (record { left = left; missing = in_parts grain (length e.voters) (cost_at (support_of e) place) - left })
   lost_told place unselected =
       let parts = or_parts (is_elected c.outcome.elected place) (is_taken c.added place) unselected in
       past place parts.0 ∙ rw parts.1 refl

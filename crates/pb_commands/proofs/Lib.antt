@@ -32,5 +32,6 @@ pub mod IdsText
 mod Exports
 pub mod WhatIfRows
 pub mod TiesEnds
+mod UnitTexts
 pub mod BesideEnds
 pub mod DecidedEnds

@@ -18,10 +18,11 @@ use Rattle.pb_reasons.specs.Reasons.{paid_for, voter_payments}
 use Rattle.pb_reasons.specs.declared.payment.Payment.{Payment}
 use Rattle.pb_rounds.specs.Outcome.{OutcomeView}
 use Rattle.pb_core.proofs.Members.{range_below}
-use Rattle.pb_core.specs.MoneyText.{money_text}
+use Rattle.pb_reasons.specs.CountedElection.{CountedElectionView}
 use Rattle.pb_core.specs.Order.{position_in}
 use Rattle.pb_reasons.proofs.Sorted.{place_back, position_known}
 use Rattle.pb_commands.specs.Inner.Tables.{in_file_place, payments_in_file, payments_text}
+use Rattle.pb_commands.specs.Report.{in_units}
 
 -- a rising list is what stands in it at each key, one after another
 module _ {X : Type 0} (key : X → ℕ) where
@@ -131,23 +132,24 @@ module _ (order : List ℕ) where
       ∙ flat_map_agree (λ k. here k new) (λ k. map (renamed k) (filter (λ p. slice_index order p.place == k) old))
       (λ k. kept_at place (map (in_file_place order) old) new stable (record { place = k; amount = 0 }) ∙ sym (those_here k old)) (range_with_len 0 (length order))
 
-  abbrev text_in_file : Payment → List ℕ
-  text_in_file p = decimal (slice_index order p.place) ++ (codes ":" ++ money_text p.amount)
+  abbrev text_in_file : CountedElectionView → Payment → List ℕ
+  text_in_file x p = decimal (slice_index order p.place) ++ (codes ":" ++ in_units x p.amount 1)
 
-  abbrev text_of : Payment → List ℕ
-  text_of p = decimal p.place ++ (codes ":" ++ money_text p.amount)
+  abbrev text_of : CountedElectionView → Payment → List ℕ
+  text_of x p = decimal p.place ++ (codes ":" ++ in_units x p.amount 1)
 
   abbrev those_of : List Payment → ℕ → List Payment
   those_of payments place = filter (λ p. slice_index order p.place == place) payments
 
-  texts_here : (place : ℕ) (payments : List Payment) → map text_of (map (renamed place) (those_of payments place)) ≡ map text_in_file (those_of payments place)
-  texts_here place [] = refl
-  texts_here place (p ∷ payments) = elim (cases_Bool (slice_index order p.place == place)) [
+  texts_here : (x : CountedElectionView) (place : ℕ) (payments : List Payment)
+      → map (text_of x) (map (renamed place) (those_of payments place)) ≡ map (text_in_file x) (those_of payments place)
+  texts_here x place [] = refl
+  texts_here x place (p ∷ payments) = elim (cases_Bool (slice_index order p.place == place)) [
     | inl passes ↦
-        rw passes (ap (λ (t : List ℕ). t ∷ map text_of (map (renamed place) (those_of payments place)))
-        (ap (λ k. decimal k ++ (codes ":" ++ money_text p.amount)) (sym (eqb-true (slice_index order p.place) place passes)))
-        ∙ ap (λ (ts : List (List ℕ)). text_in_file p ∷ ts) (texts_here place payments))
-    | inr fails ↦ rw fails (texts_here place payments)
+        rw passes (ap (λ (t : List ℕ). t ∷ map (text_of x) (map (renamed place) (those_of payments place)))
+        (ap (λ k. decimal k ++ (codes ":" ++ in_units x p.amount 1)) (sym (eqb-true (slice_index order p.place) place passes)))
+        ∙ ap (λ (ts : List (List ℕ)). text_in_file x p ∷ ts) (texts_here x place payments))
+    | inr fails ↦ rw fails (texts_here x place payments)
   ]
 
   module _ (is : IsOrder order) where
@@ -170,25 +172,25 @@ module _ (order : List ℕ) where
         let rest = at_position place payments below (λ k d within. known (suc k) d (omega (arith, within))) in
         λ i. cond (test i) (p ∷ rest i) (rest i)
 
-    texts_at : (payments : List Payment) (places : List ℕ) → All (λ place. place < length order) places → All (λ (p : Payment). p.place < length order) payments
-        → map text_of (flat_map (λ place. map (renamed place) (those_of payments place)) places)
-        ≡ map text_in_file (flat_map (λ place. filter (λ p. p.place == place) payments) (map (position_in order) places))
-    texts_at payments [] below known = refl
-    texts_at payments (place ∷ places) below known =
+    texts_at : (x : CountedElectionView) (payments : List Payment) (places : List ℕ) → All (λ place. place < length order) places → All (λ (p : Payment). p.place < length order) payments
+        → map (text_of x) (flat_map (λ place. map (renamed place) (those_of payments place)) places)
+        ≡ map (text_in_file x) (flat_map (λ place. filter (λ p. p.place == place) payments) (map (position_in order) places))
+    texts_at x payments [] below known = refl
+    texts_at x payments (place ∷ places) below known =
         let here_ = map (renamed place) (those_of payments place) in
         let more = flat_map (λ place. map (renamed place) (those_of payments place)) places in
         let there_ = filter (λ p. p.place == position_in order place) payments in
         let others = flat_map (λ place. filter (λ p. p.place == place) payments) (map (position_in order) places) in
-        map-append text_of here_ more
-        ∙ ap (λ (ts : List (List ℕ)). ts ++ map text_of more) (texts_here place payments ∙ ap (map text_in_file) (at_position place payments (below 0 place (omega arith)) known))
-        ∙ ap (λ (ts : List (List ℕ)). map text_in_file there_ ++ ts) (texts_at payments places (λ k d within. below (suc k) d (omega (arith, within))) known)
-        ∙ sym (map-append text_in_file there_ others)
+        map-append (text_of x) here_ more
+        ∙ ap (λ (ts : List (List ℕ)). ts ++ map (text_of x) more) (texts_here x place payments ∙ ap (map (text_in_file x)) (at_position place payments (below 0 place (omega arith)) known))
+        ∙ ap (λ (ts : List (List ℕ)). map (text_in_file x) there_ ++ ts) (texts_at x payments places (λ k d within. below (suc k) d (omega (arith, within))) known)
+        ∙ sym (map-append (text_in_file x) there_ others)
 
     -- the text of payments by the places of the file
-    pub texts_in_file : (payments : List Payment) → All (λ (p : Payment). p.place < length order) payments
-        → payments_text (payments_in_file order payments)
-        ≡ join_with_byte 44 (map text_in_file (flat_map (λ place. filter (λ p. p.place == place) payments) (map (position_in order) (range_with_len 0 (length order)))))
-    texts_in_file payments known = ap (join_with_byte 44) (texts_at payments (range_with_len 0 (length order)) (range_below (length order)) known)
+    pub texts_in_file : (x : CountedElectionView) (payments : List Payment) → All (λ (p : Payment). p.place < length order) payments
+        → payments_text x (payments_in_file order payments)
+        ≡ join_with_byte 44 (map (text_in_file x) (flat_map (λ place. filter (λ p. p.place == place) payments) (map (position_in order) (range_with_len 0 (length order)))))
+    texts_in_file x payments known = ap (join_with_byte 44) (texts_at x payments (range_with_len 0 (length order)) (range_below (length order)) known)
 
 -- what a voter paid is for projects of the election
 pub payments_known : (e : ElectionView) (o : OutcomeView) (voter : ℕ) → IsElection e → voter < length e.voters

@@ -7,8 +7,7 @@ use Rattle.std.proofs.lemmas.List.FromFn.{map-range_with_len_more}
 use Rattle.std.proofs.lemmas.List.{get_or-map, map-append}
 use Rattle.std.proofs.lemmas.List.Elements.{filter-append}
 use Rattle.pb_core.specs.Election.{ElectionView, ProjectView, VoterView}
-use Rattle.pb_core.specs.MoneyText.{money_text}
-use Rattle.pb_price.specs.Supporters.{support_of}
+use Rattle.pb_price.specs.Supporters.{support_in, support_of}
 use Rattle.pb_reasons.proofs.WinnerSums.{cost_at-known}
 use Rattle.pb_reasons.specs.CountedElection.{CountedElectionView, IsCountedElection}
 use Rattle.pb_reasons.specs.Fairness.{needed, spent}
@@ -30,6 +29,7 @@ use Rattle.pb_commands.proofs.RowsGrown.{none_grown, row_grown, rows_grown}
 use Rattle.pb_commands.proofs.PaymentsInFile.{payments_known, texts_in_file}
 use Rattle.pb_commands.specs.Inner.Beside.{beside_columns}
 use Rattle.pb_commands.specs.Inner.Tables.{all_columns, columns_of, payments_in_file, payments_text, row_of}
+use Rattle.pb_commands.specs.Report.{in_units}
 use Rattle.pb_commands.specs.declared.table.Table.TheVariants.{Fairness, Projects, Voters}
 
 module _ {X : Type 0} (columns : List (Column X)) where
@@ -108,7 +108,7 @@ names_taken x width is = ap (λ n. take n (map (λ k. k.0) (all_columns x))) (is
 
 -- the row of a project, as it is written
 pub project_row_read : (x : CountedElectionView) (place : ℕ) (p : ProjectView) → place < length x.election.projects → p ≡ get_or x.election.projects place p
-    → (number cost votes : Field) → number ≡ Number (slice_index x.order place) → cost ≡ Amount p.cost → votes ≡ Number (project_reason x.election x.counted place).votes
+    → (number cost votes : Field) → number ≡ Number (slice_index x.order place) → cost ≡ Amount p.cost → votes ≡ Number (project_reason x.rule.options.grain x.election x.counted place).votes
     → (id name : List ℕ) → id ≡ p.id → name ≡ p.name → (more : Fields) → more ≡ drop 5 (row_of (all_columns x) place)
     → (width : ℕ) → width ≡ length (columns_of Projects x)
     → take width (field_text number ∷ id ∷ name ∷ field_text cost ∷ field_text votes ∷ more) ≡ row_of (columns_of Projects x) place
@@ -129,21 +129,21 @@ beside_row_read e rule other winners others place p known is number cost wins ot
 -- the row of a project that lost, as it is written
 pub loser_row_read : (x : CountedElectionView) (place : ℕ) (p : ProjectView) → place < length x.election.projects → p ≡ get_or x.election.projects place p
     → (id : List ℕ) → id ≡ p.id → (votes : ℕ) → votes ≡ votes_at (support_of x.election) place
-    → (share need : Field) → share ≡ Amount x.counted.outcome.share → need ≡ Amount (needed (support_of x.election) place)
-    → (most : ℕ) → most ≡ spent x.rule.options.measure (support_of x.election) x.counted.outcome place
-    → id ∷ decimal votes ∷ field_text share ∷ field_text need ∷ money_text most ∷ [] ≡ row_of (columns_of Fairness x) place
-loser_row_read x place p known is id id_is votes votes_is share need share_is need_is most most_is =
+    → (share need most : List ℕ) → share ≡ in_units x x.counted.outcome.share 1 → need ≡ in_units x (needed (support_in x.rule.options.grain x.election) place) 1
+    → most ≡ in_units x (spent x.rule.options.measure (support_in x.rule.options.grain x.election) x.counted.outcome place) 1
+    → id ∷ decimal votes ∷ share ∷ need ∷ most ∷ [] ≡ row_of (columns_of Fairness x) place
+loser_row_read x place p known is id id_is votes votes_is share need most share_is need_is most_is =
     rw (id_is, votes_is, share_is, need_is, most_is, ← id_at-known x.election place p known is) refl
 
 -- the row of a voter, as it is written
 pub voter_row_read : (x : CountedElectionView) (voter : ℕ) (v : VoterView) → IsCountedElection x → voter < length x.election.voters → v ≡ get_or x.election.voters voter v
     → (id : List ℕ) → id ≡ v.id → (r : VoterReason) → r ≡ voter_reason x.election x.counted voter → (payments : List Payment) → payments ≡ payments_in_file x.order (voter_payments x.election x.counted.outcome voter)
-    → id ∷ decimal r.votes ∷ decimal r.elected ∷ money_text r.paid ∷ money_text r.left ∷ payments_text payments ∷ [] ≡ row_of (columns_of Voters x) voter
+    → id ∷ decimal r.votes ∷ decimal r.elected ∷ in_units x r.paid 1 ∷ in_units x r.left 1 ∷ payments_text x payments ∷ [] ≡ row_of (columns_of Voters x) voter
 voter_row_read x voter v counted known is id id_is r r_is payments payments_is =
     let own = voter_payments x.election x.counted.outcome voter in
     let below = subst (λ many. All (λ (p : Payment). p.place < many) own) (sym counted.one_each) (payments_known x.election x.counted.outcome voter counted.is_election known) in
-    let texts = texts_in_file x.order counted.is_order own below
-    ∙ ap (λ many. join_with_byte 44 (map (λ (p : Payment). decimal (slice_index x.order p.place) ++ (codes ":" ++ money_text p.amount))
+    let texts = texts_in_file x.order counted.is_order x own below
+    ∙ ap (λ many. join_with_byte 44 (map (λ (p : Payment). decimal (slice_index x.order p.place) ++ (codes ":" ++ in_units x p.amount 1))
     (flat_map (λ place. filter (λ p. p.place == place) own) (map (position_in x.order) (range_with_len 0 many))))) counted.one_each in
-    ap (λ (t : List ℕ). id ∷ decimal r.votes ∷ decimal r.elected ∷ money_text r.paid ∷ money_text r.left ∷ t ∷ []) (ap payments_text payments_is ∙ texts)
+    ap (λ (t : List ℕ). id ∷ decimal r.votes ∷ decimal r.elected ∷ in_units x r.paid 1 ∷ in_units x r.left 1 ∷ t ∷ []) (ap (payments_text x) payments_is ∙ texts)
     ∙ rw (r_is, id_is ∙ ap (λ (u : VoterView). u.id) is ∙ sym (get_or-map (λ (u : VoterView). u.id) x.election.voters voter v [] known)) refl

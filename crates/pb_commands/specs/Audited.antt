@@ -22,7 +22,7 @@ pub record IsDeskOf (bytes journal : List ℕ) (d : DeskView) : Type 0 where
 
 -- the report of a count of the election by this rule
 abbrev pub IsReport : Rule → ElectionView → List ℕ → Type 0
-IsReport rule e report = (x : CountedElectionView) × IsCountIn rule e x × (report ≡ report_of x.election x.counted)
+IsReport rule e report = (x : CountedElectionView) × IsCountIn rule e x × (report ≡ report_of x)
 
 -- what is written of a desk: its row, and then, where it is shut, such a report of the ballots that its journal
 -- leaves

@@ -4,7 +4,7 @@ use Rattle.std.specs.Prelude.{◌==◌, filter, flat_map, slice_index, slice_ind
 use Rattle.std.specs.List.{enumerate_from, join_with_byte, range_with_len}
 use Rattle.pb_core.specs.Election.{ElectionView, project_ids, voter_ids}
 use Rattle.pb_core.specs.MoneyText.{money_text}
-use Rattle.pb_price.specs.Supporters.{cost_at, support_of}
+use Rattle.pb_price.specs.Supporters.{cost_at, support_in, support_of}
 use Rattle.pb_reasons.specs.CountedElection.{CountedElectionView, IsCountIn, IsCountedElection, in_file}
 use Rattle.pb_reasons.specs.Fairness.{losers, needed, spent}
 use Rattle.pb_reasons.specs.Reasons.{project_reason, voter_payments, voter_reason}
@@ -17,7 +17,7 @@ use Rattle.pb_rounds.specs.RuleNames.{fills_up}
 use Rattle.pb_rounds.specs.declared.rule.Rule.{Rule}
 use Rattle.pb_rows.specs.Reading.{Fields}
 use Rattle.pb_rows.specs.Tables.{Column, table_text}
-use Rattle.pb_commands.specs.Report.{report_of}
+use Rattle.pb_commands.specs.Report.{in_units, report_of}
 use Rattle.pb_commands.specs.declared.table.Table.{Table}
 use Rattle.pb_commands.specs.declared.table.Table.TheVariants.{Fairness, Projects, Report, Voters}
 
@@ -30,10 +30,10 @@ project_head e in_file =
     ∷ (codes "votes", λ place. decimal (votes_at (support_of e) place)) ∷ []
 
 -- the fields of an ending, up to its last: what another would say is empty
-abbrev pub fields_of : Ending → Fields
-fields_of (ending.Won w) = decimal w.round ∷ money_text w.price ∷ money_text w.collected ∷ decimal w.in_full ∷ []
-fields_of (ending.Lost l) = [] ∷ [] ∷ [] ∷ [] ∷ money_text l.left ∷ money_text l.missing ∷ []
-fields_of (ending.Added a) = [] ∷ [] ∷ [] ∷ [] ∷ [] ∷ [] ∷ decimal a.number ∷ []
+abbrev pub fields_of : CountedElectionView → Ending → Fields
+fields_of x (ending.Won w) = decimal w.round ∷ in_units x w.exact.amount w.exact.payers ∷ in_units x w.collected 1 ∷ decimal w.in_full ∷ []
+fields_of x (ending.Lost l) = [] ∷ [] ∷ [] ∷ [] ∷ in_units x l.left 1 ∷ in_units x l.missing 1 ∷ []
+fields_of x (ending.Added a) = [] ∷ [] ∷ [] ∷ [] ∷ [] ∷ [] ∷ decimal a.number ∷ []
 
 -- the columns of rules, each by its name and what its winners come to
 abbrev pub rule_columns : List (Column (List ℕ × RuleRow))
@@ -50,27 +50,27 @@ rule_columns = (codes "rule", λ r. r.0) ∷ (codes "projects", λ r. decimal r.
 abbrev pub table_by : Table → CountedElectionView → List (Column ℕ) × List ℕ
 table_by Report x = ([], [])
 table_by Projects x = let columns : List (Column ℕ) = project_head x.election (slice_index x.order)
-    ++ map (λ (k : ℕ × List ℕ). (k.1, λ (place : ℕ). slice_index_or (fields_of (project_reason x.election x.counted place).ending) k.0 []))
+    ++ map (λ (k : ℕ × List ℕ). (k.1, λ (place : ℕ). slice_index_or (fields_of x (project_reason x.rule.options.grain x.election x.counted place).ending) k.0 []))
     (enumerate_from 0 (codes "round" ∷ codes "price" ∷ codes "collected" ∷ codes "in_full" ∷ codes "left"
     ∷ codes "missing" ∷ (if fills_up x.counted.fill_up then codes "added" ∷ [] else []))) in (columns, in_file x)
-table_by Voters x = let told = voter_reason x.election x.counted in
-    let payment = λ (p : Payment). decimal (slice_index x.order p.place) ++ (codes ":" ++ money_text p.amount) in
+table_by Voters x = let reason = voter_reason x.election x.counted in
+    let payment = λ (p : Payment). decimal (slice_index x.order p.place) ++ (codes ":" ++ in_units x p.amount 1) in
     let paid = λ (v : ℕ). flat_map (λ place. filter (λ (p : Payment). p.place == place) (voter_payments x.election x.counted.outcome v)) (in_file x) in
-    let columns : List (Column ℕ) = (codes "voter_id", λ v. slice_index_or (voter_ids x.election) v []) ∷ (codes "votes", λ v. decimal (told v).votes)
-    ∷ (codes "elected", λ v. decimal (told v).elected) ∷ (codes "paid", λ v. money_text (told v).paid)
-    ∷ (codes "left", λ v. money_text (told v).left)
+    let columns : List (Column ℕ) = (codes "voter_id", λ v. slice_index_or (voter_ids x.election) v []) ∷ (codes "votes", λ v. decimal (reason v).votes)
+    ∷ (codes "elected", λ v. decimal (reason v).elected) ∷ (codes "paid", λ v. in_units x (reason v).paid 1)
+    ∷ (codes "left", λ v. in_units x (reason v).left 1)
     ∷ (codes "payments", λ v. join_with_byte 44 (map payment (paid v))) ∷ [] in (columns, range_with_len 0 (length x.election.voters))
-table_by Fairness x = let s = support_of x.election in
+table_by Fairness x = let s = support_in x.rule.options.grain x.election in
     let columns : List (Column ℕ) = (codes "project_id", λ place. slice_index_or (project_ids x.election) place [])
     ∷ (codes "votes", λ place. decimal (votes_at s place))
-    ∷ (codes "share", λ place. money_text x.counted.outcome.share)
-    ∷ (codes "needed", λ place. money_text (needed s place))
-    ∷ (codes "spent", λ place. money_text (spent x.rule.options.measure s x.counted.outcome place)) ∷ []
+    ∷ (codes "share", λ place. in_units x x.counted.outcome.share 1)
+    ∷ (codes "needed", λ place. in_units x (needed s place) 1)
+    ∷ (codes "spent", λ place. in_units x (spent x.rule.options.measure s x.counted.outcome place) 1) ∷ []
     in (columns, filter (is_taken (losers x.election x.counted)) (in_file x))
 
 -- a report or a table of a count, as text
 unfoldable pub table_of : Table → CountedElectionView → List ℕ
-table_of Report x = report_of x.election x.counted
+table_of Report x = report_of x
 table_of table x = let t = table_by table x in table_text t.0 t.1
 
 -- the text is this report or table of what a count of the election by this rule comes to

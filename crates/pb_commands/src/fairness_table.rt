@@ -1,7 +1,7 @@
 //! The table of fairness: what a supporter of each project that lost had spent.
 
 ghost use Rattle.std.specs.Prelude.{◌≡◌, ◌<◌, ◌++◌, ◌&&◌, OnOk, length, nat_lt, not};
-ghost use Rattle.pb_price.specs.Supporters.{support_of};
+ghost use Rattle.pb_price.specs.Supporters.{support_in, support_of};
 ghost use Rattle.pb_reasons.specs.Counted.{winners_of};
 ghost use Rattle.pb_reasons.specs.Fairness.{spent};
 ghost use Rattle.pb_rounds.specs.MostVotes.{is_taken, votes_at};
@@ -10,6 +10,7 @@ ghost use Rattle.pb_commands.specs.Tables.{table_of};
 ghost use Rattle.pb_commands.specs.declared.table.Table.TheVariants.{Fairness};
 ghost use Rattle.pb_commands.specs.Inner.Tables.{columns_of, row_of};
 
+use crate::in_units::in_units;
 use pb_core::no_memory::NoMemory;
 use pb_reasons::{CountedElection, most_spent, needed};
 use pb_rows::{Field, RowsWriter};
@@ -54,19 +55,20 @@ fn put_loser(
 ) -> Result<(), NoMemory>
     requires known { place < length count.now.election.projects }
     requires supported { 0 < votes_at (support_of count.now.election) place }
-    requires most { most ≡ spent count.now.rule.options.measure (support_of count.now.election)
-        count.now.counted.outcome place }
+    requires most { most ≡ spent count.now.rule.options.measure
+        (support_in count.now.rule.options.grain count.now.election) count.now.counted.outcome place }
     ensures { OnOk result (rows.new.text
         ≡ rows.old.text ++ text_of_row (row_of (columns_of Fairness count.now) place)) }
 {
     let project = &count.election().projects()[place as usize];
     let supporters = count.supporters();
+    let outcome = count.outcome();
     let fields = [
         Field::Text(project.id()),
         Field::Number(supporters.of(place).len() as u64),
-        Field::amount(count.outcome().share),
-        Field::amount(needed(supporters, place)),
-        Field::Amount(most),
+        in_units(count, outcome.share),
+        in_units(count, needed(supporters, place)),
+        Field::Exact(most, count.parts()),
     ];
     rows.put_fields(&fields)?;
     Ok(())

@@ -16,8 +16,10 @@ ghost use Rattle.pb_desk.specs.Step.{step, voter_of};
 ghost use Rattle.pb_read.specs.StandsFor.{StandsFor, most_records};
 ghost use Rattle.pb_rows.specs.Reading.{records_of};
 ghost use Rattle.pb_rows.specs.Writing.{text_of_row};
+ghost use Rattle.pb_price.specs.Grain.{in_parts};
 ghost use Rattle.pb_price.specs.Price.{total_rest};
 ghost use Rattle.pb_price.specs.Supporters.{cost_at, support_of, supporters_at};
+ghost use Rattle.pb_price.specs.declared.grain.Grain.{Grain};
 ghost use Rattle.pb_reasons.specs.Counted.{CountedView, is_selected};
 ghost use Rattle.pb_reasons.specs.CountedElection.{CountedElectionView, IsCountIn};
 ghost use Rattle.pb_reasons.specs.Reasons.{paid_for, project_reason};
@@ -94,7 +96,7 @@ pub fn journals_recount()
         (d.journal ≡ served) }
     ensures winners { (d : DeskView) (rule : Rule) (x : CountedElectionView)
         → (standing_of d).is_shut ≡ true → IsCountIn rule (closed_election d) x
-        → IsTextOf (IsReport rule) d (text_of_row (entries_row d) ++ report_of x.election x.counted) }
+        → IsTextOf (IsReport rule) d (text_of_row (entries_row d) ++ report_of x) }
 {}
 
 /// What the number in a row of the table of ballots says. Of each ballot that a legal journal leaves on the
@@ -134,30 +136,35 @@ pub fn replay_is_its_steps()
         → replay o (journal ++ x ∷ []) ≡ step o (replay o journal) x.request }
 {}
 
-/// How a project ended. If it is elected, the round is told that elected it, from 1, its price, what that collected, and
-/// how many of its supporters paid all of it. Otherwise, if it is added, the number by which it is; and if it is neither,
-/// what its supporters have left together, and what lacks to its cost.
+/// How a project ended. If it is elected, the round is told that elected it, from 1, its price, rounded down and as it is,
+/// what that collected, and how many of its supporters paid all of it, rounded down. Otherwise, if it is added, the number
+/// by which it is; and if it is neither, what its supporters have left together, and what lacks to its cost in the parts
+/// that are counted.
 pub fn endings_are_their_words()
-    ensures votes { (e : ElectionView) (c : CountedView) (place : ℕ)
-        → (project_reason e c place).votes ≡ votes_at (support_of e) place }
-    ensures won { (e : ElectionView) (c : CountedView) (before : List ElectedView) (w : ElectedView)
+    ensures votes { (grain : Grain) (e : ElectionView) (c : CountedView) (place : ℕ)
+        → (project_reason grain e c place).votes ≡ votes_at (support_of e) place }
+    ensures won { (grain : Grain) (e : ElectionView) (c : CountedView) (before : List ElectedView) (w : ElectedView)
         → (later : List ElectedView) → c.outcome.elected ≡ before ++ w ∷ later
         → All (λ (v : ElectedView). v.place ≢ w.place) before
-        → (project_reason e c w.place).ending ≡ ending.Won (record {
+        → (project_reason grain e c w.place).ending ≡ ending.Won (record {
           round = length before + 1;
           price = w.price;
+          exact = w.exact;
           collected = w.collected;
           in_full = count_by (λ voter. paid_for e c.outcome w.place voter == w.price)
               (supporters_at (support_of e) w.place);
         }) }
-    ensures added { (e : ElectionView) (c : CountedView) (before : List ℕ) (place : ℕ) (later : List ℕ)
+    ensures added { (grain : Grain) (e : ElectionView) (c : CountedView) (before : List ℕ) (place : ℕ) (later : List ℕ)
         → is_elected c.outcome.elected place ≡ false → c.added ≡ before ++ place ∷ later
         → All (λ other. other ≢ place) before
-        → (project_reason e c place).ending ≡ ending.Added (record { number = length before + 1 }) }
-    ensures lost { (e : ElectionView) (c : CountedView) (place : ℕ) → is_selected c place ≡ false
+        → (project_reason grain e c place).ending ≡ ending.Added (record { number = length before + 1 }) }
+    ensures lost { (grain : Grain) (e : ElectionView) (c : CountedView) (place : ℕ) → is_selected c place ≡ false
         → let left = total_rest (supporters_at (support_of e) place) c.outcome.rests in
-        (project_reason e c place).ending
-        ≡ ending.Lost (record { left = left; missing = cost_at (support_of e) place - left }) }
+        (project_reason grain e c place).ending
+        ≡ ending.Lost (record {
+          left = left;
+          missing = in_parts grain (length e.voters) (cost_at (support_of e) place) - left;
+        }) }
 {}
 
 /// Out of memory is one fault, whichever crate met it: each fault of which `NoMemory` is told by its name, or memory by

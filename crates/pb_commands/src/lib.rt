@@ -15,6 +15,7 @@ mod digested;
 mod export_text;
 mod fairness_table;
 mod history_table;
+mod in_units;
 mod inputs;
 pub mod laws;
 mod losers_table;

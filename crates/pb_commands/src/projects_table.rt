@@ -1,14 +1,19 @@
 //! The table of projects: who won and why, who lost and by how much.
 
 ghost use Rattle.std.specs.Prelude.{◌≡◌, ◌<◌, ◌≤◌, ◌++◌, ◌∷◌, ℕ, [], OnOk, drop, length};
+ghost use Rattle.pb_price.specs.Price.{HasPayers};
+ghost use Rattle.pb_price.specs.Supporters.{support_in};
 ghost use Rattle.pb_reasons.specs.CountedElection.{CountedElectionView};
 ghost use Rattle.pb_reasons.specs.Reasons.{project_reason};
+ghost use Rattle.pb_reasons.specs.declared.project_reason.Ending.TheVariants as kind;
+ghost use Rattle.pb_reasons.specs.declared.project_reason.Won.{Won};
 ghost use Rattle.pb_rows.specs.Tables.{field_text};
 ghost use Rattle.pb_rows.specs.Writing.{text_of_row};
 ghost use Rattle.pb_commands.specs.Tables.{table_of};
 ghost use Rattle.pb_commands.specs.declared.table.Table.TheVariants.{Projects};
 ghost use Rattle.pb_commands.specs.Inner.Tables.{all_columns, columns_of, row_of};
 
+use crate::in_units::{in_units, price_in_units};
 use pb_core::no_memory::NoMemory;
 use pb_reasons::{CountedElection, Ending};
 use pb_rounds::rule::FillUp;
@@ -68,7 +73,7 @@ fn put_project(
 {
     let project = &count.election().projects()[place as usize];
     let reason = count.project(place);
-    let said = said_of(reason.ending);
+    let said = said_of(count, reason.ending);
     let fields = [
         Field::number(count.place(place)),
         Field::Text(project.id()),
@@ -111,18 +116,20 @@ const NOTHING: EndingFields = EndingFields {
 };
 
 /// The fields on how a project ended.
-fn said_of(ending: Ending) -> EndingFields
-    ensures { (x : CountedElectionView) (place : ℕ)
-        → ending ≡ (project_reason x.election x.counted place).ending
+fn said_of(count: &CountedElection, ending: Ending) -> EndingFields
+    requires { (won : Won) → ending ≡ kind.Won won
+        → HasPayers (support_in count.now.rule.options.grain count.now.election) won.exact }
+    ensures { (place : ℕ)
+        → ending ≡ (project_reason count.now.rule.options.grain count.now.election count.now.counted place).ending
         → field_text result.round ∷ field_text result.price ∷ field_text result.collected
         ∷ field_text result.in_full ∷ field_text result.left ∷ field_text result.missing
-        ∷ field_text result.added ∷ [] ≡ drop 5 (row_of (all_columns x) place) }
+        ∷ field_text result.added ∷ [] ≡ drop 5 (row_of (all_columns count.now) place) }
 {
     match ending {
         Ending::Won(won) => EndingFields {
             round: Field::number(won.round),
-            price: Field::amount(won.price),
-            collected: Field::amount(won.collected),
+            price: price_in_units(count, won.exact),
+            collected: in_units(count, won.collected),
             in_full: Field::number(won.in_full),
             ..NOTHING
         },
@@ -131,8 +138,8 @@ fn said_of(ending: Ending) -> EndingFields
             ..NOTHING
         },
         Ending::Lost(lost) => EndingFields {
-            left: Field::amount(lost.left),
-            missing: Field::amount(lost.missing),
+            left: in_units(count, lost.left),
+            missing: in_units(count, lost.missing),
             ..NOTHING
         },
     }

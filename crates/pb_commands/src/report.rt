@@ -1,17 +1,19 @@
 //! The report of a count.
 
-ghost use Rattle.std.specs.Prelude.{◌≡◌, ◌<◌, ◌++◌, ◌∷◌, [], All, IfOk, OnOk, codes, decimal, length, map};
-ghost use Rattle.pb_core.specs.MoneyText.{money_text};
-ghost use Rattle.pb_price.specs.Supporters.{support_of};
+ghost use Rattle.std.specs.Prelude.{◌≡◌, ◌<◌, ◌++◌, All, IfOk, OnOk, codes, length, map};
+ghost use Rattle.pb_price.specs.Price.{HasPayers};
+ghost use Rattle.pb_price.specs.Supporters.{support_in};
+ghost use Rattle.pb_reasons.specs.Totals.{totals_of};
+ghost use Rattle.pb_rounds.specs.RuleNames.{by_grain};
 ghost use Rattle.pb_rows.specs.Writing.{text_of_row, text_of_rows};
 ghost use Rattle.pb_commands.specs.Report.{report_of};
 ghost use Rattle.pb_commands.specs.Inner.Report.{added_row, closing_rows, elected_row, opening_rows};
 
-use pb_core::election::Election;
+use crate::in_units::{in_units, price_in_units};
 use pb_core::no_memory::NoMemory;
-use pb_price::supporters::Supporters;
-use pb_reasons::{CountedElection, Totals};
-use pb_rounds::outcome::{Elected, Outcome};
+use pb_price::Grain;
+use pb_reasons::CountedElection;
+use pb_rounds::outcome::Elected;
 use pb_rows::{Field, RowsWriter};
 
 /// The text of these rows.
@@ -37,30 +39,25 @@ pub(crate) fn put_row(rows: &mut RowsWriter, fields: &[&str]) -> Result<(), NoMe
 ///
 /// It fails only where memory is refused, and then no text comes of the rows.
 pub(crate) fn put_report(rows: &mut RowsWriter, count: &CountedElection) -> Result<(), NoMemory>
-    ensures { OnOk result (rows.new.text
-        ≡ rows.old.text ++ report_of count.now.election count.now.counted) }
+    ensures { OnOk result (rows.new.text ≡ rows.old.text ++ report_of count.now) }
 {
-    let election = count.election();
     let outcome = count.outcome();
-    put_opening(rows, election, outcome)?;
-    put_elected(rows, election, outcome.elected.as_slice())?;
-    put_added(rows, election, count.supporters(), count.added())?;
-    put_closing(rows, count.totals())
+    put_opening(rows, count)?;
+    put_elected(rows, count, outcome.elected.as_slice())?;
+    put_added(rows, count, count.added())?;
+    put_closing(rows, count)
 }
 
 /// The rows above the elected projects.
-fn put_opening(
-    rows: &mut RowsWriter,
-    election: &Election,
-    outcome: &Outcome,
-) -> Result<(), NoMemory>
-    ensures { OnOk result (rows.new.text ≡ rows.old.text
-        ++ text_of_rows (opening_rows election.now outcome.now)) }
+fn put_opening(rows: &mut RowsWriter, count: &CountedElection) -> Result<(), NoMemory>
+    ensures { OnOk result (rows.new.text ≡ rows.old.text ++ text_of_rows (opening_rows count.now)) }
 {
+    let election = count.election();
+    let outcome = count.outcome();
     let voters = election.voters().len() as u64;
     rows.put_fields(&[Field::Text("budget"), Field::amount(election.budget())])?;
     rows.put_fields(&[Field::Text("voters"), Field::Number(voters)])?;
-    rows.put_fields(&[Field::Text("share"), Field::amount(outcome.share)])?;
+    rows.put_fields(&[Field::Text("share"), in_units(count, outcome.share)])?;
     rows.put_fields(&[Field::Text("raises"), Field::number(outcome.raised)])?;
     Ok(())
 }
@@ -68,17 +65,19 @@ fn put_opening(
 /// One row for each elected project.
 fn put_elected(
     rows: &mut RowsWriter,
-    election: &Election,
+    count: &CountedElection,
     elected: &[Elected],
 ) -> Result<(), NoMemory>
-    requires { All (λ w. w.place < length election.now.projects) elected.now }
+    requires known { All (λ w. w.place < length count.now.election.projects) elected.now }
+    requires payers { All
+        (λ w. HasPayers (support_in count.now.rule.options.grain count.now.election) w.exact) elected.now }
     ensures { OnOk result (rows.new.text ≡ rows.old.text
-        ++ text_of_rows (map (elected_row election.now) elected.now)) }
+        ++ text_of_rows (map (elected_row count.now) elected.now)) }
 {
-    let projects = election.projects();
+    let projects = count.election().projects();
     for winner in elected {
         let project = &projects[winner.place as usize];
-        let price = Field::amount(winner.price);
+        let price = price_in_units(count, winner.exact);
         rows.put_fields(&[
             Field::Text("elected"),
             Field::Text(project.id()),
@@ -89,19 +88,14 @@ fn put_elected(
     Ok(())
 }
 
-/// One row for each added project, which has these supporters.
-fn put_added(
-    rows: &mut RowsWriter,
-    election: &Election,
-    supporters: &Supporters,
-    added: &[u32],
-) -> Result<(), NoMemory>
-    requires own { supporters.now ≡ support_of election.now }
-    requires known { All (λ place. place < length election.now.projects) added.now }
+/// One row for each added project.
+fn put_added(rows: &mut RowsWriter, count: &CountedElection, added: &[u32]) -> Result<(), NoMemory>
+    requires { All (λ place. place < length count.now.election.projects) added.now }
     ensures { OnOk result (rows.new.text ≡ rows.old.text
-        ++ text_of_rows (map (added_row election.now) added.now)) }
+        ++ text_of_rows (map (added_row count.now.election) added.now)) }
 {
-    let projects = election.projects();
+    let projects = count.election().projects();
+    let supporters = count.supporters();
     for place in added {
         let project = &projects[*place as usize];
         let votes = supporters.of(*place).len();
@@ -116,10 +110,24 @@ fn put_added(
 }
 
 /// The sums below.
-fn put_closing(rows: &mut RowsWriter, totals: Totals) -> Result<(), NoMemory>
-    ensures { OnOk result (rows.new.text ≡ rows.old.text ++ text_of_rows (closing_rows totals)) }
+fn put_closing(rows: &mut RowsWriter, count: &CountedElection) -> Result<(), NoMemory>
+    ensures { OnOk result (rows.new.text ≡ rows.old.text
+        ++ text_of_rows (closing_rows count.now
+        (totals_of count.now.rule.options.grain count.now.election count.now.counted))) }
 {
+    let totals = count.totals();
+    let name = rounded(count.rule().options.grain);
     rows.put_fields(&[Field::Text("spent"), Field::amount(totals.spent)])?;
-    rows.put_fields(&[Field::Text("surplus"), Field::amount(totals.surplus)])?;
+    rows.put_fields(&[Field::Text(name), in_units(count, totals.surplus)])?;
     Ok(())
+}
+
+/// The name of what rounding comes to.
+fn rounded(grain: Grain) -> &'static str
+    ensures { result.now ≡ by_grain grain (codes "surplus") (codes "uncovered") }
+{
+    match grain {
+        Grain::Hundredths => "surplus",
+        Grain::Fine => "uncovered",
+    }
 }

@@ -2,17 +2,17 @@
 
 ghost use Rattle.std.specs.Prelude.{◌≡◌, ◌<◌, ◌++◌, ◌∷◌, [], All, OnOk, decimal, length};
 ghost use Rattle.std.specs.Prelude.{string_bytes};
-ghost use Rattle.pb_core.specs.MoneyText.{money_text};
 ghost use Rattle.pb_rows.specs.Writing.{text_of_row};
+ghost use Rattle.pb_commands.specs.Report.{in_units};
 ghost use Rattle.pb_commands.specs.Tables.{table_of};
 ghost use Rattle.pb_commands.specs.Inner.Tables.{payments_in_file, payments_text};
 ghost use Rattle.pb_commands.specs.declared.table.Table.TheVariants.{Voters};
 
+use crate::in_units::in_units;
 use itoa::Buffer;
-use pb_core::money::{Money, put_amount};
 use pb_core::no_memory::NoMemory;
 use pb_reasons::{CountedElection, Payment, VoterReason, VoterTeller};
-use pb_rows::{Field, RowsWriter};
+use pb_rows::{Field, RowsWriter, put_exact};
 use std::alloc::Global;
 
 /// Writes the columns, and a row for each voter in file order.
@@ -32,8 +32,8 @@ pub(crate) fn put_voters(
         let reason = teller.tell(position as u32, &mut payments)?;
         let voter = &voters[position];
         put_in_file_order(count, &mut payments)?;
-        write_payments(&mut text, payments.as_slice())?;
-        put_voter(rows, voter.id.text(), &reason, text.as_str())?;
+        write_payments(&mut text, count, payments.as_slice())?;
+        put_voter(rows, count, voter.id.text(), &reason, text.as_str())?;
     }
     Ok(())
 }
@@ -56,20 +56,21 @@ fn put_in_file_order(count: &CountedElection, payments: &mut Vec<Payment>) -> Re
 /// Writes the row of the voter with this id, with the text of the payments.
 fn put_voter(
     rows: &mut RowsWriter,
+    count: &CountedElection,
     id: &str,
     reason: &VoterReason,
     payments: &str,
 ) -> Result<(), NoMemory>
     ensures { OnOk result (rows.new.text ≡ rows.old.text ++ text_of_row
-        (id.now ∷ decimal reason.now.votes ∷ decimal reason.now.elected ∷ money_text reason.now.paid
-        ∷ money_text reason.now.left ∷ payments.now ∷ [])) }
+        (id.now ∷ decimal reason.now.votes ∷ decimal reason.now.elected ∷ in_units count.now reason.now.paid 1
+        ∷ in_units count.now reason.now.left 1 ∷ payments.now ∷ [])) }
 {
     let fields = [
         Field::Text(id),
         Field::number(reason.votes),
         Field::number(reason.elected),
-        Field::amount(reason.paid),
-        Field::amount(reason.left),
+        in_units(count, reason.paid),
+        in_units(count, reason.left),
         Field::Text(payments),
     ];
     rows.put_fields(&fields)?;
@@ -77,9 +78,14 @@ fn put_voter(
 }
 
 /// Writes the payments, with `,` between two, in place of what the text held.
-fn write_payments(text: &mut String, payments: &[Payment]) -> Result<(), NoMemory>
-    ensures { OnOk result (string_bytes text.new ≡ payments_text payments.now) }
+fn write_payments(
+    text: &mut String,
+    count: &CountedElection,
+    payments: &[Payment],
+) -> Result<(), NoMemory>
+    ensures { OnOk result (string_bytes text.new ≡ payments_text count.now payments.now) }
 {
+    let parts = count.parts();
     let mut digits = Buffer::new();
     text.clear();
     for (i, payment) in payments.iter().enumerate() {
@@ -88,15 +94,7 @@ fn write_payments(text: &mut String, payments: &[Payment]) -> Result<(), NoMemor
         }
         text.push_str(digits.format(payment.place))?;
         text.push_str(":")?;
-        put_money(text, payment.amount)?;
+        put_exact(text, u128::from(payment.amount.0), parts)?;
     }
-    Ok(())
-}
-
-/// Puts an amount after a text.
-fn put_money(text: &mut String, amount: Money) -> Result<(), NoMemory>
-    ensures { OnOk result (string_bytes text.new ≡ string_bytes text.old ++ money_text amount) }
-{
-    put_amount(text, u128::from(amount.0))?;
     Ok(())
 }

@@ -8,6 +8,7 @@ use crate::elections::{THREE_VOTERS, amounts, read};
 use crate::outcomes::counted;
 use pb_core::gate::{Gate, NoGate};
 use pb_core::money::Money;
+use pb_price::{Grain, Price};
 use pb_rounds::count::equal_shares;
 use pb_rounds::count_fault::CountFault;
 use pb_rounds::key::Key;
@@ -137,6 +138,7 @@ fn elected(rt: &impl Abort, alloc: Global, parts: &[(u32, u64, u64)]) -> Vec<Ele
         let winner = Elected {
             place: *place,
             price: Money(*price),
+            exact: Price::whole(Money(*price)),
             collected: Money(*collected),
         };
         elected.push(winner).expect(rt, "memory");
@@ -152,6 +154,7 @@ fn plain(workers: u32, measure: Measure) -> CountOptions {
         workers,
         completion: Completion::Plain,
         measure,
+        grain: Grain::Hundredths,
     }
 }
 
@@ -224,15 +227,9 @@ fn run<R: Abort + Threads + Sync, G: Gate>(
     gate: &G,
 ) -> Result<Outcome, CountFault> {
     let election = read(rt, alloc, file);
-    let outcome = equal_shares(
-        rt,
-        alloc,
-        &election,
-        Money(1000),
-        workers,
-        Measure::Votes,
-        gate,
-    );
+    let mut options = CountOptions::standard();
+    options.workers = workers;
+    let outcome = equal_shares(rt, alloc, &election, Money(1000), &options, gate);
     drop(election);
     outcome
 }
@@ -317,10 +314,10 @@ const KEYS: &[((u64, u64, u32), (u64, u64, u32))] = &[
 fn key(rt: &impl Abort, parts: (u64, u64, u32)) -> Key {
     let (price, weight, place) = parts;
     assert!(rt; 1 <= weight);
-    let key = Key::new(Money(price), weight, place);
+    let key = Key::new(Price::whole(Money(price)), weight, place);
     same(
         rt,
-        (key.price().0, key.weight(), key.place()),
+        (key.price().amount.0, key.weight(), key.place()),
         parts,
         "a key",
     );

@@ -29,7 +29,8 @@ pub(crate) fn run_at(
     share: u64,
     measure: Measure,
 ) -> Outcome {
-    assert!(rt; share <= 2_000_000_000_000_000);
-    let run = equal_shares(rt, alloc, election, Money(share), 1, measure, &NoGate);
+    let mut options = CountOptions::standard();
+    options.measure = measure;
+    let run = equal_shares(rt, alloc, election, Money(share), &options, &NoGate);
     run.expect(rt, "an outcome")
 }

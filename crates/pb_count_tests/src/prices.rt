@@ -11,7 +11,7 @@ use crate::elections::{THREE_VOTERS, amounts, push_amount, read};
 use pb_core::gate::{Gate, NoGate};
 use pb_core::money::Money;
 use pb_price::price::price;
-use pb_price::{PriceFault, Supporters, Tally, price_all};
+use pb_price::{Price, PriceFault, Supporters, Tally, price_all};
 use std::alloc::Global;
 use std::process::Abort;
 use std::sync::atomic::AtomicU32;
@@ -49,7 +49,7 @@ fn priced(
     supporters: &Supporters,
     rests: &[Money],
     place: u32,
-) -> Option<Money> {
+) -> Option<Price> {
     assert!(rt; can_price(supporters, rests, &[]) && place < supporters.projects());
     let mut tally = Tally::new();
     let found = price(alloc, supporters, rests, place, &mut tally);
@@ -137,7 +137,7 @@ fn has_price(
 ) {
     let rests = amounts(rt, alloc, rests);
     let found = priced(rt, alloc, supporters, rests.as_slice(), 0);
-    let wanted = wanted.map(|price| Money(price));
+    let wanted = wanted.map(|price| Price::whole(Money(price)));
     same(rt, found, wanted, "a price");
     drop(rests);
 }
@@ -158,7 +158,7 @@ fn next(state: &mut u32) -> u32 {
 }
 
 /// The least payment below 100 by which these supporters cover the cost, found by trying one after the other.
-fn by_trial(cost: u64, supporters: &[u32], rests: &[Money]) -> Option<Money> {
+fn by_trial(cost: u64, supporters: &[u32], rests: &[Money]) -> Option<Price> {
     for payment in 0..100 {
         let mut paid = 0u64;
         for voter in supporters {
@@ -166,7 +166,7 @@ fn by_trial(cost: u64, supporters: &[u32], rests: &[Money]) -> Option<Money> {
             paid = paid.saturating_add(rest.min(payment));
         }
         if paid >= cost {
-            return Some(Money(payment));
+            return Some(Price::whole(Money(payment)));
         }
     }
     None
@@ -227,10 +227,12 @@ fn agrees_with_the_trials(rt: HostRuntime) {
 const SHARE: [Money; 3] = [Money(3333), Money(3333), Money(3333)];
 
 /// These prices, in hundredths.
-fn found(rt: &impl Abort, alloc: Global, hundredths: &[u64]) -> Vec<Option<Money>> {
+fn found(rt: &impl Abort, alloc: Global, hundredths: &[u64]) -> Vec<Option<Price>> {
     let mut prices = Vec::new(alloc);
     for price in hundredths {
-        prices.push(Some(Money(*price))).expect(rt, "memory");
+        prices
+            .push(Some(Price::whole(Money(*price))))
+            .expect(rt, "memory");
     }
     prices
 }
@@ -243,7 +245,7 @@ fn priced_by<R: Threads + Abort + Sync, G: Gate>(
     workers: u32,
     gate: &G,
     projects: &[u32],
-) -> (Result<Vec<Option<Money>>, PriceFault>, u64) {
+) -> (Result<Vec<Option<Price>>, PriceFault>, u64) {
     let supporters = supporters(rt, alloc, THREE_VOTERS);
     assert!(rt; can_price(&supporters, &SHARE, projects));
     let mut tally = Tally::new();

@@ -6,6 +6,7 @@ use crate::elections::{push_amount, read};
 use crate::outcomes::{counted, run_at};
 use pb_core::election::Election;
 use pb_core::money::Money;
+use pb_price::Grain;
 use pb_rounds::count::count;
 use pb_rounds::count_fault::CountFault;
 use pb_rounds::measure::Measure;
@@ -247,6 +248,7 @@ fn counts_one(rt: &(impl Abort + Threads + Sync), alloc: Global, seed: &mut u64)
         workers: 1,
         completion: Completion::Add1,
         measure: Measure::Votes,
+        grain: Grain::Hundredths,
     };
     let cost = CountOptions {
         measure: Measure::Cost,
@@ -289,6 +291,7 @@ const RAISED: CountOptions = CountOptions {
     workers: 1,
     completion: Completion::Add1,
     measure: Measure::Votes,
+    grain: Grain::Hundredths,
 };
 
 /// 500,000 approvals are worth trials in threads of their own.

@@ -1,7 +1,7 @@
 -- What the program says of a fault: one line, and the status that it then ends with.
 use denote.Enum.Declared.{tag_of}
 use Rattle.std.specs.Prelude.{ℕ, List, [], ◌∷◌, ◌++◌, ◌==◌, codes, decimal, flat_map, if◌then◌else◌}
-use Rattle.std.specs.Prelude.{slice_index, unwrap_or}
+use Rattle.std.specs.Prelude.{nat_lt, slice_index, unwrap_or}
 use Rattle.pb_core.specs.Numbered.{numbered}
 use Rattle.pb_desk.specs.AuditFault.{at_row as audited_row}
 use Rattle.pb_desk.specs.contracts.audit_fault.AuditFault.{the_type as audit_faults}
@@ -57,7 +57,8 @@ number_of text = slice_index (1 ∷ 2 ∷ 2 ∷ 3 ∷ 3 ∷ 4 ∷ 3 ∷ []) (tag
 -- What is told of a merged fault: the status that the program ends with, and the fields of its line. The
 -- status is 3 where a device failed, memory was refused, or the journal is not this run's; 2 where the
 -- arguments are refused, the options of a count among them; 1 where what was read is, or its count. Options
--- in range can still be too few raises for a file. What is left for the last line is that memory was refused.
+-- in range can still be too few raises for a file, or its amounts too large for fine money. What is left for the
+-- last line is that memory was refused.
 abbrev pub told : AppFault → ℕ × List (List ℕ)
 told (Read fault) = told_at (codes "read") (numbered read_kinds of_read.NAMES fault.kind) fault.at
 told (Script fault) = told_at (codes "script") (numbered script_faults of_script.NAMES fault) (script_row fault)
@@ -67,7 +68,7 @@ told (Audit fault) =
 told OtherFile = (1, codes "other-file" ∷ [])
 told OpenDesk = (1, codes "open-desk" ∷ [])
 told (Count fault) = let n = numbered count_faults of_count.NAMES fault in
-    (if n.0 == 4 then 1 else 2, codes "count" ∷ decimal n.0 ∷ n.1 ∷ [])
+    (if nat_lt 3 n.0 then 1 else 2, codes "count" ∷ decimal n.0 ∷ n.1 ∷ [])
 told TooManyRuns = (1, codes "ties" ∷ codes "1" ∷ codes "TooManyRuns" ∷ [])
 told (Export fault) = let n = numbered export_faults of_export.NAMES fault in
     (1, codes "export" ∷ decimal n.0 ∷ n.1 ∷ [])

@@ -78,7 +78,7 @@ impl AppFault {
             AppFault::Audit(fault) => read_status(fault.number()),
             AppFault::OtherFile
             | AppFault::OpenDesk
-            | AppFault::Count(CountFault::RaisesSpent)
+            | AppFault::Count(CountFault::RaisesSpent | CountFault::TooFine)
             | AppFault::TooManyRuns
             | AppFault::Export(_)
             | AppFault::Warned(_)

@@ -1,33 +1,35 @@
 -- What the parts of a page are where the code has told its cases apart.
 use Rattle.std.proofs.Common.{◌≡◌, ◌∙◌, ℕ, List, [], ap, length, refl, sym}
-use Rattle.std.specs.Prelude.{◌∷◌, Option, None, Some, codes, decimal, if◌then◌else◌, map, slice_index}
+use Rattle.std.specs.Prelude.{◌∷◌, ◌==◌, Option, None, Some, codes, decimal, if◌then◌else◌, map, slice_index, true}
 use Rattle.std.specs.Option.{option_map_or}
 use Rattle.pb_core.specs.Election.{ElectionView, ProjectView}
 use Rattle.pb_page.specs.Amount.{shown}
-use Rattle.pb_page.specs.Content.{Part, fill, item, number, say, text}
+use Rattle.pb_page.specs.Content.{Part, amount, fill, item, number, parted, say, text}
 use Rattle.pb_page.specs.Inner.Filling.{cut}
-use Rattle.pb_page.specs.Inner.Counted.{options_put, options_said, share_said, works_said}
+use Rattle.pb_page.specs.Inner.Counted.{options_put, options_said, share_said, spent_said, works_said}
 use Rattle.pb_page.specs.Inner.Value.{called}
 use Rattle.pb_page.specs.Page.{blocks, by_raises, linked, project_at, tie, titled, width}
+use Rattle.pb_page.specs.declared.figures.Figures.{Figures}
 use Rattle.pb_page.specs.declared.keys.TheConstants as key
 use Rattle.pb_page.specs.declared.language.Language.{Language}
 use Rattle.pb_page.specs.declared.templates.TheConstants.{BUDGET_PART}
 use Rattle.pb_page.proofs.Grown.{before}
 use Rattle.pb_reasons.specs.CountedElection.{CountedElectionView}
 use Rattle.pb_reasons.specs.declared.tie.Tie.{Tie}
-use Rattle.pb_rounds.specs.Count.{no_shares, opening_share}
-use Rattle.pb_rounds.specs.RuleNames.{by_completion, by_measure, by_ties, completion_name, measure_name}
+use Rattle.pb_page.specs.declared.markup.divided.Divided.{Divided}
+use Rattle.pb_rounds.specs.Count.{no_shares}
+use Rattle.pb_rounds.specs.RuleNames.{by_completion, by_grain, by_measure, by_ties, completion_name, measure_name}
 use Rattle.pb_rounds.specs.declared.rule.Rule.{Rule}
 
-pub share_is : (l : Language) (r q : Rule) (share raised t n : ℕ) → r ≡ q → share ≡ t → raised ≡ n
+pub share_is : (l : Language) (r q : Rule) (share t : Divided) (raised n : ℕ) → r ≡ q → share ≡ t → raised ≡ n
     → share_said l (by_raises r key.SHARE_UNRAISED key.SHARE) r.options.step share raised
     ≡ share_said l (by_raises q key.SHARE_UNRAISED key.SHARE) q.options.step t n
-share_is l r q share raised t n same_rule same_share same_raised =
+share_is l r q share t raised n same_rule same_share same_raised =
     ap (λ (p : Rule). share_said l (by_raises p key.SHARE_UNRAISED key.SHARE) p.options.step share raised) same_rule
-    ∙ ap (λ (m : ℕ). share_said l (by_raises q key.SHARE_UNRAISED key.SHARE) q.options.step m raised) same_share
+    ∙ ap (λ (d : Divided). share_said l (by_raises q key.SHARE_UNRAISED key.SHARE) q.options.step d raised) same_share
     ∙ ap (λ (m : ℕ). share_said l (by_raises q key.SHARE_UNRAISED key.SHARE) q.options.step t m) same_raised
 
-pub share_put : (l : Language) (r : Rule) (k step share raises raised : ℕ) → k ≡ by_raises r key.SHARE_UNRAISED key.SHARE → step ≡ r.options.step
+pub share_put : (l : Language) (r : Rule) (k step : ℕ) (share : Divided) (raises raised : ℕ) → k ≡ by_raises r key.SHARE_UNRAISED key.SHARE → step ≡ r.options.step
     → raises ≡ raised → (rest : List ℕ) → before (share_said l k step share raises) rest
     ≡ before (share_said l (by_raises r key.SHARE_UNRAISED key.SHARE) r.options.step share raised) rest
 share_put l r k step share raises raised k_is step_is raises_is rest =
@@ -52,13 +54,29 @@ options_are l r k by measure after completion limit k_is by_is measure_is after_
     ∙ ap (λ (t : List ℕ). before (options_put l said its (measure_name o.measure) then_its t o.step limit) rest) completion_is
     ∙ ap (λ (n : ℕ). before (options_put l said its (measure_name o.measure) then_its (completion_name o.completion r.fill_up) o.step n) rest) limit_is
 
-pub works_put : (l : Language) (k budget voters opening : ℕ) (e : ElectionView) → budget ≡ e.budget → voters ≡ length e.voters
-    → opening ≡ opening_share e → (rest : List ℕ)
-    → before (works_said l k budget voters opening) rest ≡ before (works_said l k e.budget (length e.voters) (opening_share e)) rest
-works_put l k budget voters opening e budget_is voters_is opening_is rest =
+abbrev spent_laid : Language → Figures → (k : ℕ) → (name : List ℕ) → (surplus : ℕ) → List Part
+spent_laid l f k name surplus = say l k (amount l.costs (codes "spent") f.spent ∷ amount l.costs (codes "left") f.left
+    ∷ parted l.amounts name (record { amount = surplus; divisor = f.parts; is_up = true }) ∷ [])
+
+pub spent_put : (l : Language) (g f : Figures) (k : ℕ) (name : List ℕ) (surplus : ℕ) → g ≡ f → k ≡ (if f.won == 0 then key.BUDGET_NONE
+    else if f.by_votes then key.BUDGET_BY_VOTES else by_grain f.grain key.BUDGET_CAPTION key.BUDGET_FINE)
+    → name ≡ by_grain f.grain (codes "surplus") (codes "uncovered") → surplus ≡ f.surplus → (rest : List ℕ)
+    → before (spent_laid l g k name surplus) rest ≡ before (spent_said l f) rest
+spent_put l g f k name surplus same k_is name_is surplus_is rest =
+    let caption = if f.won == 0 then key.BUDGET_NONE else if f.by_votes then key.BUDGET_BY_VOTES
+    else by_grain f.grain key.BUDGET_CAPTION key.BUDGET_FINE in
+    ap (λ (h : Figures). before (spent_laid l h k name surplus) rest) same
+    ∙ ap (λ (n : ℕ). before (spent_laid l f n name surplus) rest) k_is
+    ∙ ap (λ (t : List ℕ). before (spent_laid l f caption t surplus) rest) name_is
+    ∙ ap (λ (n : ℕ). before (spent_laid l f caption (by_grain f.grain (codes "surplus") (codes "uncovered")) n) rest) surplus_is
+
+pub works_put : (l : Language) (k budget voters : ℕ) (opening share : Divided) (e : ElectionView) → budget ≡ e.budget → voters ≡ length e.voters
+    → opening ≡ share → (rest : List ℕ)
+    → before (works_said l k budget voters opening) rest ≡ before (works_said l k e.budget (length e.voters) share) rest
+works_put l k budget voters opening share e budget_is voters_is opening_is rest =
     ap (λ (n : ℕ). before (works_said l k n voters opening) rest) budget_is
     ∙ ap (λ (n : ℕ). before (works_said l k e.budget n opening) rest) voters_is
-    ∙ ap (λ (n : ℕ). before (works_said l k e.budget (length e.voters) n) rest) opening_is
+    ∙ ap (λ (d : Divided). before (works_said l k e.budget (length e.voters) d) rest) opening_is
 
 -- a link to the row of a project, of this id and this name
 abbrev link_shown : (place : ℕ) → (id name : List ℕ) → List Part

@@ -6,6 +6,7 @@ mod Sums
 mod Blocks
 mod Tables
 mod Parts
+mod Deciding
 mod WinnerPlaces
 mod VoteWinners
 mod Characters
@@ -14,3 +15,5 @@ mod Delimiters
 mod Ends
 mod Threes
 mod Shown
+mod Divisors
+mod WonPayers

@@ -6,18 +6,20 @@ use Rattle.std.proofs.lemmas.Bool.{cases_Bool, eq-eqb, ne_eqb}
 use Rattle.std.proofs.lemmas.Grind.{flat_map-append}
 use Rattle.pb_core.specs.Election.{ElectionView}
 use Rattle.pb_core.specs.MoneyText.{money_text}
-use Rattle.pb_page.specs.Content.{Headed, Part, Section, amount, figure, fill, item, listed, paragraph, said, say, section, section_link, text}
+use Rattle.pb_page.specs.Content.{Headed, Part, Section, amount, figure, fill, item, listed, paragraph, parted, said, say, section, section_link, text}
 use Rattle.pb_page.specs.Inner.Counted.{chosen, equals, figures_of, files_said, filled_up, journal_source, link_said, made_by, name_said, options_told, picture_said, recount_said, result_said, rounds_said, rounds_told, share_said, spent_said, those_said, ties_listed, voted_said, works_said}
 use Rattle.pb_page.specs.Inner.Contents.{contents, has_added, link_to, links_to, sections}
 use Rattle.pb_page.specs.Inner.Filling.{cut, own}
-use Rattle.pb_page.specs.Page.{added_apart, beside, besides, blocks, budget, by_raises, categories, check, command, entry, others, parts, raises_ended, rule, short_key, source, summary, tie, ties, voters, winners, works}
+use Rattle.pb_page.specs.Page.{added_apart, beside, besides, blocks, budget, by_raises, categories, check, command, counted_in, decided, entry, others, parts, raises_ended, rule, short_key, source, summary, tie, ties, voters, winners, works}
 use Rattle.pb_page.specs.Words.{sentence}
 use Rattle.pb_page.specs.declared.categories.Categories.{Categories}
+use Rattle.pb_page.specs.declared.facts.Decided.{Decided}
 use Rattle.pb_page.specs.declared.facts.Facts.{Facts}
 use Rattle.pb_page.specs.declared.figures.Figures.{Figures}
 use Rattle.pb_page.specs.declared.keys.TheConstants as key
 use Rattle.pb_page.specs.declared.language.Language.{Language}
 use Rattle.pb_page.specs.declared.picture.TheConstants.{GROWN_SHARES, OPENING_SHARES}
+use Rattle.pb_page.specs.declared.markup.divided.Divided.{Divided}
 use Rattle.pb_page.specs.declared.style.TheConstants.{META, STYLE}
 use Rattle.pb_page.specs.declared.templates.TheConstants.{BLOCKS_CLOSING, BLOCKS_OPENING, BUDGET_CLOSING, BUDGET_OPENING, CHECK_CLOSING, CHECK_OPENING, CLOSING, COMMAND_CLOSING, COMMAND_OPENING, CONTENTS_CLOSING, CONTENTS_OPENING, FIGURE_CLOSING, FIGURE_OPENING, HEAD_OPENING, LEAD, LEAD_CLOSING, LEAD_NEXT, LIST_CLOSING, LIST_OPENING, MAIN, NOTHING, OPTIONS, PARAGRAPH, RULE_CLOSING, RULE_OPENING, SOURCES_CLOSING, THOSE_OPENING, TIES_OPENING, TITLE, TOP}
 use Rattle.pb_page.proofs.Grown.{before, before_more, heads}
@@ -30,7 +32,8 @@ use Rattle.pb_reasons.specs.declared.raise_end.RaiseEnd.{RaiseEnd}
 use Rattle.pb_reasons.specs.declared.raise_end.RaiseEnd.TheVariants.{Over}
 use Rattle.pb_reasons.specs.declared.tie.Tie.{Tie}
 use Rattle.pb_rounds.specs.Count.{no_shares, opening_share}
-use Rattle.pb_rounds.specs.RuleNames.{by_completion, by_measure, by_ties, profile_name}
+use Rattle.pb_rounds.specs.RuleNames.{by_completion, by_grain, by_measure, by_ties, profile_name}
+use Rattle.pb_price.specs.Supporters.{support_in}
 use Rattle.pb_rounds.specs.declared.rule.Rule.{Rule}
 
 summary_as : (voted result : List Part) (rest : List ℕ)
@@ -69,13 +72,13 @@ ties_as : (l : Language) (k : ℕ) (items : List Part) (rest : List ℕ)
 unfolding cut
 ties_as l k items rest = simp before_more
 
-rule_as : (l : Language) (works rounds method filled ties : List Part) (rest : List ℕ)
+rule_as : (l : Language) (works rounds method filled fine ties : List Part) (rest : List ℕ)
     → before (heads l RULE_OPENING.now (key.RULE_HEADING ∷ []) ++ (works ++ (own LIST_OPENING.now ++ (rounds
-    ++ (method ++ (filled ++ (ties ++ own RULE_CLOSING.now))))))) rest
-    ≡ before (section l (Headed [] (codes "rule") key.RULE_HEADING (fill (codes "~<ol>\n~~~</ol>\n")
-    (works ∷ rounds ∷ (method ++ filled) ∷ ties ∷ [])))) rest
+    ++ (method ++ (filled ++ (fine ++ (ties ++ own RULE_CLOSING.now)))))))) rest
+    ≡ before (section l (Headed [] (codes "rule") key.RULE_HEADING (fill (codes "~<ol>\n~~~~</ol>\n")
+    (works ∷ rounds ∷ (method ++ filled) ∷ fine ∷ ties ∷ [])))) rest
 unfolding cut
-rule_as l works rounds method filled ties rest = simp (append_assoc, before_more)
+rule_as l works rounds method filled fine ties rest = simp (append_assoc, before_more)
 
 rounds_as : (share one two three ends : List Part) (rest : List ℕ)
     → before (share ++ (one ++ (two ++ (three ++ ends)))) rest
@@ -93,15 +96,18 @@ link_as : (l : Language) (says : List Part) (rest : List ℕ)
 unfolding cut
 link_as l says rest = simp before_more
 
-chosen_as : (measure completion step raises : List ℕ) (rest : List ℕ)
-    → before (cut OPTIONS.now (measure ∷ completion ∷ step ∷ raises ∷ [])) rest
-    ≡ before (fill (codes "~~ --step ~ --raises ~") (map text (measure ∷ completion ∷ step ∷ raises ∷ []))) rest
+chosen_as : (money measure completion step raises : List ℕ) (rest : List ℕ)
+    → before (cut OPTIONS.now (money ∷ measure ∷ completion ∷ step ∷ raises ∷ [])) rest
+    ≡ before (fill (codes "~~~ --step ~ --raises ~") (map text (money ∷ measure ∷ completion ∷ step ∷ raises ∷ []))) rest
 unfolding cut
-chosen_as measure completion step raises rest = simp before_more
+chosen_as money measure completion step raises rest = simp before_more
 
-abbrev ordered : (measure completion : List ℕ) → (step raises : ℕ) → List Part
-ordered measure completion step raises =
-    fill (codes "~~ --step ~ --raises ~") (map text (measure ∷ completion ∷ decimal step ∷ decimal raises ∷ []))
+abbrev ordered : (money measure completion : List ℕ) → (step raises : ℕ) → List Part
+ordered money measure completion step raises =
+    fill (codes "~~~ --step ~ --raises ~") (map text (money ∷ measure ∷ completion ∷ decimal step ∷ decimal raises ∷ []))
+
+abbrev money_said : Rule → List ℕ
+money_said r = by_grain r.options.grain [] (codes " --money fine")
 
 abbrev measure_said : Rule → List ℕ
 measure_said r = by_measure r.options.measure [] (codes " --measure cost")
@@ -122,26 +128,28 @@ check_as l file journal files link order options name made rest = simp (append_a
 abbrev linked : Language → (links : List Part) → List Part
 linked l links = fill (codes "<nav aria-label='~'>\n<ul>\n~</ul>\n</nav>\n") (said l key.CONTENTS ∷ links ∷ [])
 
-contents_as : (l : Language) (a b c d e f g h i : List Part) (rest : List ℕ)
-    → before (heads l CONTENTS_OPENING.now (key.CONTENTS ∷ []) ++ (a ++ (b ++ (c ++ (d ++ (e ++ (f ++ (g ++ (h ++ (i ++ own CONTENTS_CLOSING.now)))))))))) rest
-    ≡ before (linked l (a ++ (b ++ (c ++ (d ++ (e ++ (f ++ (g ++ (h ++ i))))))))) rest
+contents_as : (l : Language) (a b c d e f g h i j : List Part) (rest : List ℕ)
+    → before (heads l CONTENTS_OPENING.now (key.CONTENTS ∷ []) ++ (a ++ (b ++ (c ++ (d ++ (e ++ (f ++ (g ++ (h ++ (i ++ (j ++ own CONTENTS_CLOSING.now))))))))))) rest
+    ≡ before (linked l (a ++ (b ++ (c ++ (d ++ (e ++ (f ++ (g ++ (h ++ (i ++ j)))))))))) rest
 unfolding cut
-contents_as l a b c d e f g h i rest = simp (append_assoc, before_more)
+contents_as l a b c d e f g h i j rest = simp (append_assoc, before_more)
 
-pub contents_are : (facts : Facts) (x : CountedElectionView) (with_added with_categories : Bool)
-    → with_added ≡ has_added x → with_categories ≡ is_some facts.categories → (rest : List ℕ)
+pub contents_are : (facts : Facts) (x : CountedElectionView) (with_added with_categories with_decided : Bool)
+    → with_added ≡ has_added x → with_categories ≡ is_some facts.categories → with_decided ≡ is_some facts.decided → (rest : List ℕ)
     → let l = facts.language in before (heads l CONTENTS_OPENING.now (key.CONTENTS ∷ []) ++ (link_to l true (codes "budget") key.BUDGET_HEADING
     ++ (link_to l true (codes "winners") key.WINNERS_HEADING ++ (link_to l with_added (codes "added") key.ADDED_HEADING
     ++ (link_to l true (codes "others") key.OTHERS_HEADING ++ (link_to l with_categories (codes "categories") key.CATEGORIES_HEADING
     ++ (link_to l true (codes "voters") key.VOTERS_HEADING ++ (link_to l facts.compares (codes "compared") key.COMPARED_HEADING
-    ++ (link_to l true (codes "rule") key.RULE_HEADING ++ (link_to l true (codes "check") key.CHECK_HEADING ++ own CONTENTS_CLOSING.now)))))))))) rest
+    ++ (link_to l with_decided (codes "decided") key.DECIDED_HEADING
+    ++ (link_to l true (codes "rule") key.RULE_HEADING ++ (link_to l true (codes "check") key.CHECK_HEADING ++ own CONTENTS_CLOSING.now))))))))))) rest
     ≡ before (contents facts x) rest
 unfolding contents
-contents_are facts x with_added with_categories added_is categories_is rest = let l = facts.language in
-    rw (added_is, categories_is) (contents_as l (link_to l true (codes "budget") key.BUDGET_HEADING) (link_to l true (codes "winners") key.WINNERS_HEADING)
+contents_are facts x with_added with_categories with_decided added_is categories_is decided_is rest = let l = facts.language in
+    rw (added_is, categories_is, decided_is) (contents_as l (link_to l true (codes "budget") key.BUDGET_HEADING) (link_to l true (codes "winners") key.WINNERS_HEADING)
     (link_to l (has_added x) (codes "added") key.ADDED_HEADING) (link_to l true (codes "others") key.OTHERS_HEADING)
     (link_to l (is_some facts.categories) (codes "categories") key.CATEGORIES_HEADING) (link_to l true (codes "voters") key.VOTERS_HEADING)
-    (link_to l facts.compares (codes "compared") key.COMPARED_HEADING) (link_to l true (codes "rule") key.RULE_HEADING)
+    (link_to l facts.compares (codes "compared") key.COMPARED_HEADING)
+    (link_to l (is_some facts.decided) (codes "decided") key.DECIDED_HEADING) (link_to l true (codes "rule") key.RULE_HEADING)
     (link_to l true (codes "check") key.CHECK_HEADING) rest)
 
 -- the page, a piece after the other
@@ -167,18 +175,21 @@ summary_is l x f is rest =
     ≡ before (summary l x) rest in
     subst Same (sym is) (summary_as (voted_said l (figures_of x)) (result_said l (figures_of x)) rest)
 
-none_as : (l : Language) (f : Figures) (left : List Part) (rest : List ℕ)
-    → before (cut NOTHING.now (decimal f.won ∷ money_text f.spent ∷ money_text f.surplus ∷ []) ++ left) rest
-    ≡ before (figure (codes "won") (decimal f.won) [] ++ (figure (codes "spent") (money_text f.spent) [] ++ (figure (codes "surplus") (money_text f.surplus) [] ++ left))) rest
-unfolding cut
-none_as l f left rest = simp append_assoc
+abbrev surplus_name : Figures → List ℕ
+surplus_name f = by_grain f.grain (codes "surplus") (codes "uncovered")
 
-pub none_is : (l : Language) (f : Figures) → f.won ≡ 0 → (rest : List ℕ)
-    → before (cut NOTHING.now (decimal f.won ∷ money_text f.spent ∷ money_text f.surplus ∷ []) ++ say l key.NONE_WON (amount l.costs (codes "left") f.left ∷ [])) rest
+none_as : (l : Language) (f : Figures) (name : List ℕ) (left : List Part) (rest : List ℕ)
+    → before (cut NOTHING.now (decimal f.won ∷ money_text f.spent ∷ name ∷ money_text f.surplus ∷ []) ++ left) rest
+    ≡ before (figure (codes "won") (decimal f.won) [] ++ (figure (codes "spent") (money_text f.spent) [] ++ (figure name (money_text f.surplus) [] ++ left))) rest
+unfolding cut
+none_as l f name left rest = simp append_assoc
+
+pub none_is : (l : Language) (f : Figures) (name : List ℕ) → name ≡ surplus_name f → f.won ≡ 0 → (rest : List ℕ)
+    → before (cut NOTHING.now (decimal f.won ∷ money_text f.spent ∷ name ∷ money_text f.surplus ∷ []) ++ say l key.NONE_WON (amount l.costs (codes "left") f.left ∷ [])) rest
     ≡ before (result_said l f) rest
-none_is l f none rest =
+none_is l f name name_is none rest =
     let so : f.won == 0 ≡ true = eq-eqb f.won 0 none in
-    rw so (none_as l f (say l key.NONE_WON (amount l.costs (codes "left") f.left ∷ [])) rest)
+    rw (so, name_is) (none_as l f (surplus_name f) (say l key.NONE_WON (amount l.costs (codes "left") f.left ∷ [])) rest)
 
 pub budget_is : (l : Language) (x : CountedElectionView) (f : Figures) → f ≡ figures_of x → (rest : List ℕ)
     → before (heads l BUDGET_OPENING.now (key.BUDGET_HEADING ∷ []) ++ (picture_said l f ++ (own BLOCKS_OPENING.now
@@ -209,28 +220,29 @@ those_are l x k places some rest =
 pub none_of_those : (l : Language) (x : CountedElectionView) (k : ℕ) (places : List ℕ) → length places == 0 ≡ true → [] ≡ those_said l x k places
 none_of_those l x k places none = sym (ap (listed l k []) (no_items (entry l x) places none))
 
-abbrev over_said : Language → NextRaise → CountedElectionView → (new gone : List ℕ) → List Part
-over_said l next x new gone = item (say l key.OVER (amount l.amounts (codes "next_share") next.share ∷ amount l.costs (codes "next_cost") next.cost ∷ []))
+abbrev over_said : Language → NextRaise → CountedElectionView → (share : Divided) → (new gone : List ℕ) → List Part
+over_said l next x share new gone = item (say l key.OVER (parted l.amounts (codes "next_share") share ∷ amount l.costs (codes "next_cost") next.cost ∷ []))
     ++ (those_said l x key.ONLY_THEN new ++ those_said l x key.NO_MORE gone)
 
-pub over_is : (l : Language) (x : CountedElectionView) (next : NextRaise) (winners places gone : List ℕ)
-    → winners ≡ winners_of x.counted → places ≡ next.only_then.items → gone ≡ next.no_more.items → (rest : List ℕ)
-    → before (item (say l key.OVER (amount l.amounts (codes "next_share") next.share ∷ amount l.costs (codes "next_cost") next.cost ∷ []))
+pub over_is : (l : Language) (x : CountedElectionView) (next : NextRaise) (share : Divided) (winners places gone : List ℕ)
+    → share ≡ counted_in x false 1 next.share → winners ≡ winners_of x.counted → places ≡ next.only_then.items → gone ≡ next.no_more.items → (rest : List ℕ)
+    → before (item (say l key.OVER (parted l.amounts (codes "next_share") share ∷ amount l.costs (codes "next_cost") next.cost ∷ []))
     ++ (those_said l x key.ONLY_THEN (beside winners places) ++ those_said l x key.NO_MORE gone)) rest
     ≡ before (raises_ended l x (Over next)) rest
-over_is l x next winners places gone winners_is places_is gone_is rest =
-    let new = beside (winners_of x.counted) next.only_then.items in
-    ap (λ (w : List ℕ). before (over_said l next x (beside w places) gone) rest) winners_is
-    ∙ ap (λ (p : List ℕ). before (over_said l next x (beside (winners_of x.counted) p) gone) rest) places_is
-    ∙ ap (λ (g : List ℕ). before (over_said l next x new g) rest) gone_is
+over_is l x next share winners places gone share_is winners_is places_is gone_is rest =
+    let new = beside (winners_of x.counted) next.only_then.items in let its = counted_in x false 1 next.share in
+    ap (λ (d : Divided). before (over_said l next x d (beside winners places) gone) rest) share_is
+    ∙ ap (λ (w : List ℕ). before (over_said l next x its (beside w places) gone) rest) winners_is
+    ∙ ap (λ (p : List ℕ). before (over_said l next x its (beside (winners_of x.counted) p) gone) rest) places_is
+    ∙ ap (λ (g : List ℕ). before (over_said l next x its new g) rest) gone_is
 
 pub ties_are : (l : Language) (x : CountedElectionView) (k : ℕ) (all : List Tie) → k ≡ by_ties x.rule.ties key.TIES key.TIES_TIED
-    → all ≡ ties_of x.rule.options.measure x.election x.counted → length all == 0 ≡ false → (rest : List ℕ)
+    → all ≡ ties_of x.rule.options.measure (support_in x.rule.options.grain x.election) x.counted → length all == 0 ≡ false → (rest : List ℕ)
     → before (heads l TIES_OPENING.now (k ∷ []) ++ (flat_map (tie l x) all ++ own LIST_CLOSING.now)) rest ≡ before (ties_listed l x) rest
 ties_are l x k all k_is is some rest =
     rw (k_is, sym is, some_ties l x all some) (ties_as l (by_ties x.rule.ties key.TIES key.TIES_TIED) (flat_map (tie l x) all) rest)
 
-pub no_ties : (l : Language) (x : CountedElectionView) (all : List Tie) → all ≡ ties_of x.rule.options.measure x.election x.counted
+pub no_ties : (l : Language) (x : CountedElectionView) (all : List Tie) → all ≡ ties_of x.rule.options.measure (support_in x.rule.options.grain x.election) x.counted
     → length all == 0 ≡ true → [] ≡ ties_listed l x
 no_ties l x all is none = rw (sym is, no_items (tie l x) all none) refl
 
@@ -248,12 +260,12 @@ raises_said r raised = let raises = if raised == 0 then key.UNRAISED else key.RA
     by_completion r.options.completion r.fill_up key.PLAIN raises (by_ties r.ties key.FILLED_UP key.FILLED_UP_TIED) raises
 
 pub rounds_are : (l : Language) (x : CountedElectionView) (end : RaiseEnd) (share one two : List Part)
-    → share ≡ share_said l (by_raises x.rule key.SHARE_UNRAISED key.SHARE) x.rule.options.step x.counted.outcome.share x.counted.outcome.raised
+    → share ≡ share_said l (by_raises x.rule key.SHARE_UNRAISED key.SHARE) x.rule.options.step (counted_in x false 1 x.counted.outcome.share) x.counted.outcome.raised
     → one ≡ item (said l (order_said x.rule)) → two ≡ item (said l (raises_said x.rule x.counted.outcome.raised)) → (rest : List ℕ)
     → before (share ++ (item (said l key.SUPPORTERS) ++ (one ++ (two ++ raises_ended l x end)))) rest ≡ before (rounds_said l x end) rest
 rounds_are l x end share one two share_is one_is two_is rest =
     rw (share_is, one_is, two_is) (rounds_as
-    (share_said l (by_raises x.rule key.SHARE_UNRAISED key.SHARE) x.rule.options.step x.counted.outcome.share x.counted.outcome.raised)
+    (share_said l (by_raises x.rule key.SHARE_UNRAISED key.SHARE) x.rule.options.step (counted_in x false 1 x.counted.outcome.share) x.counted.outcome.raised)
     (item (said l key.SUPPORTERS)) (item (said l (order_said x.rule)))
     (item (said l (raises_said x.rule x.counted.outcome.raised))) (raises_ended l x end) rest)
 
@@ -273,17 +285,17 @@ pub short_of_some : (x : CountedElectionView) (n : ℕ) (r : Rule) → n ≡ len
     → (if no_shares r.options.completion then None else Some (by_raises r key.MISSING key.LEFT_SHORT)) ≡ short_key x
 short_of_some x n r is some same = rw (sym is, some, same) refl
 
-pub rule_is : (l : Language) (x : CountedElectionView) (end : RaiseEnd) (method filled : List Part)
+pub rule_is : (l : Language) (x : CountedElectionView) (end : RaiseEnd) (method filled fine : List Part)
     → method ≡ item (said l (by_completion x.rule.options.completion x.rule.fill_up key.METHOD_PLAIN key.METHOD_ADD1 key.METHOD_FILLED key.METHOD_ADD1))
-    → filled ≡ filled_up l x.rule → no_shares x.rule.options.completion ≡ false → (rest : List ℕ)
+    → filled ≡ filled_up l x.rule → fine ≡ by_grain x.rule.options.grain [] (item (said l key.FINE_MONEY)) → no_shares x.rule.options.completion ≡ false → (rest : List ℕ)
     → before (heads l RULE_OPENING.now (key.RULE_HEADING ∷ []) ++ (works l x ++ (own LIST_OPENING.now ++ (rounds_told l x end
-    ++ (method ++ (filled ++ (ties l x ++ own RULE_CLOSING.now))))))) rest
+    ++ (method ++ (filled ++ (fine ++ (ties l x ++ own RULE_CLOSING.now)))))))) rest
     ≡ before (section l (rule l x end)) rest
 unfolding rule
-rule_is l x end method filled method_is filled_is shared rest =
-    rw (method_is, filled_is, shared) (rule_as l (works l x) (rounds_told l x end)
+rule_is l x end method filled fine method_is filled_is fine_is shared rest =
+    rw (method_is, filled_is, fine_is, shared) (rule_as l (works l x) (rounds_told l x end)
     (item (said l (by_completion x.rule.options.completion x.rule.fill_up key.METHOD_PLAIN key.METHOD_ADD1 key.METHOD_FILLED key.METHOD_ADD1)))
-    (filled_up l x.rule) (ties l x) rest)
+    (filled_up l x.rule) (by_grain x.rule.options.grain [] (item (said l key.FINE_MONEY))) (ties l x) rest)
 
 votes_rule_as : (l : Language) (item ties : List Part) (rest : List ℕ)
     → before (heads l RULE_OPENING.now (key.RULE_HEADING ∷ []) ++ (own LIST_OPENING.now ++ (item ++ (ties ++ own RULE_CLOSING.now)))) rest
@@ -300,47 +312,48 @@ unfolding rule
 votes_rule_is l x end k alone k_is rest =
     rw (k_is, alone) (votes_rule_as l (item (said l (by_ties x.rule.ties key.MOST_VOTES_FIRST key.MOST_VOTES_TIED))) (ties l x) rest)
 
-abbrev works_laid : Language → ElectionView → (k : ℕ) → (picture : List ℕ) → (caption : ℕ) → List Part
-works_laid l e k picture caption = works_said l k e.budget (length e.voters) (opening_share e) ++ (own FIGURE_OPENING.now ++ (own picture
-    ++ heads l FIGURE_CLOSING.now (caption ∷ [])))
+-- what is said of shares
+abbrev shares_said : Language → CountedElectionView → (k : ℕ) → List Part
+shares_said l x k = works_said l k x.election.budget (length x.election.voters) (counted_in x false 1 (opening_share x.rule.options.grain x.election))
+
+abbrev works_laid : Language → CountedElectionView → (k : ℕ) → (picture : List ℕ) → (caption : ℕ) → List Part
+works_laid l x k picture caption = shares_said l x k ++ (own FIGURE_OPENING.now ++ (own picture ++ heads l FIGURE_CLOSING.now (caption ∷ [])))
 
 pub works_of_none : (l : Language) (x : CountedElectionView) (n : ℕ) → n ≡ length x.election.voters → n == 0 ≡ true → [] ≡ works l x
 unfolding works
 works_of_none l x n is none = rw (sym is, none) refl
 
-pub works_is : (l : Language) (x : CountedElectionView) (r : Rule) (e : ElectionView) (k caption : ℕ) (picture : List ℕ) → r ≡ x.rule → e ≡ x.election
+pub works_is : (l : Language) (x : CountedElectionView) (r : Rule) (k caption : ℕ) (picture : List ℕ) → r ≡ x.rule
     → length x.election.voters == 0 ≡ false → k ≡ by_raises r key.WORKS_UNRAISED key.WORKS → picture ≡ by_raises r OPENING_SHARES.now GROWN_SHARES.now
     → caption ≡ by_raises r key.WORKS_PICTURE_UNRAISED key.WORKS_PICTURE → (rest : List ℕ)
-    → before (works_said l k e.budget (length e.voters) (opening_share e) ++ (own FIGURE_OPENING.now ++ (own picture
-    ++ heads l FIGURE_CLOSING.now (caption ∷ [])))) rest
-    ≡ before (works l x) rest
+    → before (works_laid l x k picture caption) rest ≡ before (works l x) rest
 unfolding works
-works_is l x r e k caption picture r_is e_is some k_is picture_is caption_is rest =
+works_is l x r k caption picture r_is some k_is picture_is caption_is rest =
     let told = by_raises x.rule key.WORKS_UNRAISED key.WORKS in let drawn = by_raises x.rule OPENING_SHARES.now GROWN_SHARES.now in
     let below = by_raises x.rule key.WORKS_PICTURE_UNRAISED key.WORKS_PICTURE in
-    ap (λ (n : ℕ). before (works_laid l e n picture caption) rest) (k_is ∙ ap (λ (q : Rule). by_raises q key.WORKS_UNRAISED key.WORKS) r_is)
-    ∙ ap (λ (t : List ℕ). before (works_laid l e told t caption) rest) (picture_is ∙ ap (λ (q : Rule). by_raises q OPENING_SHARES.now GROWN_SHARES.now) r_is)
-    ∙ ap (λ (n : ℕ). before (works_laid l e told drawn n) rest)
+    ap (λ (n : ℕ). before (works_laid l x n picture caption) rest) (k_is ∙ ap (λ (q : Rule). by_raises q key.WORKS_UNRAISED key.WORKS) r_is)
+    ∙ ap (λ (t : List ℕ). before (works_laid l x told t caption) rest) (picture_is ∙ ap (λ (q : Rule). by_raises q OPENING_SHARES.now GROWN_SHARES.now) r_is)
+    ∙ ap (λ (n : ℕ). before (works_laid l x told drawn n) rest)
     (caption_is ∙ ap (λ (q : Rule). by_raises q key.WORKS_PICTURE_UNRAISED key.WORKS_PICTURE) r_is)
-    ∙ ap (λ (f : ElectionView). before (works_laid l f told drawn below) rest) e_is
-    ∙ (works_as l (works_said l told x.election.budget (length x.election.voters) (opening_share x.election)) drawn below rest
-    ∙ ap (λ (b : Bool). before (if b then [] else works_said l told x.election.budget (length x.election.voters) (opening_share x.election)
+    ∙ (works_as l (shares_said l x told) drawn below rest
+    ∙ ap (λ (b : Bool). before (if b then [] else shares_said l x told
     ++ fill (codes "<figure>\n~<figcaption>~</figcaption>\n</figure>\n") (own drawn ∷ said l below ∷ [])) rest) (sym some))
 
 pub link_is : (l : Language) (address : List ℕ) (rest : List ℕ)
     → before (recount_said l address ++ heads l PARAGRAPH.now (key.PROGRAM_TOO ∷ [])) rest ≡ before (recount_said l address ++ paragraph (said l key.PROGRAM_TOO)) rest
 link_is l address rest = link_as l (recount_said l address) rest
 
-pub chosen_is : (r : Rule) (measure completion : List ℕ) (step raises : ℕ) → measure ≡ by_measure r.options.measure [] (codes " --measure cost")
+pub chosen_is : (r : Rule) (money measure completion : List ℕ) (step raises : ℕ) → money ≡ money_said r → measure ≡ by_measure r.options.measure [] (codes " --measure cost")
     → completion ≡ by_completion r.options.completion r.fill_up (codes " --plain") [] (codes " --completion utilitarian") (codes " --completion add1u")
     → step ≡ r.options.step → raises ≡ r.options.max_raises → (rest : List ℕ)
-    → before (cut OPTIONS.now (measure ∷ completion ∷ decimal step ∷ decimal raises ∷ [])) rest ≡ before (chosen r) rest
-chosen_is r measure completion step raises measure_is completion_is step_is raises_is rest =
-    chosen_as measure completion (decimal step) (decimal raises) rest
-    ∙ ap (λ (t : List ℕ). before (ordered t completion step raises) rest) measure_is
-    ∙ ap (λ (t : List ℕ). before (ordered (measure_said r) t step raises) rest) completion_is
-    ∙ ap (λ (n : ℕ). before (ordered (measure_said r) (completion_said r) n raises) rest) step_is
-    ∙ ap (λ (n : ℕ). before (ordered (measure_said r) (completion_said r) r.options.step n) rest) raises_is
+    → before (cut OPTIONS.now (money ∷ measure ∷ completion ∷ decimal step ∷ decimal raises ∷ [])) rest ≡ before (chosen r) rest
+chosen_is r money measure completion step raises money_is measure_is completion_is step_is raises_is rest =
+    chosen_as money measure completion (decimal step) (decimal raises) rest
+    ∙ ap (λ (t : List ℕ). before (ordered t measure completion step raises) rest) money_is
+    ∙ ap (λ (t : List ℕ). before (ordered (money_said r) t completion step raises) rest) measure_is
+    ∙ ap (λ (t : List ℕ). before (ordered (money_said r) (measure_said r) t step raises) rest) completion_is
+    ∙ ap (λ (n : ℕ). before (ordered (money_said r) (measure_said r) (completion_said r) n raises) rest) step_is
+    ∙ ap (λ (n : ℕ). before (ordered (money_said r) (measure_said r) (completion_said r) r.options.step n) rest) raises_is
 
 pub check_is : (facts : Facts) (r : Rule) (rest : List ℕ) → before (heads facts.language CHECK_OPENING.now (key.CHECK_HEADING ∷ key.CHECK_BYTES ∷ [])
     ++ (source (codes "FILE: ") facts.file ++ (journal_source facts.journal ++ (own SOURCES_CLOSING.now ++ (files_said facts.language facts.files ++ (link_said facts.language facts.recount
@@ -407,6 +420,12 @@ besides_linked facts x = elim (cases_Bool facts.compares) [
   | inr not_so ↦ rw not_so refl
 ]
 
+decided_linked : (facts : Facts) (r : Rule) (all : Option Decided) → facts.decided ≡ all
+    → flat_map (section_link facts.language) (decided facts r) ≡ link_to facts.language (is_some all) (codes "decided") key.DECIDED_HEADING
+unfolding decided
+decided_linked facts r (Some d) is = rw is refl
+decided_linked facts r None is = rw is refl
+
 rule_linked : (l : Language) (x : CountedElectionView) (end : RaiseEnd) → section_link l (rule l x end) ≡ link_to l true (codes "rule") key.RULE_HEADING
 unfolding rule
 rule_linked l x end = refl
@@ -415,23 +434,24 @@ check_linked : (facts : Facts) (r : Rule) → section_link facts.language (check
 unfolding check
 check_linked facts r = refl
 
-in_order : (f : Section → List Part) (b w o v r k : Section) (a c s : List Section)
-    → flat_map f (b ∷ w ∷ (a ++ (o ∷ (c ++ (v ∷ (s ++ (r ∷ k ∷ [])))))))
-    ≡ f b ++ (f w ++ (flat_map f a ++ (f o ++ (flat_map f c ++ (f v ++ (flat_map f s ++ (f r ++ f k)))))))
-in_order f b w o v r k a c s = simp (flat_map-append, append-nil)
+in_order : (f : Section → List Part) (b w o v r k : Section) (a c s d : List Section)
+    → flat_map f (b ∷ w ∷ (a ++ (o ∷ (c ++ (v ∷ (s ++ (d ++ (r ∷ k ∷ []))))))))
+    ≡ f b ++ (f w ++ (flat_map f a ++ (f o ++ (flat_map f c ++ (f v ++ (flat_map f s ++ (flat_map f d ++ (f r ++ f k))))))))
+in_order f b w o v r k a c s d = simp (flat_map-append, append-nil)
 
 abbrev each_won : CountedElectionView → List ℕ
 each_won x = map (λ voter. (voter_reason x.election x.counted voter).elected) (range_with_len 0 (length x.election.voters))
 
 abbrev all_sections : Facts → CountedElectionView → RaiseEnd → List Section
 all_sections facts x end = let l = facts.language in budget l x ∷ winners facts x ∷ (added_apart facts x ++ (others facts x
-    ∷ (categories facts x ++ (voters l (each_won x) ∷ (besides facts x ++ (rule l x end ∷ check facts x.rule ∷ []))))))
+    ∷ (categories facts x ++ (voters l (each_won x) ∷ (besides facts x ++ (decided facts x.rule
+    ++ (rule l x end ∷ check facts x.rule ∷ [])))))))
 
 linked_are : (facts : Facts) (x : CountedElectionView) (end : RaiseEnd)
     → flat_map (section_link facts.language) (all_sections facts x end) ≡ links_to facts x
 linked_are facts x end = let l = facts.language in
     in_order (section_link l) (budget l x) (winners facts x) (others facts x) (voters l (each_won x)) (rule l x end) (check facts x.rule)
-    (added_apart facts x) (categories facts x) (besides facts x)
+    (added_apart facts x) (categories facts x) (besides facts x) (decided facts x.rule)
     ∙ rw (
       budget_linked l x,
       winners_linked facts x,
@@ -440,6 +460,7 @@ linked_are facts x end = let l = facts.language in
       categories_linked facts x facts.categories refl,
       voters_linked l (each_won x),
       besides_linked facts x,
+      decided_linked facts x.rule facts.decided refl,
       rule_linked l x end,
       check_linked facts x.rule,
     ) refl
@@ -448,7 +469,7 @@ sections_are : (facts : Facts) (x : CountedElectionView) (end : RaiseEnd)
     → flat_map (section facts.language) (all_sections facts x end) ≡ sections facts x end
 sections_are facts x end = let l = facts.language in
     in_order (section l) (budget l x) (winners facts x) (others facts x) (voters l (each_won x)) (rule l x end) (check facts x.rule)
-    (added_apart facts x) (categories facts x) (besides facts x)
+    (added_apart facts x) (categories facts x) (besides facts x) (decided facts x.rule)
 
 pub page_is : (facts : Facts) (x : CountedElectionView) (end : RaiseEnd) (lang dir : List ℕ) → lang ≡ sentence facts.language.words key.LANG
     → dir ≡ sentence facts.language.words key.DIR → (rest : List ℕ)

@@ -1,17 +1,19 @@
 -- The projects that a raise more would elect, and those that it would elect no more, are projects of the election.
-use Rattle.std.proofs.Common.{Bool, ℕ, ◌<◌, List, length, not, sym, subst, ap}
+use Rattle.std.proofs.Common.{◌≡◌, ◌∙◌, ◌∷◌, ◌++◌, Bool, ℕ, suc, ◌<◌, List, ap, arith, drop, drop-cons, get_or, length, not, subst, sym, take}
 use Rattle.std.specs.Prelude.{All, filter}
+use Rattle.std.proofs.lemmas.List.{length-map, take-append-drop}
 use Rattle.std.proofs.lemmas.List.Elements.{All-filter, All-map}
 use Rattle.pb_core.specs.Election.{ElectionView}
-use Rattle.pb_price.specs.Supporters.{support_of}
-use Rattle.pb_reasons.proofs.ElectedPlaces.{AreProjects, run_elects_projects}
+use Rattle.pb_price.specs.Supporters.{support_in}
+use Rattle.pb_price.specs.declared.grain.Grain.{Grain}
 use Rattle.pb_reasons.specs.RaiseEnd.{IsRaiseEnd}
 use Rattle.pb_reasons.specs.declared.raise_end.RaiseEnd.{RaiseEnd}
 use Rattle.pb_reasons.specs.declared.raise_end.RaiseEnd.TheVariants.{Plain, Exhausted, Over}
-use Rattle.pb_rounds.proofs.RunIs.{only_run}
+use Rattle.pb_rounds.specs.Cheapest.{IsRun}
 use Rattle.pb_rounds.specs.MostVotes.{is_taken}
 use Rattle.pb_rounds.specs.Outcome.{OutcomeView}
-use Rattle.pb_rounds.specs.Run.{ElectedView, RunView, is_elected}
+use Rattle.pb_rounds.specs.Run.{ElectedView, is_elected}
+use Rattle.pb_rounds.specs.declared.measure.Measure.{Measure}
 use Rattle.pb_rounds.specs.declared.options.CountOptions.{CountOptions}
 use Rattle.pb_page.specs.Inner.Counted.{KnowsPlaces}
 use Rattle.pb_page.specs.Page.{beside}
@@ -20,18 +22,26 @@ pub beside_are_known : (e : ElectionView) (taken places : List ℕ) → All (λ 
     → All (λ place. place < length e.projects) (beside taken places)
 beside_are_known e taken places known = All-filter (λ place. not (is_taken taken place)) (λ place. place < length e.projects) places known
 
+-- a run elects projects of the election
+run_is_known : (m : Measure) (grain : Grain) (e : ElectionView) (share : ℕ) (elected : List ElectedView) (rests : List ℕ)
+    → IsRun m (support_in grain e) share elected rests → All (λ w. w.place < length e.projects) elected
+run_is_known m grain e share elected rests run = λ k d below.
+    let count : length (support_in grain e).costs ≡ length e.projects = simp length-map in
+    let here : elected ≡ take k elected ++ get_or elected k d ∷ drop (suc k) elected =
+    sym (take-append-drop k elected) ∙ ap (λ (l : List ElectedView). take k elected ++ l) (drop-cons elected k d below) in
+    omega (arith, count, (run.cheapest (take k elected) (get_or elected k d) (drop (suc k) elected) here).was_left.0)
+
 pub places_are_known : (e : ElectionView) (options : CountOptions) (o : OutcomeView) (end : RaiseEnd) → All (λ w. w.place < length e.projects) o.elected
     → IsRaiseEnd e options o end → KnowsPlaces e end
 places_are_known e options o Plain known h = tt
 places_are_known e options o Exhausted known h = tt
 places_are_known e options o (Over next) known (add1, not_yet, share, over, (elected, rests, run, (cost, only_then, no_more))) =
-    let computed = ap (λ (r : RunView). r.elected) (only_run options.measure (support_of e) _ (record { elected = elected; rests = rests }) run) in
-    let are : AreProjects e elected = subst (AreProjects e) (sym computed) (run_elects_projects options.measure e _) in
+    let by_run = run_is_known options.measure options.grain e _ elected rests run in
     let IsKnown : ℕ → Type 0 = λ place. place < length e.projects in
     let place : ElectedView → ℕ = λ w. w.place in
     let is_new : ElectedView → Bool = λ w. not (is_elected o.elected w.place) in
     let is_gone : ElectedView → Bool = λ w. not (is_elected elected w.place) in
     let Known : List ℕ → Type 0 = λ places. All IsKnown places in (
-      subst Known (sym only_then) (All-map IsKnown place (filter is_new elected) (All-filter is_new (λ w. IsKnown w.place) elected are.known)),
+      subst Known (sym only_then) (All-map IsKnown place (filter is_new elected) (All-filter is_new (λ w. IsKnown w.place) elected by_run)),
       subst Known (sym no_more) (All-map IsKnown place (filter is_gone o.elected) (All-filter is_gone (λ w. IsKnown w.place) o.elected known)),
     )

@@ -6,11 +6,11 @@ use Rattle.std.specs.Option.{option_map_or}
 use Rattle.std.proofs.lemmas.Bool.{cases_Bool, ne_eqb}
 use Rattle.pb_core.specs.Election.{ProjectView}
 use Rattle.pb_core.specs.MoneyText.{money_text}
-use Rattle.pb_page.specs.Amount.{grouped, shown}
-use Rattle.pb_page.specs.Content.{Headed, Part, amount, bar, column, digits, figure, fill, item, number, row, said, say, section, table, text, under}
+use Rattle.pb_page.specs.Amount.{grouped, rounded, shown}
+use Rattle.pb_page.specs.Content.{Headed, Part, amount, bar, column, digits, figure, fill, item, number, parted, row, said, say, section, table, text, under}
 use Rattle.pb_page.specs.Inner.Counted.{at_least, both_only, compared, exact_row, got_said, in_category, lacking, lost_row, more_told, nothing_told, others_opening, payment_told, told_of, went_as}
 use Rattle.pb_page.specs.Inner.Filling.{cut, own}
-use Rattle.pb_page.specs.Page.{added_apart, ballots_row, beside, besides, categories, category_name, category_of, category_row, cells, compared_row, ended_row, entry, linked, links, others, project_at, row_at, short_key, titled, voters, width, winners, money_told}
+use Rattle.pb_page.specs.Page.{added_apart, ballots_row, beside, besides, categories, category_name, category_of, category_row, cells, compared_row, counted_in, ended_row, entry, linked, links, others, project_at, row_at, short_key, titled, voters, width, winners, money_told}
 use Rattle.pb_page.specs.Words.{sentence}
 use Rattle.pb_page.specs.declared.categories.Categories.{Categories}
 use Rattle.pb_page.specs.declared.facts.Facts.{Facts}
@@ -23,7 +23,9 @@ use Rattle.pb_reasons.specs.BesideVotes.{beside_votes, elected_by_votes}
 use Rattle.pb_reasons.specs.Counted.{winners_of}
 use Rattle.pb_reasons.specs.CountedElection.{CountedElectionView, in_file}
 use Rattle.pb_reasons.specs.Money.{MoneyView, money_of, paid_together}
+use Rattle.pb_page.specs.declared.markup.divided.Divided.{Divided}
 use Rattle.pb_reasons.specs.Reasons.{project_reason}
+use Rattle.pb_rows.specs.ExactText.{exact_text}
 use Rattle.pb_reasons.specs.declared.payment.Payment.{Payment}
 use Rattle.pb_reasons.specs.declared.comparison.Comparison.{Comparison}
 use Rattle.pb_reasons.specs.declared.project_reason.Ending.{Ending}
@@ -382,48 +384,53 @@ went_is l x place votes lost = elim (cases_Bool (nat_lt votes 5)) [
 ]
 
 told_is : (l : Language) (x : CountedElectionView) (short : Option ℕ) (whole : ℕ) (p : ProjectView) (place votes : ℕ) (e : Ending)
-    → ended_row l short whole p votes (went_as l x (told_of x place votes e)) e ≡ ended_row l short whole p votes (went l x place votes) e
+    → ended_row l x short whole p votes (went_as l x (told_of x place votes e)) e ≡ ended_row l x short whole p votes (went l x place votes) e
 told_is l x short whole p place votes (ending.Won w) = refl
 told_is l x short whole p place votes (ending.Added a) = refl
 told_is l x short whole p place votes (ending.Lost lost) =
-    ap (λ (told : List Part). ended_row l short whole p votes (λ (left : ℕ). told) (ending.Lost lost)) (went_is l x place votes lost)
+    ap (λ (told : List Part). ended_row l x short whole p votes (λ (left : ℕ). told) (ending.Lost lost)) (went_is l x place votes lost)
 
 pub row_is : (facts : Facts) (x : CountedElectionView) (place at there : ℕ) (p : ProjectView) (id name : List ℕ) (cost : ℕ) (short : Option ℕ) (budget votes : ℕ)
     (e : Ending) (paid : Option MoneyView) → at ≡ slice_index x.order place → there ≡ slice_index x.order place → paid ≡ told_of x place votes e
     → p ≡ project_at x.election place → id ≡ p.id → name ≡ p.name → cost ≡ p.cost → short ≡ short_key x
-    → budget ≡ x.election.budget → votes ≡ (project_reason x.election x.counted place).votes → e ≡ (project_reason x.election x.counted place).ending
+    → budget ≡ x.election.budget → votes ≡ (project_reason x.rule.options.grain x.election x.counted place).votes → e ≡ (project_reason x.rule.options.grain x.election x.counted place).ending
     → (rest : List ℕ)
-    → before (cut ROW_OPENING.now (decimal at ∷ id ∷ []) ++ (ended_row facts.language short budget (record { id = id; name = name; cost = cost }) votes (went_as facts.language x paid) e
+    → before (cut ROW_OPENING.now (decimal at ∷ id ∷ []) ++ (ended_row facts.language x short budget (record { id = id; name = name; cost = cost }) votes (went_as facts.language x paid) e
     ++ (category_cell facts there ++ own ROW_CLOSING.now))) rest
     ≡ before (row_at facts x place) rest
 row_is facts x place at there p id name cost short budget votes e paid at_is there_is paid_is p_is id_is name_is cost_is short_is budget_is votes_is e_is rest =
-    let r = project_reason x.election x.counted place in let q = project_at x.election place in
+    let r = project_reason x.rule.options.grain x.election x.counted place in let q = project_at x.election place in
     let l = facts.language in let own_place = slice_index x.order place in let category = category_cell facts own_place in
     rw (at_is, there_is, paid_is, id_is, name_is, cost_is, p_is, short_is, budget_is, votes_is, e_is)
     (ap (λ (ended : List Part). before (cut ROW_OPENING.now (decimal own_place ∷ q.id ∷ []) ++ (ended ++ (category ++ own ROW_CLOSING.now))) rest)
     (told_is l x (short_key x) x.election.budget q place r.votes r.ending)
-    ∙ row_as own_place q.id (ended_row l (short_key x) x.election.budget q r.votes (went l x place r.votes) r.ending) category rest)
+    ∙ row_as own_place q.id (ended_row l x (short_key x) x.election.budget q r.votes (went l x place r.votes) r.ending) category rest)
 
-abbrev won_put : Language → ProjectView → (wide votes : ℕ) → Won → List Part
-won_put l p wide votes w = cut WINNER.now (sentence l.words key.ROUND ∷ decimal w.round ∷ grouped l.costs.group.now (decimal w.round) ∷ p.id ∷ p.name ∷ decimal wide
+abbrev won_put : Language → (price : Divided) → (seen : ℕ) → ProjectView → (wide votes : ℕ) → Won → List Part
+won_put l price seen p wide votes w = cut WINNER.now (sentence l.words key.ROUND ∷ decimal w.round ∷ grouped l.costs.group.now (decimal w.round) ∷ p.id ∷ p.name ∷ decimal wide
     ∷ sentence l.words key.COST ∷ money_text p.cost ∷ shown l.costs p.cost ∷ sentence l.words key.VOTES ∷ decimal votes
-    ∷ grouped l.costs.group.now (decimal votes) ∷ sentence l.words key.PRICE ∷ money_text w.price ∷ shown l.amounts w.price
+    ∷ grouped l.costs.group.now (decimal votes) ∷ sentence l.words key.PRICE ∷ exact_text price.amount price.divisor ∷ shown l.amounts seen
     ∷ sentence l.words key.IN_FULL ∷ decimal w.in_full ∷ grouped l.costs.group.now (decimal w.in_full) ∷ [])
 
-pub won_is : (l : Language) (short : Option ℕ) (whole : ℕ) (p : ProjectView) (wide votes : ℕ) (w : Won) → wide ≡ width p.cost whole → (rest : List ℕ)
-    → before (won_put l p wide votes w) rest ≡ before (ended_row l short whole p votes (λ left. []) (ending.Won w)) rest
+pub won_is : (l : Language) (x : CountedElectionView) (short : Option ℕ) (whole : ℕ) (p : ProjectView) (price : Divided) (seen wide votes : ℕ) (w : Won)
+    → seen ≡ rounded price → price ≡ counted_in x true w.exact.payers w.exact.amount → wide ≡ width p.cost whole → (rest : List ℕ)
+    → before (won_put l price seen p wide votes w) rest ≡ before (ended_row l x short whole p votes (λ left. []) (ending.Won w)) rest
 unfolding cut
-won_is l short whole p wide votes w is rest = ap (λ (n : ℕ). before (won_put l p n votes w) rest) is
+won_is l x short whole p price seen wide votes w seen_is price_is is rest =
+    let its = counted_in x true w.exact.payers w.exact.amount in
+    ap (λ (n : ℕ). before (won_put l price n p wide votes w) rest) seen_is
+    ∙ ap (λ (d : Divided). before (won_put l d (rounded d) p wide votes w) rest) price_is
+    ∙ ap (λ (n : ℕ). before (won_put l its (rounded its) p n votes w) rest) is
 
 abbrev added_put : Language → ProjectView → (wide votes : ℕ) → Added → List Part
 added_put l p wide votes a = cut ADDED.now (sentence l.words key.NUMBER ∷ decimal a.number ∷ grouped l.costs.group.now (decimal a.number) ∷ p.id ∷ p.name ∷ decimal wide
     ∷ sentence l.words key.COST ∷ money_text p.cost ∷ shown l.costs p.cost ∷ sentence l.words key.VOTES ∷ decimal votes
     ∷ grouped l.costs.group.now (decimal votes) ∷ [])
 
-pub added_is : (l : Language) (short : Option ℕ) (whole : ℕ) (p : ProjectView) (wide votes : ℕ) (a : Added) → wide ≡ width p.cost whole → (rest : List ℕ)
-    → before (added_put l p wide votes a) rest ≡ before (ended_row l short whole p votes (λ left. []) (ending.Added a)) rest
+pub added_is : (l : Language) (x : CountedElectionView) (short : Option ℕ) (whole : ℕ) (p : ProjectView) (wide votes : ℕ) (a : Added) → wide ≡ width p.cost whole → (rest : List ℕ)
+    → before (added_put l p wide votes a) rest ≡ before (ended_row l x short whole p votes (λ left. []) (ending.Added a)) rest
 unfolding cut
-added_is l short whole p wide votes a is rest = ap (λ (n : ℕ). before (added_put l p n votes a) rest) is
+added_is l x short whole p wide votes a is rest = ap (λ (n : ℕ). before (added_put l p n votes a) rest) is
 
 abbrev lost_head : ProjectView → (wide : ℕ) → List Part
 lost_head p wide = cut OTHER_OPENING.now (p.id ∷ p.name ∷ decimal wide ∷ [])
@@ -431,26 +438,37 @@ lost_head p wide = cut OTHER_OPENING.now (p.id ∷ p.name ∷ decimal wide ∷ [
 abbrev cost_votes : Language → ProjectView → (votes : ℕ) → List Part
 cost_votes l p votes = under l key.COST (amount l.costs (codes "cost") p.cost) ++ under l key.VOTES (number l (codes "votes") votes)
 
-abbrev left_missing : Language → (short : ℕ) → Lost → (says : List Part) → List Part
-left_missing l short lost says = under l key.LEFT (amount l.amounts (codes "left") lost.left)
-    ++ under l short (figure (codes "missing") (money_text lost.missing) says)
+abbrev left_missing : Language → (short : ℕ) → (left missing : Divided) → (says : List Part) → List Part
+left_missing l short left missing says = under l key.LEFT (parted l.amounts (codes "left") left)
+    ++ under l short (figure (codes "missing") (exact_text missing.amount missing.divisor) says)
 
-abbrev lost_cells : Language → (short : ℕ) → ProjectView → (votes : ℕ) → Lost → (says : List Part) → List Part
-lost_cells l short p votes lost says = cut OTHER.now (sentence l.words key.COST ∷ money_text p.cost ∷ shown l.costs p.cost
+abbrev lost_cells : Language → (short : ℕ) → ProjectView → (votes : ℕ) → (left : Divided) → (seen : ℕ) → (missing : Divided) → (says : List Part) → List Part
+lost_cells l short p votes left seen missing says = cut OTHER.now (sentence l.words key.COST ∷ money_text p.cost ∷ shown l.costs p.cost
     ∷ sentence l.words key.VOTES ∷ decimal votes ∷ grouped l.costs.group.now (decimal votes) ∷ sentence l.words key.LEFT
-    ∷ money_text lost.left ∷ shown l.amounts lost.left
-    ∷ sentence l.words short ∷ money_text lost.missing ∷ []) ++ (says ++ own OTHER_CLOSING.now)
+    ∷ exact_text left.amount left.divisor ∷ shown l.amounts seen
+    ∷ sentence l.words short ∷ exact_text missing.amount missing.divisor ∷ []) ++ (says ++ own OTHER_CLOSING.now)
 
-cells_as : (l : Language) (short : ℕ) (p : ProjectView) (votes : ℕ) (lost : Lost) (says : List Part) (rest : List ℕ)
-    → before (lost_cells l short p votes lost says) rest
-    ≡ before (own (codes "</th>") ++ (cost_votes l p votes ++ left_missing l short lost says)) rest
+cells_as : (l : Language) (short : ℕ) (p : ProjectView) (votes : ℕ) (left missing : Divided) (says : List Part) (rest : List ℕ)
+    → before (lost_cells l short p votes left (rounded left) missing says) rest
+    ≡ before (own (codes "</th>") ++ (cost_votes l p votes ++ left_missing l short left missing says)) rest
 unfolding cut
-cells_as l short p votes lost says rest = simp before_more
+cells_as l short p votes left missing says rest = simp before_more
 
-pub lacking_is : (l : Language) (short : ℕ) (p : ProjectView) (votes : ℕ) (lost : Lost) (rest : List ℕ)
-    → before (lost_cells l short p votes lost (say l key.SHORT (text (shown l.amounts lost.missing) ∷ []))) rest
-    ≡ before (lacking l short p votes lost) rest
-lacking_is l short p votes lost rest = cells_as l short p votes lost (say l key.SHORT (text (shown l.amounts lost.missing) ∷ [])) rest
+-- what is said of what was missing
+abbrev short_said : Language → Divided → List Part
+short_said l missing = say l key.SHORT (text (shown l.amounts (rounded missing)) ∷ [])
+
+pub lacking_is : (l : Language) (x : CountedElectionView) (short : ℕ) (p : ProjectView) (votes : ℕ) (lost : Lost) (left missing : Divided) (seen n : ℕ)
+    → seen ≡ rounded left → left ≡ counted_in x false 1 lost.left → missing ≡ counted_in x true 1 lost.missing → n ≡ rounded (counted_in x true 1 lost.missing) → (rest : List ℕ)
+    → before (lost_cells l short p votes left seen missing (say l key.SHORT (text (shown l.amounts n) ∷ []))) rest
+    ≡ before (lacking l x short p votes lost) rest
+lacking_is l x short p votes lost left missing seen n seen_is left_is missing_is n_is rest =
+    let its_left = counted_in x false 1 lost.left in let its_missing = counted_in x true 1 lost.missing in
+    ap (λ (m : ℕ). before (lost_cells l short p votes left seen missing (say l key.SHORT (text (shown l.amounts m) ∷ []))) rest) n_is
+    ∙ ap (λ (m : ℕ). before (lost_cells l short p votes left m missing (short_said l its_missing)) rest) seen_is
+    ∙ ap (λ (d : Divided). before (lost_cells l short p votes d (rounded d) missing (short_said l its_missing)) rest) left_is
+    ∙ ap (λ (d : Divided). before (lost_cells l short p votes its_left (rounded its_left) d (short_said l its_missing)) rest) missing_is
+    ∙ cells_as l short p votes its_left its_missing (short_said l its_missing) rest
 
 told_in : (l : Language) (p : ProjectView) (wide votes : ℕ) (told more : List Part) (rest : List ℕ)
     → before (lost_head p wide) (before told (before (own (codes "</th>") ++ (cost_votes l p votes ++ more)) rest))
@@ -458,25 +476,27 @@ told_in : (l : Language) (p : ProjectView) (wide votes : ℕ) (told more : List 
 unfolding cut
 told_in l p wide votes told more rest = simp before_more
 
-abbrev lost_put : Language → (short : ℕ) → ProjectView → (wide votes : ℕ) → Lost → (told : List Part) → List Part
-lost_put l short p wide votes lost told = lost_head p wide ++ (told ++ lacking l short p votes lost)
+abbrev lost_put : Language → CountedElectionView → (short : ℕ) → ProjectView → (wide votes : ℕ) → Lost → (told : List Part) → List Part
+lost_put l x short p wide votes lost told = lost_head p wide ++ (told ++ lacking l x short p votes lost)
 
-lost_as : (l : Language) (short : ℕ) (p : ProjectView) (wide votes : ℕ) (lost : Lost) (told : List Part) (rest : List ℕ)
-    → before (lost_put l short p wide votes lost told) rest
-    ≡ before (cells l p votes (bar wide ++ told) ++ left_missing l short lost (say l key.SHORT (text (shown l.amounts lost.missing) ∷ []))) rest
-lost_as l short p wide votes lost told rest =
-    before_more (lost_head p wide) (told ++ lacking l short p votes lost) rest
-    ∙ (ap (λ (t : List ℕ). before (lost_head p wide) t) (before_more told (lacking l short p votes lost) rest)
-    ∙ told_in l p wide votes told (left_missing l short lost (say l key.SHORT (text (shown l.amounts lost.missing) ∷ []))) rest)
+lost_as : (l : Language) (x : CountedElectionView) (short : ℕ) (p : ProjectView) (wide votes : ℕ) (lost : Lost) (told : List Part) (rest : List ℕ)
+    → before (lost_put l x short p wide votes lost told) rest
+    ≡ before (cells l p votes (bar wide ++ told)
+    ++ left_missing l short (counted_in x false 1 lost.left) (counted_in x true 1 lost.missing) (short_said l (counted_in x true 1 lost.missing))) rest
+lost_as l x short p wide votes lost told rest =
+    before_more (lost_head p wide) (told ++ lacking l x short p votes lost) rest
+    ∙ (ap (λ (t : List ℕ). before (lost_head p wide) t) (before_more told (lacking l x short p votes lost) rest)
+    ∙ told_in l p wide votes told (left_missing l short (counted_in x false 1 lost.left) (counted_in x true 1 lost.missing)
+    (short_said l (counted_in x true 1 lost.missing))) rest)
 
-pub lost_is : (l : Language) (short : Option ℕ) (k whole : ℕ) (p : ProjectView) (wide votes : ℕ) (lost : Lost) (told : ℕ → List Part)
-    → short ≡ Some k → wide ≡ width lost.left p.cost → (rest : List ℕ)
-    → before (lost_put l k p wide votes lost (told lost.left)) rest
-    ≡ before (ended_row l short whole p votes told (ending.Lost lost)) rest
-lost_is l short k whole p wide votes lost told some is rest =
-    ap (λ (n : ℕ). before (lost_put l k p n votes lost (told lost.left)) rest) is
-    ∙ (lost_as l k p (width lost.left p.cost) votes lost (told lost.left) rest
-    ∙ ap (λ (s : Option ℕ). before (ended_row l s whole p votes told (ending.Lost lost)) rest) (sym some))
+pub lost_is : (l : Language) (x : CountedElectionView) (short : Option ℕ) (k whole : ℕ) (p : ProjectView) (wide votes : ℕ) (lost : Lost) (told : ℕ → List Part)
+    → short ≡ Some k → wide ≡ width (rounded (counted_in x false 1 lost.left)) p.cost → (rest : List ℕ)
+    → before (lost_put l x k p wide votes lost (told lost.left)) rest
+    ≡ before (ended_row l x short whole p votes told (ending.Lost lost)) rest
+lost_is l x short k whole p wide votes lost told some is rest =
+    ap (λ (n : ℕ). before (lost_put l x k p n votes lost (told lost.left)) rest) is
+    ∙ (lost_as l x k p (width (rounded (counted_in x false 1 lost.left)) p.cost) votes lost (told lost.left) rest
+    ∙ ap (λ (s : Option ℕ). before (ended_row l x s whole p votes told (ending.Lost lost)) rest) (sym some))
 
 -- a loser's row where nobody has a share
 pub passed_over_is : (l : Language) (p : ProjectView) (votes : ℕ) (rest : List ℕ)
@@ -485,11 +505,11 @@ pub passed_over_is : (l : Language) (p : ProjectView) (votes : ℕ) (rest : List
 unfolding cut
 passed_over_is l p votes rest = refl
 
-pub passed_is : (l : Language) (short : Option ℕ) (whole : ℕ) (p : ProjectView) (votes : ℕ) (lost : Lost) (told : ℕ → List Part)
+pub passed_is : (l : Language) (x : CountedElectionView) (short : Option ℕ) (whole : ℕ) (p : ProjectView) (votes : ℕ) (lost : Lost) (told : ℕ → List Part)
     → short ≡ None → (rest : List ℕ)
-    → before (cells l p votes []) rest ≡ before (ended_row l short whole p votes told (ending.Lost lost)) rest
-passed_is l short whole p votes lost told none rest =
-    ap (λ (s : Option ℕ). before (ended_row l s whole p votes told (ending.Lost lost)) rest) (sym none)
+    → before (cells l p votes []) rest ≡ before (ended_row l x short whole p votes told (ending.Lost lost)) rest
+passed_is l x short whole p votes lost told none rest =
+    ap (λ (s : Option ℕ). before (ended_row l x s whole p votes told (ending.Lost lost)) rest) (sym none)
 
 -- where the money went
 money_as : (l : Language) (payments more nothing kept : List Part) (rest : List ℕ)
@@ -498,26 +518,39 @@ money_as : (l : Language) (payments more nothing kept : List Part) (rest : List 
 unfolding cut
 money_as l payments more nothing kept rest = simp before_more
 
-abbrev money_put : Language → CountedElectionView → (left : ℕ) → List Payment → (more : ℕ) → (is_empty : Bool) → List Part
-money_put l x left payments more is_empty = heads l WENT_OPENING.now (key.WENT ∷ []) ++ (flat_map (payment_told l x) payments ++ (more_told l more
-    ++ (nothing_told l is_empty ++ (item (say l key.KEPT (amount l.amounts (codes "kept") left ∷ [])) ++ own WENT_CLOSING.now))))
+abbrev money_put : Language → CountedElectionView → (left : Divided) → List Payment → (more : ℕ) → (is_empty : Bool) → List Part
+money_put l x left payments more is_empty = heads l WENT_OPENING.now (key.WENT ∷ []) ++ (flat_map (payment_told l x) payments ++ (more_told l x more
+    ++ (nothing_told l is_empty ++ (item (say l key.KEPT (parted l.amounts (codes "kept") left ∷ [])) ++ own WENT_CLOSING.now))))
 
-pub money_is : (l : Language) (x : CountedElectionView) (left : ℕ) (m : MoneyView) (payments : List Payment) (more : ℕ) (is_empty : Bool)
-    → payments ≡ m.most → more ≡ m.others → is_empty ≡ (length m.most == 0) → (rest : List ℕ)
-    → before (money_put l x left payments more is_empty) rest ≡ before (money_told l x left m) rest
-money_is l x left m payments more is_empty payments_are more_is empty_is rest =
-    ap (λ (ps : List Payment). before (money_put l x left ps more is_empty) rest) payments_are
-    ∙ (ap (λ (n : ℕ). before (money_put l x left m.most n is_empty) rest) more_is
-    ∙ (ap (λ (b : Bool). before (money_put l x left m.most m.others b) rest) empty_is
-    ∙ money_as l (flat_map (payment_told l x) m.most) (more_told l m.others) (nothing_told l (length m.most == 0))
-    (item (say l key.KEPT (amount l.amounts (codes "kept") left ∷ []))) rest))
+pub money_is : (l : Language) (x : CountedElectionView) (left : ℕ) (m : MoneyView) (kept : Divided) (payments : List Payment) (more : ℕ) (is_empty : Bool)
+    → kept ≡ counted_in x false 1 left → payments ≡ m.most → more ≡ m.others → is_empty ≡ (length m.most == 0) → (rest : List ℕ)
+    → before (money_put l x kept payments more is_empty) rest ≡ before (money_told l x left m) rest
+money_is l x left m kept payments more is_empty kept_is payments_are more_is empty_is rest =
+    let its = counted_in x false 1 left in
+    ap (λ (d : Divided). before (money_put l x d payments more is_empty) rest) kept_is
+    ∙ (ap (λ (ps : List Payment). before (money_put l x its ps more is_empty) rest) payments_are
+    ∙ (ap (λ (n : ℕ). before (money_put l x its m.most n is_empty) rest) more_is
+    ∙ (ap (λ (b : Bool). before (money_put l x its m.most m.others b) rest) empty_is
+    ∙ money_as l (flat_map (payment_told l x) m.most) (more_told l x m.others) (nothing_told l (length m.most == 0))
+    (item (say l key.KEPT (parted l.amounts (codes "kept") its ∷ []))) rest)))
 
-abbrev payment_put : Language → Payment → (project : List Part) → List Part
-payment_put l p project = item (say l key.PAID (amount l.amounts (codes "paid_for") p.amount ∷ project ∷ []))
+abbrev more_put : Language → (paid : Divided) → List Part
+more_put l paid = item (say l key.PAID_MORE (parted l.amounts (codes "paid_more") paid ∷ []))
 
-pub payment_is : (l : Language) (x : CountedElectionView) (p : Payment) (project : List Part) → project ≡ linked x p.place → (rest : List ℕ)
-    → before (payment_put l p project) rest ≡ before (payment_told l x p) rest
-payment_is l x p project is rest = ap (λ (t : List Part). before (payment_put l p t) rest) is
+pub more_is : (l : Language) (x : CountedElectionView) (others : ℕ) (paid : Divided) → paid ≡ counted_in x false 1 others → others ≢ 0 → (rest : List ℕ)
+    → before (more_put l paid) rest ≡ before (more_told l x others) rest
+more_is l x others paid is some rest =
+    let so : others == 0 ≡ false = ne_eqb others 0 some in
+    rw so (ap (λ (d : Divided). before (more_put l d) rest) is)
+
+abbrev payment_put : Language → (paid : Divided) → (project : List Part) → List Part
+payment_put l paid project = item (say l key.PAID (parted l.amounts (codes "paid_for") paid ∷ project ∷ []))
+
+pub payment_is : (l : Language) (x : CountedElectionView) (p : Payment) (paid : Divided) (project : List Part) → paid ≡ counted_in x false 1 p.amount
+    → project ≡ linked x p.place → (rest : List ℕ) → before (payment_put l paid project) rest ≡ before (payment_told l x p) rest
+payment_is l x p paid project paid_is is rest =
+    ap (λ (d : Divided). before (payment_put l d project) rest) paid_is
+    ∙ ap (λ (t : List Part). before (payment_put l (counted_in x false 1 p.amount) t) rest) is
 
 -- an entry of a list of projects
 abbrev entry_shown : Language → (place : ℕ) → ProjectView → List Part

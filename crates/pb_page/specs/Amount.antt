@@ -1,6 +1,8 @@
 -- Amounts of money as people write them.
 use Rattle.std.specs.Prelude.{ℕ, ◌/◌, ◌%◌, ◌&&◌, ◌==◌, List, [], ◌∷◌, ◌++◌, codes, decimal, if◌then◌else◌}
-use Rattle.std.specs.Prelude.{length, nat_lt}
+use Rattle.std.specs.Prelude.{length, max, nat_lt}
+use Rattle.std.specs.Int.{div_ceil}
+use Rattle.pb_page.specs.declared.markup.divided.Divided.{Divided}
 use Rattle.pb_page.specs.declared.markup.form.Form.{Form}
 
 -- the digits of a number in groups of three: a sign behind each third from the end, but not behind the last
@@ -17,3 +19,7 @@ decimals form hundredths = if form.is_whole && (hundredths == 0) then []
 abbrev pub shown : Form → (hundredths : ℕ) → List ℕ
 shown form hundredths = form.before.now ++ (grouped form.group.now (decimal (hundredths / 100))
     ++ (decimals form (hundredths % 100) ++ form.after.now))
+
+-- an amount in parts of a hundredth, rounded up or down to hundredths
+abbrev pub rounded : Divided → ℕ
+rounded d = if d.is_up then div_ceil d.amount (max 1 d.divisor) else d.amount / max 1 d.divisor

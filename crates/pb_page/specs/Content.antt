@@ -3,11 +3,13 @@ use Rattle.std.specs.Prelude.{ℕ, ◌+◌, ◌==◌, List, [], ◌∷◌, ◌++
 use Rattle.std.specs.Prelude.{slice_index_or}
 use Rattle.std.specs.List.{after_first, before_first}
 use Rattle.pb_core.specs.MoneyText.{money_text}
-use Rattle.pb_page.specs.Amount.{grouped, shown}
+use Rattle.pb_page.specs.Amount.{grouped, rounded, shown}
 use Rattle.pb_page.specs.Markup.{written}
 use Rattle.pb_page.specs.Words.{form_of, sentence}
 use Rattle.pb_page.specs.declared.language.Language.{Language}
+use Rattle.pb_page.specs.declared.markup.divided.Divided.{Divided}
 use Rattle.pb_page.specs.declared.markup.form.Form.{Form}
+use Rattle.pb_rows.specs.ExactText.{exact_text}
 
 -- a part of a page, by its bytes: markup of the program's own, or a text
 abbrev pub Part : Type 0
@@ -22,12 +24,15 @@ fill markup [] = markup ∷ []
 fill markup (place ∷ places) = let is_place = λ (c : ℕ). c == 126 in
     before_first is_place markup ∷ (place ++ fill (after_first is_place markup) places)
 
--- a figure: its value for programs and what shows it; and an amount
+-- a figure: its value for programs and what shows it; an amount; and one in parts of a hundredth, which is shown rounded
 abbrev pub figure : (name value : List ℕ) → (shows : List Part) → List Part
 figure name value shows = fill (codes "<data class='~' value='~'>~</data>") (text name ∷ text value ∷ shows ∷ [])
 
 abbrev pub amount : Form → (name : List ℕ) → ℕ → List Part
 amount form name h = figure name (money_text h) (text (shown form h))
+
+abbrev pub parted : Form → (name : List ℕ) → Divided → List Part
+parted form name d = figure name (exact_text d.amount d.divisor) (text (shown form (rounded d)))
 
 -- a row by what stands at its head; and a bar of this width, of 10000
 abbrev pub row : (head cells : List Part) → List Part

@@ -3,6 +3,7 @@ pub mod Filling
 pub mod Grown
 pub mod Value
 pub mod Counted
+pub mod Decided
 pub mod Contents
 pub mod Digits
 pub mod Nouns

@@ -1,17 +1,19 @@
 -- The page of a result: its elements, and which figure is in which.
-use Rattle.std.specs.Prelude.{◌≡◌, ℕ, ◌+◌, ◌-◌, ◌*◌, ◌/◌, ◌||◌, ◌==◌, List, [], ◌∷◌, ◌++◌, codes, count_by, decimal}
+use Rattle.std.specs.Prelude.{◌≡◌, ℕ, ◌+◌, ◌-◌, ◌*◌, ◌/◌, ◌||◌, ◌==◌, List, [], ◌∷◌, ◌++◌, Bool, codes, count_by, decimal, false, true}
 use Rattle.std.specs.Prelude.{filter, flat_map, if◌then◌else◌, length, map, max, min, nat_le, nat_lt, not, slice_get, slice_index, slice_index_or}
 use Rattle.std.specs.Prelude.{None, Option, Some, sum_by}
 use Rattle.std.specs.List.{range_with_len}
 use Rattle.std.specs.Option.{option_map_or}
 use Rattle.pb_core.specs.Election.{ElectionView, ProjectView}
 use Rattle.pb_core.specs.MoneyText.{money_text}
-use Rattle.pb_page.specs.Amount.{shown}
-use Rattle.pb_page.specs.Content.{Headed, Part, Section, amount, bar, column, digits, figure, fill, item, listed}
+use Rattle.pb_page.specs.Amount.{rounded, shown}
+use Rattle.pb_page.specs.Content.{Headed, Part, Section, amount, bar, column, digits, figure, fill, item, listed, parted}
 use Rattle.pb_page.specs.Content.{noun_at, number, paragraph, row, said, say, section, section_link, table, text, under}
 use Rattle.pb_page.specs.Words.{sentence}
 use Rattle.pb_page.specs.declared.markup.form.Form.{Form}
-use Rattle.pb_price.specs.Supporters.{cost_at, support_of}
+use Rattle.pb_page.specs.declared.markup.divided.Divided.{Divided}
+use Rattle.pb_price.specs.Grain.{in_parts}
+use Rattle.pb_price.specs.Supporters.{cost_at, support_in, support_of}
 use Rattle.pb_reasons.specs.BesideVotes.{beside_votes, elected_by_votes}
 use Rattle.pb_reasons.specs.Counted.{winners_of}
 use Rattle.pb_reasons.specs.CountedElection.{CountedElectionView, in_file}
@@ -28,10 +30,12 @@ use Rattle.pb_reasons.specs.declared.project_reason.Ending.TheVariants.{Won, Add
 use Rattle.pb_reasons.specs.declared.tie.Tie.{Tie}
 use Rattle.pb_rounds.specs.MostVotes.{is_taken}
 use Rattle.pb_rounds.specs.Count.{no_shares, opening_share}
-use Rattle.pb_rounds.specs.RuleNames.{by_completion, by_measure, by_ties, completion_name, fills_up, measure_name}
+use Rattle.pb_rounds.specs.RuleNames.{by_completion, by_grain, by_measure, by_ties, completion_name, fills_up, measure_name}
+use Rattle.pb_rows.specs.ExactText.{exact_text}
 use Rattle.pb_rounds.specs.RuleNames.{profile_name, ties_name}
 use Rattle.pb_rounds.specs.declared.rule.Rule.{Rule}
 use Rattle.pb_page.specs.declared.categories.Categories.{Categories}
+use Rattle.pb_page.specs.declared.facts.Decided.{Decided}
 use Rattle.pb_page.specs.declared.facts.Facts.{Facts}
 use Rattle.pb_page.specs.declared.facts.ReadText.{ReadText}
 use Rattle.pb_page.specs.declared.keys.TheConstants as key
@@ -42,6 +46,10 @@ use Rattle.pb_page.specs.declared.style.TheConstants.{META, STYLE}
 -- how wide an amount is: ten thousandths of the whole, at most all of them
 abbrev pub width : ℕ → ℕ → ℕ
 width amount whole = min (amount * 10000 / max whole 1) 10000
+
+-- an amount of the parts that are counted, for each of so many payers, rounded up or down
+abbrev pub counted_in : CountedElectionView → (is_up : Bool) → (payers amount : ℕ) → Divided
+counted_in x is_up payers amount = record { amount = amount; divisor = in_parts x.rule.options.grain (length x.election.voters) payers; is_up = is_up }
 
 -- the project at this place
 abbrev pub project_at : ElectionView → ℕ → ProjectView
@@ -113,15 +121,16 @@ module _ (l : Language) where
       ++ under l key.MORE (number l (codes "more_choices") r.more_choices))))
 
 -- the row of a project up to its category, by how it ended
-module _ (l : Language) (short : Option ℕ) (whole : ℕ) (p : ProjectView) (votes : ℕ) (went : ℕ → List Part) where
+module _ (l : Language) (x : CountedElectionView) (short : Option ℕ) (whole : ℕ) (p : ProjectView) (votes : ℕ) (went : ℕ → List Part) where
   abbrev pub ended_row : Ending → List Part
   ended_row (Won w) = under l key.ROUND (number l (codes "round") w.round)
-      ++ (cells l p votes (bar (width p.cost whole)) ++ (under l key.PRICE (amount l.amounts (codes "price") w.price)
+      ++ (cells l p votes (bar (width p.cost whole)) ++ (under l key.PRICE (parted l.amounts (codes "price") (counted_in x true w.exact.payers w.exact.amount))
       ++ under l key.IN_FULL (number l (codes "in_full") w.in_full)))
   ended_row (Added a) = under l key.NUMBER (number l (codes "added") a.number) ++ cells l p votes (bar (width p.cost whole))
-  ended_row (Lost lost) = option_map_or (λ k. cells l p votes (bar (width lost.left p.cost) ++ went lost.left)
-      ++ (under l key.LEFT (amount l.amounts (codes "left") lost.left) ++ under l k (figure (codes "missing") (money_text lost.missing)
-      (say l key.SHORT (text (shown l.amounts lost.missing) ∷ []))))) short (cells l p votes [])
+  ended_row (Lost lost) = let missing = counted_in x true 1 lost.missing in option_map_or (λ k. cells l p votes (bar (width (rounded (counted_in x false 1 lost.left)) p.cost)
+      ++ went lost.left) ++ (under l key.LEFT (parted l.amounts (codes "left") (counted_in x false 1 lost.left))
+      ++ under l k (figure (codes "missing") (exact_text missing.amount missing.divisor) (say l key.SHORT (text (shown l.amounts (rounded missing)) ∷ [])))))
+      short (cells l p votes [])
 
 module _ (l : Language) (x : CountedElectionView) where
   -- an entry of a list: the link to a project, and its cost; and such a list below what is said of it, where there are any
@@ -135,9 +144,9 @@ module _ (l : Language) (x : CountedElectionView) where
   -- where the money of a project's supporters went, and what they have left
   abbrev pub money_told : (left : ℕ) → MoneyView → List Part
   money_told left m = fill (codes "<details><summary>~</summary><ul>\n~~~~</ul>\n</details>") (said l key.WENT
-      ∷ flat_map (λ p. item (say l key.PAID (amount l.amounts (codes "paid_for") p.amount ∷ linked x p.place ∷ []))) m.most
-      ∷ (if m.others == 0 then [] else item (say l key.PAID_MORE (amount l.amounts (codes "paid_more") m.others ∷ [])))
-      ∷ (if length m.most == 0 then item (said l key.PAID_NOTHING) else []) ∷ item (say l key.KEPT (amount l.amounts (codes "kept") left ∷ [])) ∷ [])
+      ∷ flat_map (λ p. item (say l key.PAID (parted l.amounts (codes "paid_for") (counted_in x false 1 p.amount) ∷ linked x p.place ∷ []))) m.most
+      ∷ (if m.others == 0 then [] else item (say l key.PAID_MORE (parted l.amounts (codes "paid_more") (counted_in x false 1 m.others) ∷ [])))
+      ∷ (if length m.most == 0 then item (said l key.PAID_NOTHING) else []) ∷ item (say l key.KEPT (parted l.amounts (codes "kept") (counted_in x false 1 left) ∷ [])) ∷ [])
 
   -- the row of a category, by its number: how many of the winners are of it, and what these cost together
   abbrev pub category_row : Categories → ℕ → List Part
@@ -150,31 +159,32 @@ module _ (l : Language) (x : CountedElectionView) where
   -- what was voted on, who voted, how many won and what was spent; or that no project won, with the numbers for
   -- programs
   unfoldable pub summary : List Part
-  summary = let e = x.election in let totals = totals_of e x.counted in let left = e.budget - totals.spent in
+  summary = let e = x.election in let totals = totals_of x.rule.options.grain e x.counted in let left = e.budget - totals.spent in
       let won = length (winners_of x.counted) in fill (codes "<p class='lead'>~</p>\n<p class='lead'>~</p>\n")
       (say l key.VOTED (number l (codes "voters") (length e.voters) ∷ number l (codes "projects") (length e.projects)
       ∷ amount l.costs (codes "budget") e.budget ∷ noun_at l key.PEOPLE (length e.voters) ∷ noun_at l key.TOPICS (length e.projects) ∷ [])
       ∷ (if won == 0 then figure (codes "won") (decimal won) [] ++ (figure (codes "spent") (money_text totals.spent) []
-      ++ (figure (codes "surplus") (money_text totals.surplus) [] ++ say l key.NONE_WON (amount l.costs (codes "left") left ∷ [])))
+      ++ (figure (by_grain x.rule.options.grain (codes "surplus") (codes "uncovered")) (money_text totals.surplus) [] ++ say l key.NONE_WON (amount l.costs (codes "left") left ∷ [])))
       else say l key.WON (number l (codes "won") won ∷ amount l.costs (codes "spent") totals.spent
       ∷ amount l.costs (codes "left") left ∷ noun_at l key.WINNERS won ∷ [])) ∷ [])
 
   -- the picture of the budget, with what it says to those who can't see it, and what is said below it
   unfoldable pub budget : Section
-  budget = let e = x.election in let totals = totals_of e x.counted in let left = e.budget - totals.spent in
+  budget = let e = x.election in let totals = totals_of x.rule.options.grain e x.counted in let left = e.budget - totals.spent in
       Headed [] (codes "budget") key.BUDGET_HEADING
       (fill (codes "<figure>\n<div class='budget' role='img' aria-label='~'>\n~</div>\n<figcaption>~</figcaption>\n</figure>\n")
       (say l key.PICTURE (map (λ h. text (shown l.costs h)) (e.budget ∷ totals.spent ∷ left ∷ [])) ∷ blocks l.costs e 0 (winners_of x.counted)
       ∷ say l (if length (winners_of x.counted) == 0 then key.BUDGET_NONE else if no_shares x.rule.options.completion then key.BUDGET_BY_VOTES
-      else key.BUDGET_CAPTION) (amount l.costs (codes "spent") totals.spent
-      ∷ amount l.costs (codes "left") left ∷ amount l.amounts (codes "surplus") totals.surplus ∷ []) ∷ []))
+      else by_grain x.rule.options.grain key.BUDGET_CAPTION key.BUDGET_FINE) (amount l.costs (codes "spent") totals.spent
+      ∷ amount l.costs (codes "left") left ∷ parted l.amounts (by_grain x.rule.options.grain (codes "surplus") (codes "uncovered"))
+      (counted_in x true 1 totals.surplus) ∷ []) ∷ []))
 
   -- why the raises ended: what would be elected with one more, which projects that have not won only then, and which of
   -- the elected no more
   abbrev pub raises_ended : RaiseEnd → List Part
   raises_ended Plain = []
   raises_ended Exhausted = item (said l key.EXHAUSTED)
-  raises_ended (Over next) = item (say l key.OVER (amount l.amounts (codes "next_share") next.share ∷ amount l.costs (codes "next_cost") next.cost ∷ []))
+  raises_ended (Over next) = item (say l key.OVER (parted l.amounts (codes "next_share") (counted_in x false 1 next.share) ∷ amount l.costs (codes "next_cost") next.cost ∷ []))
       ++ (listed l key.ONLY_THEN [] (flat_map entry (beside (winners_of x.counted) next.only_then.items))
       ++ listed l key.NO_MORE [] (flat_map entry next.no_more.items))
 
@@ -189,13 +199,13 @@ module _ (l : Language) (x : CountedElectionView) where
   unfoldable pub ties : List Part
   ties = let t = x.rule.ties in by_ties t [] (item (say l key.EQUALS (fill (codes "<code>~</code>") (text (ties_name t) ∷ []) ∷ [])))
       ++ listed l (by_ties t key.TIES key.TIES_TIED) (codes " class='ties'" ∷ [])
-      (flat_map tie (ties_of x.rule.options.measure x.election x.counted))
+      (flat_map tie (ties_of x.rule.options.measure (support_in x.rule.options.grain x.election) x.counted))
 
   -- what shares are, as this election has them, in words and in a picture; nothing where nobody voted
   unfoldable pub works : List Part
   works = let e = x.election in if length e.voters == 0 then []
       else paragraph (say l (by_raises x.rule key.WORKS_UNRAISED key.WORKS) (amount l.costs (codes "budget") e.budget
-      ∷ number l (codes "voters") (length e.voters) ∷ amount l.amounts (codes "opening_share") (opening_share e) ∷ []))
+      ∷ number l (codes "voters") (length e.voters) ∷ parted l.amounts (codes "opening_share") (counted_in x false 1 (opening_share x.rule.options.grain e)) ∷ []))
       ++ fill (codes "<figure>\n~<figcaption>~</figcaption>\n</figure>\n") ((by_raises x.rule OPENING_SHARES.now GROWN_SHARES.now ∷ [])
       ∷ said l (by_raises x.rule key.WORKS_PICTURE_UNRAISED key.WORKS_PICTURE) ∷ [])
 
@@ -207,29 +217,42 @@ module _ (l : Language) (x : CountedElectionView) where
       let filled = by_ties r.ties key.FILLED_UP key.FILLED_UP_TIED in
       Headed [] (codes "rule") key.RULE_HEADING (if no_shares o.completion
       then fill (codes "<ol>\n~~</ol>\n") (item (said l (by_ties r.ties key.MOST_VOTES_FIRST key.MOST_VOTES_TIED)) ∷ ties ∷ [])
-      else fill (codes "~<ol>\n~~~</ol>\n") (works ∷ (if length x.election.voters == 0
-      then [] else item (say l (by_raises r key.SHARE_UNRAISED key.SHARE) (amount l.amounts (codes "share") x.counted.outcome.share
+      else fill (codes "~<ol>\n~~~~</ol>\n") (works ∷ (if length x.election.voters == 0
+      then [] else item (say l (by_raises r key.SHARE_UNRAISED key.SHARE) (parted l.amounts (codes "share") (counted_in x false 1 x.counted.outcome.share)
       ∷ number l (codes "raises") raised ∷ fill (codes "<data value='~'>~</data>") (map text (money_text o.step ∷ shown l.amounts o.step ∷ []))
       ∷ noun_at l key.TIMES raised ∷ [])) ++ (items (key.SUPPORTERS
       ∷ by_measure o.measure (by_ties r.ties key.BY_VOTES key.BY_VOTES_TIED) (by_ties r.ties key.BY_COST key.BY_COST_TIED)
       ∷ by_completion o.completion r.fill_up key.PLAIN raises filled raises ∷ []) ++ raises_ended end))
       ∷ items (by_completion o.completion r.fill_up key.METHOD_PLAIN key.METHOD_ADD1 key.METHOD_FILLED
-      key.METHOD_ADD1 ∷ by_completion o.completion r.fill_up [] [] [] (filled ∷ [])) ∷ ties ∷ []))
+      key.METHOD_ADD1 ∷ by_completion o.completion r.fill_up [] [] [] (filled ∷ [])) ∷ by_grain o.grain [] (item (said l key.FINE_MONEY)) ∷ ties ∷ []))
 
 -- a text that was counted
 abbrev pub source : (name : List ℕ) → ReadText → List Part
 source name s = fill (codes "<dt>~<bdi dir='auto'>~</bdi>, SHA-256</dt>\n<dd><code>~</code></dd>\n")
     (map text (name ∷ s.name.now ∷ s.digest.now ∷ []))
 
+-- what decides which of two rules applies, as the option for that calls it
+abbrev pub decider : Decided → List ℕ
+decider d = if d.by_worth then codes "worth" else codes "choices"
+
 module _ (facts : Facts) (r : Rule) where
-  -- the command that counts it, with its options
+  -- where it was decided that this rule applies: between which rules, and how many voters have more by each
+  unfoldable pub decided : List Section
+  decided = let l = facts.language in let name = λ (t : List ℕ). fill (codes "<code>~</code>") (text t ∷ []) in
+      option_map_or (λ d. Headed [] (codes "decided") key.DECIDED_HEADING (paragraph (say l
+      (if d.by_worth then key.DECIDED_BY_WORTH else key.DECIDED_BY_CHOICES) (name (profile_name d.rule ++ (codes "/decide=" ++ decider d))
+      ∷ name (profile_name d.other) ∷ number l (codes "decided_own") d.own ∷ number l (codes "decided_other") d.others
+      ∷ name (profile_name r) ∷ []))) ∷ []) facts.decided []
+
+  -- the command that counts it, with the options that were given
   abbrev pub command : List Part
-  command = let o = r.options in option_map_or (λ j. codes "pb_app audit FILE JOURNAL --digests --require-shut" ∷ [])
-      facts.journal (codes "sha256sum FILE\npb_app projects FILE" ∷ [])
+  command = let given = option_map_or (λ d. d.rule) facts.decided r in let o = given.options in
+      option_map_or (λ j. codes "pb_app audit FILE JOURNAL --digests --require-shut" ∷ []) facts.journal (codes "sha256sum FILE\npb_app projects FILE" ∷ [])
       ++ ((if no_shares o.completion then codes " --rule most-votes" ∷ []
-      else fill (codes "~~ --step ~ --raises ~") (map text (by_measure o.measure [] (codes " --measure cost")
-      ∷ by_completion o.completion r.fill_up (codes " --plain") [] (codes " --completion utilitarian") (codes " --completion add1u")
-      ∷ decimal o.step ∷ decimal o.max_raises ∷ []))) ++ by_ties r.ties [] (fill (codes " --ties ~") (text (ties_name r.ties) ∷ [])))
+      else fill (codes "~~~ --step ~ --raises ~") (map text (by_grain o.grain [] (codes " --money fine") ∷ by_measure o.measure [] (codes " --measure cost")
+      ∷ by_completion o.completion given.fill_up (codes " --plain") [] (codes " --completion utilitarian") (codes " --completion add1u")
+      ∷ decimal o.step ∷ decimal o.max_raises ∷ []))) ++ (by_ties given.ties [] (fill (codes " --ties ~") (text (ties_name given.ties) ∷ []))
+      ++ option_map_or (λ d. fill (codes " --decide ~ --beside ~") (map text (decider d ∷ profile_name d.other ∷ []))) facts.decided []))
 
   -- what was counted, where it is published and where a page recounts it, the command that does, its options again in
   -- words, and the program that made the page
@@ -250,9 +273,9 @@ module _ (facts : Facts) (x : CountedElectionView) where
   -- the row of the project at this place; where the money of its supporters went is told of five or more
   abbrev pub row_at : ℕ → List Part
   row_at place = let l = facts.language in let e = x.election in let p = project_at e place in
-      let at = slice_index x.order place in let r = project_reason e x.counted place in
+      let at = slice_index x.order place in let r = project_reason x.rule.options.grain e x.counted place in
       fill (codes "<tr role='row' id='p-~' data-project='~'>~~</tr>\n") (text (decimal at) ∷ text p.id
-      ∷ ended_row l (short_key x) e.budget p r.votes (λ left. if nat_lt r.votes 5 then []
+      ∷ ended_row l x (short_key x) e.budget p r.votes (λ left. if nat_lt r.votes 5 then []
       else money_told l x left (money_of (paid_together e x.counted.outcome place))) r.ending
       ∷ option_map_or (λ g. fill (codes "<td role='cell' data-label='~'><bdi dir='auto'>~</bdi></td>")
       (said l key.CATEGORY ∷ text (category_name g (category_of g at)) ∷ [])) facts.categories [] ∷ [])
@@ -304,8 +327,8 @@ module _ (facts : Facts) (x : CountedElectionView) where
   unfoldable pub parts : RaiseEnd → List Part
   parts end = let l = facts.language in let title = text facts.title.now in let each_won = map
       (λ voter. (voter_reason x.election x.counted voter).elected) (range_with_len 0 (length x.election.voters)) in
-      let sections = budget l x ∷ winners ∷ (added_apart ++ (others ∷ (categories ++ (voters l each_won ∷ (besides ++ (rule l x end
-      ∷ check facts x.rule ∷ [])))))) in
+      let sections = budget l x ∷ winners ∷ (added_apart ++ (others ∷ (categories ++ (voters l each_won ∷ (besides ++ (decided facts x.rule
+      ++ (rule l x end ∷ check facts x.rule ∷ []))))))) in
       fill (codes "<!DOCTYPE html>\n<html lang='~' dir='~'>\n<head>\n~<title>~</title>\n<style>~</style>\n</head>\n<body>\n"
       ++ codes "<header>\n<h1 dir='auto'>~</h1>\n~<nav aria-label='~'>\n<ul>\n~</ul>\n</nav>\n</header>\n<main>\n~</main>\n</body>\n</html>\n")
       (said l key.LANG ∷ said l key.DIR ∷ (META.now ∷ []) ∷ title ∷ (STYLE.now ∷ []) ∷ title ∷ summary l x ∷ said l key.CONTENTS

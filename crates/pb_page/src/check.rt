@@ -1,15 +1,17 @@
 //! How to check a result.
 
 ghost use Rattle.std.specs.Prelude.{◌≡◌, ◌∷◌, [], OnOk, codes};
+ghost use Rattle.std.specs.Option.{option_map_or};
 ghost use Rattle.pb_page.specs.Content.{fill, section, text};
 ghost use Rattle.pb_page.specs.Inner.Counted.{begun, chosen, method_given, options_given, options_told, ties_option};
 ghost use Rattle.pb_page.specs.Inner.Counted.{files_said, journal_source, link_said, made_by, name_said, options_said};
 ghost use Rattle.pb_page.specs.Inner.Grown.{Grows};
 ghost use Rattle.pb_page.specs.Page.{by_raises, check, command, source};
 ghost use Rattle.pb_page.specs.declared.keys.TheConstants as key;
-ghost use Rattle.pb_rounds.specs.RuleNames.{by_completion, by_measure, profile_name, ties_name};
+ghost use Rattle.pb_rounds.specs.RuleNames.{by_completion, by_grain, by_measure, profile_name, ties_name};
 
-use crate::facts::{Facts, ReadText};
+use crate::decided::put_decision_options;
+use crate::facts::{Decided, Facts, ReadText};
 use crate::keys;
 use crate::language::Language;
 use crate::markup::Value;
@@ -22,6 +24,7 @@ use crate::templates::{
     COMMAND_OPENING, COUNT, OPTIONS, PARAGRAPH, SOURCES_CLOSING, TIES_OPTION,
 };
 use pb_core::no_memory::NoMemory;
+use pb_price::Grain;
 use pb_rounds::measure::Measure;
 use pb_rounds::options::Completion;
 use pb_rounds::rule::{FillUp, Rule};
@@ -111,11 +114,23 @@ fn put_link(page: &mut Vec<u8>, language: &Language, address: Option<&str>) -> R
 fn put_command(page: &mut Vec<u8>, facts: &Facts, rule: &Rule) -> Result<(), NoMemory>
     ensures { OnOk result (Grows page.old.items page.new.items (command facts.now rule.now)) }
 {
+    let given = given_rule(&facts.decided, rule);
     put_program(page, facts.journal)?;
-    put_options(page, &facts.language, rule)
+    put_options(page, &facts.language, &given)?;
+    put_decision_options(page, &facts.language, &facts.decided)
 }
 
-/// Its options.
+/// The rule that was given, where this one applies.
+fn given_rule(decided: &Option<Decided>, rule: &Rule) -> Rule
+    ensures { result ≡ option_map_or (λ d. d.rule) decided.now rule.now }
+{
+    match decided {
+        Some(decided) => decided.rule,
+        None => *rule,
+    }
+}
+
+/// Its options, but for how it was decided.
 fn put_options(page: &mut Vec<u8>, language: &Language, rule: &Rule) -> Result<(), NoMemory>
     ensures { OnOk result (Grows page.old.items page.new.items (options_given rule.now)) }
 {
@@ -167,6 +182,7 @@ fn put_chosen(page: &mut Vec<u8>, language: &Language, rule: &Rule) -> Result<()
     ensures { OnOk result (Grows page.old.items page.new.items (chosen rule.now)) }
 {
     let values = [
+        Value::Text(money_option(rule.options.grain)),
         Value::Text(measure_option(rule.options.measure)),
         Value::Text(completion_option(rule.options.completion, rule.fill_up)),
         Value::Number(rule.options.step.0),
@@ -182,6 +198,16 @@ fn put_program(page: &mut Vec<u8>, journal: Option<ReadText<'_>>) -> Result<(), 
     match journal {
         Some(_) => put_own(page, AUDIT),
         None => put_own(page, COUNT),
+    }
+}
+
+/// The option for fine money, behind a space; nothing where none is needed.
+fn money_option(grain: Grain) -> &'static str
+    ensures { result.now ≡ by_grain grain [] (codes " --money fine") }
+{
+    match grain {
+        Grain::Hundredths => "",
+        Grain::Fine => " --money fine",
     }
 }
 

@@ -25,6 +25,7 @@ pub(crate) fn put_contents(
     let language = &facts.language;
     let has_added = has_added(count);
     let has_categories = facts.categories.is_some();
+    let is_decided = facts.decided.is_some();
     let called = [Value::Said(keys::CONTENTS)];
     put(page, language, CONTENTS_OPENING, &called)?;
     put_link(page, language, "budget", keys::BUDGET_HEADING)?;
@@ -46,6 +47,7 @@ pub(crate) fn put_contents(
         "compared",
         keys::COMPARED_HEADING,
     )?;
+    put_link_where(page, language, is_decided, "decided", keys::DECIDED_HEADING)?;
     put_link(page, language, "rule", keys::RULE_HEADING)?;
     put_link(page, language, "check", keys::CHECK_HEADING)?;
     put_own(page, CONTENTS_CLOSING)

@@ -5,6 +5,7 @@ ghost use Rattle.pb_page.specs.Inner.Counted.{figures_of};
 
 use crate::rule::has_no_shares;
 use pb_core::money::Money;
+use pb_price::Grain;
 use pb_reasons::CountedElection;
 
 /// The numbers of the whole.
@@ -18,8 +19,12 @@ pub struct Figures {
     pub spent: Money,
     /// The budget less that.
     pub left: Money,
-    /// What was paid beyond that.
+    /// What was paid beyond the costs of the elected, or is left uncovered of them, in the parts that are counted.
     pub surplus: Money,
+    /// How many of these a hundredth has.
+    pub parts: u64,
+    /// How finely money is counted.
+    pub grain: Grain,
     /// Nobody has a share.
     pub by_votes: bool,
 }
@@ -40,6 +45,8 @@ impl Figures {
             spent: totals.spent,
             left: Money(budget.0.saturating_sub(totals.spent.0)),
             surplus: totals.surplus,
+            parts: count.parts(),
+            grain: count.rule().options.grain,
             by_votes: has_no_shares(&count.rule()),
         }
     }

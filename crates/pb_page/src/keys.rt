@@ -263,3 +263,17 @@ pub(crate) const TIE_ADDED_TIED: u16 = 139;
 pub(crate) const TIE_WON_TIED: u16 = 140;
 
 pub(crate) const EQUALS: u16 = 141;
+
+// Sentences where money is fine.
+
+pub(crate) const BUDGET_FINE: u16 = 142;
+
+pub(crate) const FINE_MONEY: u16 = 143;
+
+// Sentences of a count that was decided between two rules.
+
+pub(crate) const DECIDED_HEADING: u16 = 144;
+
+pub(crate) const DECIDED_BY_CHOICES: u16 = 145;
+
+pub(crate) const DECIDED_BY_WORTH: u16 = 146;

@@ -8,6 +8,9 @@ mod categories;
 mod check;
 mod compared;
 mod contents;
+mod counted_in;
+mod decided;
+mod decided_sentences;
 mod elected_only;
 mod facts;
 mod figures;
@@ -39,7 +42,7 @@ mod words_fault;
 mod works;
 
 pub use categories::Categories;
-pub use facts::{Facts, ReadText};
+pub use facts::{Decided, Facts, ReadText};
 pub use language::Language;
 pub use made::page_of;
 pub use markup::{Form, Plural, Words};

@@ -11,6 +11,7 @@ use crate::by_category::put_categories;
 use crate::check::put_check;
 use crate::compared::put_besides;
 use crate::contents::put_contents;
+use crate::decided::put_decided;
 use crate::facts::Facts;
 use crate::keys;
 use crate::markup::Value;
@@ -116,6 +117,8 @@ fn put_sections(
     put_categories(page, facts, count)?;
     put_voters(page, language, count)?;
     put_besides(page, facts, count)?;
+    let rule = count.rule();
+    put_decided(page, facts, &rule)?;
     put_rule(page, language, count, end)?;
-    put_check(page, facts, &count.rule())
+    put_check(page, facts, &rule)
 }

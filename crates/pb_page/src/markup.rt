@@ -2,6 +2,7 @@
 //! markup.
 
 mod amounts;
+pub mod divided;
 pub mod form;
 pub mod laws;
 mod pieces;
@@ -10,6 +11,8 @@ mod value;
 pub mod words;
 mod written;
 
+pub use divided::Divided;
+pub(crate) use divided::rounded;
 pub use form::Form;
 pub(crate) use pieces::fill;
 pub use plural::Plural;

@@ -1,6 +1,6 @@
 //! What stands at a place of a sentence.
 
-use crate::markup::Form;
+use crate::markup::{Divided, Form};
 use pb_core::money::Money;
 
 /// What stands at a place of a sentence. Each name is that of a figure, for programs.
@@ -18,6 +18,8 @@ pub(crate) enum Place<'a> {
     Number(&'static str, u64),
     /// An amount by its name.
     Amount(&'static str, Money, Form<'a>),
+    /// An amount that is divided, by its name.
+    Parted(&'static str, Divided, Form<'a>),
     /// An amount for programs that has no name.
     Nameless(Money, Form<'a>),
     /// What the words of the page say at a key.

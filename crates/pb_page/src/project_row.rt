@@ -7,12 +7,16 @@ ghost use Rattle.pb_page.specs.Inner.Counted.{lacking, project_of, went_as};
 ghost use Rattle.pb_page.specs.Inner.Grown.{Grows};
 ghost use Rattle.pb_page.specs.Page.{category_name, category_of, cells, ended_row, row_at};
 ghost use Rattle.pb_page.specs.declared.keys.TheConstants as key;
+ghost use Rattle.pb_price.specs.Price.{HasPayers};
+ghost use Rattle.pb_price.specs.Supporters.{support_in};
+ghost use Rattle.pb_reasons.specs.declared.project_reason.Won.{Won};
 
+use crate::counted_in::{counted_in, hundredths_in, price_in};
 use crate::facts::Facts;
 use crate::forms::bar;
 use crate::keys;
 use crate::language::Language;
-use crate::markup::Value;
+use crate::markup::{Value, rounded};
 use crate::place::Place;
 use crate::put::{put, put_own};
 use crate::rule::short_key;
@@ -83,7 +87,9 @@ fn put_ended<'a>(
     ending: &Ending,
     paid: &Option<MoneyPaid>,
 ) -> Result<(), NoMemory>
-    ensures { OnOk result (Grows page.old.items page.new.items (ended_row language.now row.now.short row.now.budget
+    requires { (won : Won) → ending.now ≡ Ending.Won won → HasPayers
+        (support_in row.now.count.now.rule.options.grain row.now.count.now.election) won.exact }
+    ensures { OnOk result (Grows page.old.items page.new.items (ended_row language.now row.now.count.now row.now.short row.now.budget
         (project_of row.now) row.now.votes (went_as language.now row.now.count.now paid.now) ending.now)) }
 {
     match ending {
@@ -100,10 +106,12 @@ fn put_elected<'a>(
     row: &ProjectRow<'a>,
     won: &Won,
 ) -> Result<(), NoMemory>
-    ensures { OnOk result (Grows page.old.items page.new.items (ended_row language.now
+    requires { HasPayers (support_in row.now.count.now.rule.options.grain row.now.count.now.election) won.now.exact }
+    ensures { OnOk result (Grows page.old.items page.new.items (ended_row language.now row.now.count.now
         row.now.short row.now.budget (project_of row.now) row.now.votes (λ left. []) (Ending.Won won.now))) }
 {
     let group = language.costs.group;
+    let price = price_in(row.count, won.exact);
     let cells = [
         Value::Said(keys::ROUND),
         Value::Small(won.round),
@@ -118,8 +126,8 @@ fn put_elected<'a>(
         Value::Small(row.votes),
         Value::Grouped(row.votes as u64, group),
         Value::Said(keys::PRICE),
-        Value::Amount(won.price),
-        Value::Shown(won.price, language.amounts),
+        Value::Exact(price.amount, price.divisor),
+        Value::Hundredths(rounded(&price), language.amounts),
         Value::Said(keys::IN_FULL),
         Value::Small(won.in_full),
         Value::Grouped(won.in_full as u64, group),
@@ -134,7 +142,7 @@ fn put_added<'a>(
     row: &ProjectRow<'a>,
     added: &Added,
 ) -> Result<(), NoMemory>
-    ensures { OnOk result (Grows page.old.items page.new.items (ended_row language.now
+    ensures { OnOk result (Grows page.old.items page.new.items (ended_row language.now row.now.count.now
         row.now.short row.now.budget (project_of row.now) row.now.votes (λ left. []) (Ending.Added added.now))) }
 {
     let group = language.costs.group;
@@ -163,15 +171,16 @@ fn put_lost<'a>(
     lost: &Lost,
     paid: &Option<MoneyPaid>,
 ) -> Result<(), NoMemory>
-    ensures { OnOk result (Grows page.old.items page.new.items (ended_row language.now row.now.short row.now.budget
+    ensures { OnOk result (Grows page.old.items page.new.items (ended_row language.now row.now.count.now row.now.short row.now.budget
         (project_of row.now) row.now.votes (went_as language.now row.now.count.now paid.now) (Ending.Lost lost.now))) }
 {
     match row.short {
         Some(short) => {
+            let left = hundredths_in(row.count, false, lost.left);
             let head = [
                 Value::Text(row.id),
                 Value::Text(row.name),
-                Value::Number(bar(lost.left, row.cost)),
+                Value::Number(bar(left, row.cost)),
             ];
             put(page, language, OTHER_OPENING, &head)?;
             put_went(page, language, row.count, paid, lost.left)?;
@@ -190,8 +199,10 @@ fn put_lacking<'a>(
     lost: &Lost,
 ) -> Result<(), NoMemory>
     ensures { OnOk result (Grows page.old.items page.new.items
-        (lacking language.now short (project_of row.now) row.now.votes lost.now)) }
+        (lacking language.now row.now.count.now short (project_of row.now) row.now.votes lost.now)) }
 {
+    let left = counted_in(row.count, false, lost.left);
+    let missing = counted_in(row.count, true, lost.missing);
     let cells = [
         Value::Said(keys::COST),
         Value::Amount(row.cost),
@@ -200,14 +211,15 @@ fn put_lacking<'a>(
         Value::Small(row.votes),
         Value::Grouped(row.votes as u64, language.costs.group),
         Value::Said(keys::LEFT),
-        Value::Amount(lost.left),
-        Value::Shown(lost.left, language.amounts),
+        Value::Exact(left.amount, left.divisor),
+        Value::Hundredths(rounded(&left), language.amounts),
         Value::Said(short),
-        Value::Amount(lost.missing),
+        Value::Exact(missing.amount, missing.divisor),
     ];
     put(page, language, OTHER, &cells)?;
-    let missing = Place::Shown(lost.missing, language.amounts);
-    say(page, language, keys::SHORT, &[missing])?;
+    let shown = hundredths_in(row.count, true, lost.missing);
+    let said = Place::Shown(shown, language.amounts);
+    say(page, language, keys::SHORT, &[said])?;
     put_own(page, OTHER_CLOSING)
 }
 

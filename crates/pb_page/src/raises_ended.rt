@@ -7,6 +7,7 @@ ghost use Rattle.pb_page.specs.Page.{beside, raises_ended};
 ghost use Rattle.pb_page.specs.declared.keys.TheConstants as key;
 ghost use Rattle.pb_reasons.specs.Counted.{winners_of};
 
+use crate::counted_in::counted_in;
 use crate::elected_only::{beside, put_entries};
 use crate::keys;
 use crate::language::Language;
@@ -51,7 +52,11 @@ fn put_over(
         (raises_ended language.now count.now (RaiseEnd.Over next.now))) }
 {
     let places = [
-        Place::Amount("next_share", next.share, language.amounts),
+        Place::Parted(
+            "next_share",
+            counted_in(count, false, next.share),
+            language.amounts,
+        ),
         Place::Amount("next_cost", next.cost, language.costs),
     ];
     say_item(page, language, keys::OVER, &places)?;

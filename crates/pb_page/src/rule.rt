@@ -1,6 +1,6 @@
 //! How it was counted, sentence by sentence.
 
-ghost use Rattle.std.specs.Prelude.{◌≡◌, ◌==◌, None, OnOk, Some, false, if◌then◌else◌, true};
+ghost use Rattle.std.specs.Prelude.{◌≡◌, ◌==◌, [], None, OnOk, Some, false, if◌then◌else◌, true};
 ghost use Rattle.pb_page.specs.Content.{item, said, section};
 ghost use Rattle.pb_page.specs.Inner.Counted.{KnowsPlaces, filled_up, rounds_said, rounds_told, share_said};
 ghost use Rattle.pb_page.specs.Inner.Grown.{Grows};
@@ -8,11 +8,12 @@ ghost use Rattle.pb_page.specs.Page.{by_raises, rule, short_key};
 ghost use Rattle.pb_page.specs.declared.keys.TheConstants as key;
 ghost use Rattle.pb_reasons.specs.declared.raise_end.RaiseEnd.{RaiseEnd};
 ghost use Rattle.pb_rounds.specs.Count.{no_shares};
-ghost use Rattle.pb_rounds.specs.RuleNames.{by_completion, by_measure, by_ties};
+ghost use Rattle.pb_rounds.specs.RuleNames.{by_completion, by_grain, by_measure, by_ties};
 
+use crate::counted_in::counted_in;
 use crate::keys;
 use crate::language::Language;
-use crate::markup::Value;
+use crate::markup::{Divided, Value};
 use crate::place::Place;
 use crate::put::{put, put_own};
 use crate::raises_ended::put_end;
@@ -22,6 +23,7 @@ use crate::ties::put_ties;
 use crate::works::put_works;
 use pb_core::money::Money;
 use pb_core::no_memory::NoMemory;
+use pb_price::Grain;
 use pb_reasons::{CountedElection, RaiseEnd};
 use pb_rounds::measure::Measure;
 use pb_rounds::options::Completion;
@@ -87,6 +89,7 @@ fn put_by_shares(
     put_voted(page, language, count, end)?;
     put_item(page, language, method_key(&rule))?;
     put_filled_up(page, language, &rule)?;
+    put_fine(page, language, rule.options.grain)?;
     put_ties(page, language, count)?;
     put_own(page, RULE_CLOSING)
 }
@@ -120,7 +123,7 @@ fn put_rounds(
         (rounds_said language.now count.now end.now)) }
 {
     let rule = count.rule();
-    let share = share_of(count.outcome());
+    let share = counted_in(count, false, share_of(count.outcome()));
     let raised = raised_by(count.outcome());
     put_share(page, language, &rule, share, raised)?;
     put_item(page, language, keys::SUPPORTERS)?;
@@ -158,7 +161,7 @@ fn put_share(
     page: &mut Vec<u8>,
     language: &Language,
     rule: &Rule,
-    share: Money,
+    share: Divided,
     raised: u32,
 ) -> Result<(), NoMemory>
     ensures { OnOk result (Grows page.old.items page.new.items (share_said language.now
@@ -166,7 +169,7 @@ fn put_share(
 {
     let raises = u64::from(raised);
     let places = [
-        Place::Amount("share", share, language.amounts),
+        Place::Parted("share", share, language.amounts),
         Place::Number("raises", raises),
         Place::Nameless(rule.options.step, language.amounts),
         Place::Noun(keys::TIMES, raises),
@@ -263,6 +266,18 @@ fn method_key(rule: &Rule) -> u16
         (Completion::Plain | Completion::NoShares, FillUp::Nothing) => keys::METHOD_PLAIN,
         (Completion::Plain | Completion::NoShares, FillUp::MostVotes) => keys::METHOD_FILLED,
         (Completion::Add1, FillUp::Nothing | FillUp::MostVotes) => keys::METHOD_ADD1,
+    }
+}
+
+/// How money was counted, where it is fine.
+#[tactic(auto, using(crate::proofs::Grown::none))]
+fn put_fine(page: &mut Vec<u8>, language: &Language, grain: Grain) -> Result<(), NoMemory>
+    ensures { OnOk result (Grows page.old.items page.new.items
+        (by_grain grain [] (item (said language.now key.FINE_MONEY)))) }
+{
+    match grain {
+        Grain::Hundredths => Ok(()),
+        Grain::Fine => put_item(page, language, keys::FINE_MONEY),
     }
 }
 

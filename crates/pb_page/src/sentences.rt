@@ -1,16 +1,19 @@
 //! Sentences from outside, with markup at their places.
 
 ghost use Rattle.std.specs.Prelude.{◌≡◌, ◌++◌, OnOk, flat_map, map};
-ghost use Rattle.pb_page.specs.Content.{item, number, paragraph, say};
+ghost use Rattle.pb_core.specs.MoneyText.{money_text};
+ghost use Rattle.pb_page.specs.Amount.{shown};
+ghost use Rattle.pb_page.specs.Content.{figure, item, number, paragraph, parted, say, text};
 ghost use Rattle.pb_page.specs.Inner.Grown.{Grows};
 ghost use Rattle.pb_page.specs.Inner.Value.{at_place, character_said};
 
 use crate::keys;
 use crate::language::Language;
-use crate::markup::{Value, write_byte};
+use crate::markup::{Divided, Form, Value, rounded, write_byte};
 use crate::place::Place;
 use crate::put::{put, put_own};
 use crate::templates::{CODE, FIGURE, FILES_LINK, NAMELESS, PROJECT_LINK, RECOUNT_LINK, TEXT};
+use pb_core::money::Money;
 use pb_core::no_memory::NoMemory;
 
 /// The bytes below this one are places of a sentence: byte 0 the first, byte 1 the second, and so on.
@@ -98,14 +101,8 @@ fn put_place(page: &mut Vec<u8>, language: &Language, place: &Place) -> Result<(
         Place::Noun(key, number) => put(page, language, TEXT, &[Value::Noun(key, number)]),
         Place::Shown(amount, form) => put(page, language, TEXT, &[Value::Shown(amount, form)]),
         Place::Number(name, number) => put_number(page, language, name, number),
-        Place::Amount(name, amount, form) => {
-            let values = [
-                Value::Text(name),
-                Value::Amount(amount),
-                Value::Shown(amount, form),
-            ];
-            put(page, language, FIGURE, &values)
-        }
+        Place::Amount(name, amount, form) => put_amount(page, language, name, amount, form),
+        Place::Parted(name, amount, form) => put_parted(page, language, name, amount, form),
         Place::Nameless(amount, form) => {
             let values = [Value::Amount(amount), Value::Shown(amount, form)];
             put(page, language, NAMELESS, &values)
@@ -140,6 +137,43 @@ fn put_number(
         Value::Text(name),
         Value::Number(value),
         Value::Grouped(value, language.costs.group),
+    ];
+    put(page, language, FIGURE, &values)
+}
+
+/// Puts an amount by its name: as it is, for programs, and as people write it.
+fn put_amount(
+    page: &mut Vec<u8>,
+    language: &Language,
+    name: &'static str,
+    value: Money,
+    form: Form,
+) -> Result<(), NoMemory>
+    ensures { OnOk result (Grows page.old.items page.new.items
+        (figure name.now (money_text value) (text (shown form.entry value)))) }
+{
+    let values = [
+        Value::Text(name),
+        Value::Amount(value),
+        Value::Shown(value, form),
+    ];
+    put(page, language, FIGURE, &values)
+}
+
+/// Puts an amount that is divided by its name: as it is, for programs, and rounded, as people write it.
+fn put_parted(
+    page: &mut Vec<u8>,
+    language: &Language,
+    name: &'static str,
+    amount: Divided,
+    form: Form,
+) -> Result<(), NoMemory>
+    ensures { OnOk result (Grows page.old.items page.new.items (parted form.entry name.now amount)) }
+{
+    let values = [
+        Value::Text(name),
+        Value::Exact(amount.amount, amount.divisor),
+        Value::Hundredths(rounded(&amount), form),
     ];
     put(page, language, FIGURE, &values)
 }

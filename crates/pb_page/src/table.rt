@@ -1,5 +1,7 @@
 //! All that a page says: the keys, and the sentences in English.
 
+use crate::decided_sentences::DECIDED;
+
 /// A sentence of a page.
 #[derive(Clone, Copy)]
 pub struct SentenceEntry {
@@ -27,42 +29,23 @@ macro_rules! placed {
 
 /// How many sentences there are.
 pub fn entries() -> usize {
-    let early = first().len().saturating_add(middle().len());
-    early
-        .saturating_add(later().len())
-        .saturating_add(tied().len())
+    let mut many: usize = 0;
+    for list in lists() {
+        many = many.saturating_add(list.len());
+    }
+    many
 }
 
 /// The sentence at this index.
 pub fn entry_at(index: usize) -> Option<SentenceEntry> {
-    match first().get(index) {
-        Some(entry) => Some(*entry),
-        None => middle_at(index.saturating_sub(first().len())),
+    let mut index = index;
+    for list in lists() {
+        match list.get(index) {
+            Some(entry) => return Some(*entry),
+            None => index = index.saturating_sub(list.len()),
+        }
     }
-}
-
-/// The sentence at this index of those behind the first ones.
-fn middle_at(index: usize) -> Option<SentenceEntry> {
-    match middle().get(index) {
-        Some(entry) => Some(*entry),
-        None => later_at(index.saturating_sub(middle().len())),
-    }
-}
-
-/// The sentence at this index of the later ones.
-fn later_at(index: usize) -> Option<SentenceEntry> {
-    match later().get(index) {
-        Some(entry) => Some(*entry),
-        None => tied_at(index.saturating_sub(later().len())),
-    }
-}
-
-/// The sentence at this index of those of other rules for ties.
-fn tied_at(index: usize) -> Option<SentenceEntry> {
-    match tied().get(index) {
-        Some(entry) => Some(*entry),
-        None => None,
-    }
+    None
 }
 
 /// The sentence with this key, and its index.
@@ -77,8 +60,11 @@ pub(crate) fn entry_of(key: &str) -> Option<(usize, SentenceEntry)> {
     None
 }
 
-// The sentences are in four lists, each with a function of its own, since a proof writes out all texts of a
-// constant.
+/// The lists of sentences, in the order of their keys' numbers. Each has a function of its own, since a proof writes out
+/// all texts of a constant.
+fn lists() -> [&'static [SentenceEntry]; 5] {
+    [first(), middle(), later(), tied(), decided()]
+}
 
 fn first() -> &'static [SentenceEntry] {
     FIRST
@@ -94,6 +80,10 @@ fn later() -> &'static [SentenceEntry] {
 
 fn tied() -> &'static [SentenceEntry] {
     TIED
+}
+
+fn decided() -> &'static [SentenceEntry] {
+    DECIDED
 }
 
 /// The first sentences, in the order of their keys' numbers.
@@ -494,5 +484,14 @@ const TIED: &[SentenceEntry] = &[
         "rule.equals",
         &["ties"],
         "Where projects were equal, the rule for ties decided: {ties}. In such a rule, votes means that the project with more votes comes first, cost that the cheaper one does, and lot that their order was drawn from the text behind it. What is still equal comes in the order of the file."
+    ),
+    placed!(
+        "budget.fine",
+        &["spent", "left", "uncovered"],
+        "Each block is a winning project, as wide as its cost, in the order of the tables below. Spent: {spent}. Left: {left}. Left uncovered of the costs, by rounding payments down: {uncovered}."
+    ),
+    plain!(
+        "rule.fine_money",
+        "Money was counted in small parts of a hundredth: prices were not rounded, and what each supporter paid was rounded down to such a part."
     ),
 ];

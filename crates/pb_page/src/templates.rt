@@ -58,9 +58,9 @@ pub(crate) const FIGURE: &str = "<data class='~' value='~'>~</data>";
 pub(crate) const NAMELESS: &str = "<data value='~'>~</data>";
 
 /// What programs read of a page on which no project won, before the sentence on that. Values: how many won;
-/// what was spent; what was paid beyond that.
+/// what was spent; what was paid beyond that or is left uncovered, by its name.
 pub(crate) const NOTHING: &str =
-    "<data class='won' value='~'></data><data class='spent' value='~'></data><data class='surplus' value='~'></data>";
+    "<data class='won' value='~'></data><data class='spent' value='~'></data><data class='~' value='~'></data>";
 
 /// The head of the picture of the budget, up to its words for those who can't see it. Value: the heading.
 pub(crate) const BUDGET_OPENING: &str = "<section aria-labelledby='budget'>
@@ -99,6 +99,11 @@ pub(crate) const HEAD_CLOSING: &str = "</tr></thead>
 
 /// The category of a project, in its row. Values: the label, and the category.
 pub(crate) const ROW_CATEGORY: &str = "<td role='cell' data-label='~'><bdi dir='auto'>~</bdi></td>";
+
+/// The head of the section on which rule applies. Value: the heading.
+pub(crate) const DECIDED_OPENING: &str = "<section aria-labelledby='decided'>
+<h2 id='decided'>~</h2>
+";
 
 /// The start of a project's row, up to its cells, and its end. Values: its place in the file, and its id.
 pub(crate) const ROW_OPENING: &str = "<tr role='row' id='p-~' data-project='~'>";
@@ -366,13 +371,16 @@ pub(crate) const AUDIT: &str = "pb_app audit FILE JOURNAL --digests --require-sh
 
 /// Its options. Values: the option for the measure and that for the completion, each with a space before it, or
 /// nothing; the step in hundredths; the limit of raises.
-pub(crate) const OPTIONS: &str = "~~ --step ~ --raises ~";
+pub(crate) const OPTIONS: &str = "~~~ --step ~ --raises ~";
 
 /// The option of most votes first, which has no others.
 pub(crate) const BY_VOTES: &str = " --rule most-votes";
 
 /// The option for ties.
 pub(crate) const TIES_OPTION: &str = " --ties ~";
+
+/// The options by which it was decided. Values: what decides, and the name of the other rule.
+pub(crate) const DECIDED_OPTIONS: &str = " --decide ~ --beside ~";
 
 /// The end of how to check a result.
 pub(crate) const CHECK_CLOSING: &str = "</section>

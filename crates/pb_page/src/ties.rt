@@ -8,6 +8,7 @@ ghost use Rattle.pb_page.specs.Inner.Value.{at_place, code};
 ghost use Rattle.pb_page.specs.Page.{linked, project_at, tie, ties};
 ghost use Rattle.pb_page.specs.declared.keys.TheConstants as key;
 ghost use Rattle.pb_page.specs.declared.language.Language.{Language};
+ghost use Rattle.pb_price.specs.Supporters.{support_in};
 ghost use Rattle.pb_reasons.specs.Ties.{ties_of};
 ghost use Rattle.pb_rounds.specs.Count.{no_shares};
 ghost use Rattle.pb_rounds.specs.RuleNames.{by_measure, by_ties, ties_name};
@@ -80,7 +81,8 @@ fn put_list(
     told: &[Tie],
 ) -> Result<(), NoMemory>
     requires { told.now
-        ≡ ties_of count.now.rule.options.measure count.now.election count.now.counted }
+        ≡ ties_of count.now.rule.options.measure
+        (support_in count.now.rule.options.grain count.now.election) count.now.counted }
     ensures { OnOk result (Grows page.old.items page.new.items (ties_listed language.now count.now)) }
 {
     if told.is_empty() {

@@ -1,6 +1,6 @@
 //! The sentences on the whole, and the picture of the budget.
 
-ghost use Rattle.std.specs.Prelude.{◌≡◌, ◌+◌, ◌<◌, ◌^◌, ◌==◌, All, OnOk, if◌then◌else◌, length, sum_by};
+ghost use Rattle.std.specs.Prelude.{◌≡◌, ◌+◌, ◌<◌, ◌^◌, ◌==◌, All, OnOk, codes, if◌then◌else◌, length, sum_by};
 ghost use Rattle.pb_page.specs.Content.{section};
 ghost use Rattle.pb_page.specs.Inner.Counted.{picture_said, result_said, spent_said, voted_said};
 ghost use Rattle.pb_page.specs.Inner.Grown.{Grows};
@@ -8,12 +8,13 @@ ghost use Rattle.pb_page.specs.Page.{blocks, budget, summary};
 ghost use Rattle.pb_page.specs.declared.keys.TheConstants as key;
 ghost use Rattle.pb_price.specs.Supporters.{cost_at, support_of};
 ghost use Rattle.pb_reasons.specs.Counted.{winners_of};
+ghost use Rattle.pb_rounds.specs.RuleNames.{by_grain};
 
 use crate::figures::Figures;
 use crate::forms::{bar, called};
 use crate::keys;
 use crate::language::Language;
-use crate::markup::Value;
+use crate::markup::{Divided, Value};
 use crate::place::Place;
 use crate::put::{put, put_own};
 use crate::sentences::say;
@@ -24,6 +25,7 @@ use crate::templates::{
 use pb_core::election::Election;
 use pb_core::money::Money;
 use pb_core::no_memory::NoMemory;
+use pb_price::Grain;
 use pb_reasons::CountedElection;
 
 /// Who voted on what, how many won, and what was spent.
@@ -80,6 +82,7 @@ fn put_none(page: &mut Vec<u8>, language: &Language, figures: &Figures) -> Resul
     let values = [
         Value::Number(figures.won),
         Value::Amount(figures.spent),
+        Value::Text(surplus_name(figures.grain)),
         Value::Amount(figures.surplus),
     ];
     put(page, language, NOTHING, &values)?;
@@ -126,10 +129,15 @@ fn say_picture(page: &mut Vec<u8>, language: &Language, figures: &Figures) -> Re
 fn say_spent(page: &mut Vec<u8>, language: &Language, figures: &Figures) -> Result<(), NoMemory>
     ensures { OnOk result (Grows page.old.items page.new.items (spent_said language.now figures.now)) }
 {
+    let surplus = Divided {
+        amount: u128::from(figures.surplus.0),
+        divisor: figures.parts,
+        is_up: true,
+    };
     let places = [
         Place::Amount("spent", figures.spent, language.costs),
         Place::Amount("left", figures.left, language.costs),
-        Place::Amount("surplus", figures.surplus, language.amounts),
+        Place::Parted(surplus_name(figures.grain), surplus, language.amounts),
     ];
     say(page, language, caption_key(figures), &places)
 }
@@ -137,14 +145,28 @@ fn say_spent(page: &mut Vec<u8>, language: &Language, figures: &Figures) -> Resu
 /// The key of what is said below the picture.
 fn caption_key(figures: &Figures) -> u16
     ensures { result ≡ (if figures.now.won == 0 then key.BUDGET_NONE
-        else if figures.now.by_votes then key.BUDGET_BY_VOTES else key.BUDGET_CAPTION) }
+        else if figures.now.by_votes then key.BUDGET_BY_VOTES
+        else by_grain figures.now.grain key.BUDGET_CAPTION key.BUDGET_FINE) }
 {
     if figures.won == 0 {
         keys::BUDGET_NONE
     } else if figures.by_votes {
         keys::BUDGET_BY_VOTES
     } else {
-        keys::BUDGET_CAPTION
+        match figures.grain {
+            Grain::Hundredths => keys::BUDGET_CAPTION,
+            Grain::Fine => keys::BUDGET_FINE,
+        }
+    }
+}
+
+/// What is paid beyond the costs of the elected, or is left uncovered of them, by its name.
+fn surplus_name(grain: Grain) -> &'static str
+    ensures { result.now ≡ by_grain grain (codes "surplus") (codes "uncovered") }
+{
+    match grain {
+        Grain::Hundredths => "surplus",
+        Grain::Fine => "uncovered",
     }
 }
 

@@ -5,6 +5,7 @@ ghost use Rattle.pb_page.specs.Inner.Counted.{more_told, nothing_told, payment_t
 ghost use Rattle.pb_page.specs.Inner.Grown.{Grows};
 ghost use Rattle.pb_page.specs.Page.{money_told};
 
+use crate::counted_in::{counted_in, parts_in};
 use crate::keys;
 use crate::language::Language;
 use crate::markup::Value;
@@ -71,10 +72,10 @@ fn put_money<'a>(
         (money_told language.now count.now left paid.now)) }
 {
     let most = paid.most.as_slice();
-    let kept = Place::Amount("kept", left, language.amounts);
+    let kept = Place::Parted("kept", counted_in(count, false, left), language.amounts);
     put(page, language, WENT_OPENING, &[Value::Said(keys::WENT)])?;
     put_payments(page, language, count, most)?;
-    put_more(page, language, paid.others)?;
+    put_more(page, language, count, paid.others)?;
     put_nothing(page, language, most.is_empty())?;
     say_item(page, language, keys::KEPT, &[kept])?;
     put_own(page, WENT_CLOSING)
@@ -108,7 +109,11 @@ fn put_payment<'a>(
 {
     let place = payment.place;
     let places = [
-        Place::Amount("paid_for", payment.amount, language.amounts),
+        Place::Parted(
+            "paid_for",
+            counted_in(count, false, payment.amount),
+            language.amounts,
+        ),
         project_place(count, place),
     ];
     say_item(page, language, keys::PAID, &places)
@@ -116,13 +121,22 @@ fn put_payment<'a>(
 
 /// What was paid for others, if something was.
 #[tactic(auto, using(crate::proofs::Grown::none))]
-fn put_more(page: &mut Vec<u8>, language: &Language, others: Money) -> Result<(), NoMemory>
-    ensures { OnOk result (Grows page.old.items page.new.items (more_told language.now others)) }
+fn put_more(
+    page: &mut Vec<u8>,
+    language: &Language,
+    count: &CountedElection,
+    others: u128,
+) -> Result<(), NoMemory>
+    ensures { OnOk result (Grows page.old.items page.new.items (more_told language.now count.now others)) }
 {
-    if others.0 == 0 {
+    if others == 0 {
         return Ok(());
     }
-    let more = Place::Amount("paid_more", others, language.amounts);
+    let more = Place::Parted(
+        "paid_more",
+        parts_in(count, false, others),
+        language.amounts,
+    );
     say_item(page, language, keys::PAID_MORE, &[more])
 }
 

@@ -1,13 +1,14 @@
 //! What shares are, in words and in a picture.
 
-ghost use Rattle.std.specs.Prelude.{◌≡◌, OnOk, length};
+ghost use Rattle.std.specs.Prelude.{◌≡◌, OnOk, false, length};
 ghost use Rattle.pb_page.specs.Inner.Counted.{works_said};
 ghost use Rattle.pb_page.specs.Inner.Grown.{Grows};
-ghost use Rattle.pb_page.specs.Page.{by_raises, works};
+ghost use Rattle.pb_page.specs.Page.{by_raises, counted_in, works};
 ghost use Rattle.pb_page.specs.declared.keys.TheConstants as key;
 ghost use Rattle.pb_page.specs.declared.picture.TheConstants.{GROWN_SHARES, OPENING_SHARES};
 ghost use Rattle.pb_rounds.specs.Count.{opening_share};
 
+use crate::counted_in::counted_in;
 use crate::keys;
 use crate::language::Language;
 use crate::markup::Value;
@@ -16,10 +17,9 @@ use crate::place::Place;
 use crate::put::{put, put_own};
 use crate::sentences::say_paragraph;
 use crate::templates::{FIGURE_CLOSING, FIGURE_OPENING};
-use pb_core::election::Election;
-use pb_core::money::Money;
 use pb_core::no_memory::NoMemory;
 use pb_reasons::CountedElection;
+use pb_rounds::count::opening_share;
 use pb_rounds::options::Completion;
 use pb_rounds::rule::{FillUp, Rule};
 
@@ -37,7 +37,7 @@ pub(crate) fn put_works(
     if election.voters().is_empty() {
         return Ok(());
     }
-    say_works(page, language, works_key(&rule), election)?;
+    say_works(page, language, works_key(&rule), count)?;
     put_own(page, FIGURE_OPENING)?;
     put_own(page, picture_of(&rule))?;
     put(
@@ -53,29 +53,24 @@ fn say_works(
     page: &mut Vec<u8>,
     language: &Language,
     key: u16,
-    election: &Election,
+    count: &CountedElection,
 ) -> Result<(), NoMemory>
-    ensures { OnOk result (Grows page.old.items page.new.items (works_said language.now key
-        election.now.budget (length election.now.voters) (opening_share election.now))) }
+    ensures { let e = count.now.election in OnOk result (Grows page.old.items page.new.items (works_said language.now key
+        e.budget (length e.voters) (counted_in count.now false 1 (opening_share count.now.rule.options.grain e)))) }
 {
+    let election = count.election();
     let voters = election.voters().len() as u64;
+    let share = opening_share(election, count.rule().options.grain);
     let places = [
         Place::Amount("budget", election.budget(), language.costs),
         Place::Number("voters", voters),
-        Place::Amount("opening_share", opening_share(election), language.amounts),
+        Place::Parted(
+            "opening_share",
+            counted_in(count, false, share),
+            language.amounts,
+        ),
     ];
     say_paragraph(page, language, key, &places)
-}
-
-/// What each voter gets of the budget, down to whole hundredths.
-fn opening_share(election: &Election) -> Money
-    ensures { result ≡ opening_share election.now }
-{
-    let voters = election.voters().len() as u64;
-    if voters == 0 {
-        return Money(0);
-    }
-    Money(election.budget().0 / voters)
 }
 
 /// The key of the sentences.

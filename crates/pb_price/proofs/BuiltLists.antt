@@ -12,6 +12,7 @@ use Rattle.std.proofs.lemmas.List.Kept.{AllPairs-from_increasing}
 use Rattle.pb_core.specs.Inner.Approved.{approves}
 use Rattle.pb_core.specs.Election.{ElectionView, VoterView, IsElection}
 use Rattle.pb_price.specs.Inner.Lists.{AddsVoter}
+use Rattle.pb_price.specs.Price.{PriceView}
 use Rattle.pb_price.specs.Supporters.{ballot_at, supporters_of, support_of}
 
 -- the first voters are put in, this many: each list has the supporters among them
@@ -112,7 +113,7 @@ ballot_known e i ballot h l b =
     rw same (h.are_voters i d l).ballot_known
 
 -- one project more is priced
-pub priced_more : (P : ℕ → Option ℕ) (projects : List ℕ) (items new : List (Option ℕ)) (i : ℕ) (price : Option ℕ) → i < length projects
+pub priced_more : (P : ℕ → Option PriceView) (projects : List ℕ) (items new : List (Option PriceView)) (i : ℕ) (price : Option PriceView) → i < length projects
     → items ≡ map P (take i projects) → new ≡ items ++ price ∷ [] → price ≡ P (get_or projects i 0) → new ≡ map P (take (i + 1) projects)
 priced_more P projects items new i price h before pushed is =
     pushed ∙ ap (λ xs. xs ++ price ∷ []) before ∙ ap (λ p. map P (take i projects) ++ p ∷ []) is ∙ sym (map_more P projects i 0 h)

@@ -1,12 +1,21 @@
 -- The lemmas that the proofs of this crate share.
+pub mod Bases
 pub mod Bounds
 pub mod BuiltLists
 pub mod ClaimSteps
 pub mod CommonRests
+pub mod Dues
 pub mod FirstInRange
+pub mod Heights
+pub mod LookUnrounded
+pub mod NextBounds
+pub mod PairSums
 pub mod Payments
 pub mod PriceSteps
+pub mod Prices
 pub mod RestsFall
 pub mod SupporterLists
 pub mod SupporterWords
+pub mod Unrounded
+pub mod UnroundedSteps
 pub mod Workers

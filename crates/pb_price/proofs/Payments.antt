@@ -1,12 +1,10 @@
 -- What supporters pay at a payment, and the price as the least payment that covers the cost.
 use Rattle.std.proofs.Common.{◌≡◌, ℕ, zero, suc, ◌+◌, ◌<◌, ◌≤◌, min, List, [], ◌∷◌, length, Option, Some, None, refl, sym, subst, ◌∙◌, ap, inl, inr, arith}
-use Rattle.std.specs.Prelude.{MatchOption, map, nat_le, slice_index}
-use Rattle.std.specs.List.{AllZip}
+use Rattle.std.specs.Prelude.{MatchOption, nat_le, slice_index}
 use Rattle.std.proofs.lemmas.Bool.{leb-true, leb-false, cases_lt}
 use Rattle.std.proofs.lemmas.List.Sums.{sum_by-cons, sum_by-le-sum_by}
 use Rattle.pb_price.specs.Inner.Payment.{IsPriceFor}
-use Rattle.pb_price.specs.Price.{paid_at, total_rest, price_at, price_of, IsLeastPayment, IsPrice}
-use Rattle.pb_price.specs.Supporters.{SupportView, supporters_at, cost_at}
+use Rattle.pb_price.specs.Price.{paid_at, total_rest, price_of, IsLeastPayment}
 use Rattle.pb_price.proofs.FirstInRange.{IsFirstInRange, NoneInRange, find-range_with_len}
 
 -- who pays more each pays more together
@@ -135,22 +133,3 @@ short_from_no_price supporters rests cost e =
 pub no_price_from_short : (supporters rests : List ℕ) (cost : ℕ) → total_rest supporters rests < cost
     → price_of supporters rests cost ≡ None
 no_price_from_short supporters rests cost h = sym (price_from_is_price supporters rests cost None h)
-
--- the prices of a list of projects, in the words of the rule, and back
-all_are_prices : (s : SupportView) (rests projects : List ℕ) → AllZip (IsPrice s rests) projects (map (price_at s rests) projects)
-all_are_prices s rests [] = tt
-all_are_prices s rests (place ∷ projects) =
-    (price_of_is_price (supporters_at s place) rests (cost_at s place), all_are_prices s rests projects)
-
-pub are_prices : (s : SupportView) (rests projects : List ℕ) (answers : List (Option ℕ)) → answers ≡ map (price_at s rests) projects
-    → AllZip (IsPrice s rests) projects answers
-are_prices s rests projects answers e = subst (AllZip (IsPrice s rests) projects) (sym e) (all_are_prices s rests projects)
-
-pub prices_from_are_prices : (s : SupportView) (rests projects : List ℕ) (answers : List (Option ℕ)) → AllZip (IsPrice s rests) projects answers
-    → answers ≡ map (price_at s rests) projects
-prices_from_are_prices s rests [] [] h = refl
-prices_from_are_prices s rests [] (answer ∷ answers) h = absurd h
-prices_from_are_prices s rests (place ∷ projects) [] h = absurd h
-prices_from_are_prices s rests (place ∷ projects) (answer ∷ answers) h =
-    ap (λ o. o ∷ answers) (price_from_is_price (supporters_at s place) rests (cost_at s place) answer h.0)
-    ∙ ap (λ os. price_at s rests place ∷ os) (prices_from_are_prices s rests projects answers h.1)

@@ -93,7 +93,7 @@ pub record IsBelowPrice (supporters rests : List ℕ) (cost p : ℕ) : Type 0 wh
   pub least : (q : ℕ) → q < p → paid_at supporters rests q < cost
   pub fits : paid_at supporters rests p ≤ cost + length supporters
 
-none_pays_more : (supporters rests : List ℕ) (p : ℕ) → paid_at supporters rests p ≤ length supporters * p
+pub none_pays_more : (supporters rests : List ℕ) (p : ℕ) → paid_at supporters rests p ≤ length supporters * p
 none_pays_more supporters rests p = sum_by-le (λ v. min (slice_index rests v) p) p supporters (λ k d l. omega arith)
 
 -- the cost divided by the supporters

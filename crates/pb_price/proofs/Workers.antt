@@ -8,7 +8,7 @@ use Rattle.std.proofs.lemmas.List.Elements.{All-append, All-tail}
 use Rattle.std.proofs.lemmas.List.Sums.{sum_by-cons, sum_by-append, sum_by_push}
 use Rattle.pb_core.specs.Election.{most_projects}
 use Rattle.pb_price.specs.Inner.Claims.{all_joined, drawn, joined, past_end, AreBelowOnce}
-use Rattle.pb_price.specs.Price.{price_at}
+use Rattle.pb_price.specs.Price.{PriceView, price_at}
 use Rattle.pb_price.specs.Supporters.{SupportView}
 use Rattle.pb_price.specs.Inner.Working.{drawn_pieces, gathered, placed, times, AreGathered, IsAnswer, IsDone, IsWorking}
 use Rattle.pb_price.specs.declared.answer.Answer.{Answer}
@@ -58,7 +58,7 @@ popped_done P old new r x e is h =
     (both.0, subst (λ r. IfOk r P) is both.1)
 
 -- the last worker is the first whose answers are read, and whose claim is joined
-pub gathered_popped : {W : Type 0} (answers : W → List Answer) (prices : List (Option ℕ)) (ws : List W) (w : W)
+pub gathered_popped : {W : Type 0} (answers : W → List Answer) (prices : List (Option PriceView)) (ws : List W) (w : W)
     → gathered answers prices (ws ++ w ∷ []) ≡ gathered answers (placed prices (answers w)) ws
 gathered_popped answers prices [] w = refl
 gathered_popped answers prices (v ∷ ws) w = ap (λ ps. placed ps (answers v)) (gathered_popped answers prices ws w)
@@ -68,7 +68,7 @@ pub joined_popped : {W : Type 0} (claim : W → Drawn) (stock : Drawn) (ws : Lis
 joined_popped claim stock [] w = refl
 joined_popped claim stock (v ∷ ws) w = ap (λ all. joined all (claim v)) (joined_popped claim stock ws w)
 
-pub length_placed : (prices : List (Option ℕ)) (answers : List Answer) → length (placed prices answers) ≡ length prices
+pub length_placed : (prices : List (Option PriceView)) (answers : List Answer) → length (placed prices answers) ≡ length prices
 length_placed prices [] = refl
 length_placed prices (a ∷ answers) = length_placed (set prices a.piece a.price) answers ∙ length-set prices a.piece a.price
 
@@ -132,11 +132,11 @@ module _ (s : SupportView) (rests projects : List ℕ) where
       })
 
   -- the answers in their places
-  abbrev pub IsRight : List ℕ → List (Option ℕ) → Type 0
+  abbrev pub IsRight : List ℕ → List (Option PriceView) → Type 0
   IsRight numbers prices = (piece : ℕ) → piece < length projects → 0 < times piece numbers
       → get_or prices piece None ≡ price_at s rests (slice_index projects piece)
 
-  right_more : (numbers : List ℕ) (prices : List (Option ℕ)) (a : Answer) → IsAnswer s rests projects a
+  right_more : (numbers : List ℕ) (prices : List (Option PriceView)) (a : Answer) → IsAnswer s rests projects a
       → length prices ≡ length projects → IsRight numbers prices
       → IsRight (numbers ++ a.piece ∷ []) (set prices a.piece a.price)
   right_more numbers prices a is each right = λ piece less some. elim (cases_eq piece a.piece) [
@@ -150,7 +150,7 @@ module _ (s : SupportView) (rests projects : List ℕ) where
         get_or-set_other prices a.piece piece a.price None other ∙ right piece less (omega (arith, some, more, not_here))
   ]
 
-  right_all : (answers : List Answer) (numbers : List ℕ) (prices : List (Option ℕ)) → All (IsAnswer s rests projects) answers
+  right_all : (answers : List Answer) (numbers : List ℕ) (prices : List (Option PriceView)) → All (IsAnswer s rests projects) answers
       → length prices ≡ length projects → IsRight numbers prices
       → (length (placed prices answers) ≡ length projects) × IsRight (numbers ++ pieces_of answers) (placed prices answers)
   right_all [] numbers prices is each right = (each, rw append-nil right)
@@ -159,7 +159,7 @@ module _ (s : SupportView) (rests projects : List ℕ) where
       let others = right_all rest (numbers ++ a.piece ∷ []) (set prices a.piece a.price) (All-tail (IsAnswer s rests projects) a rest is) (length-set prices a.piece a.price ∙ each) more in
       (others.0, rw append_assoc at others.1)
 
-  right_past : (numbers : List ℕ) (prices : List (Option ℕ)) (last : ℕ) → length projects ≤ last → IsRight numbers prices
+  right_past : (numbers : List ℕ) (prices : List (Option PriceView)) (last : ℕ) → length projects ≤ last → IsRight numbers prices
       → IsRight (numbers ++ last ∷ []) prices
   right_past numbers prices last past right = λ piece less some.
       let one : ℕ → ℕ = λ n. cond (nat_eq n piece) 1 0 in
@@ -168,7 +168,7 @@ module _ (s : SupportView) (rests projects : List ℕ) where
       right piece less (omega (arith, some, more, not_here))
 
   -- before the first worker's
-  pub gathers_none : (v : Drawn) (prices : List (Option ℕ)) → v ≡ drawn 0 [] → length prices ≡ length projects
+  pub gathers_none : (v : Drawn) (prices : List (Option PriceView)) → v ≡ drawn 0 [] → length prices ≡ length projects
       → AreGathered s rests projects v prices 0
   gathers_none v prices none each = rw none (record {
     one_each = each;
@@ -179,7 +179,7 @@ module _ (s : SupportView) (rests projects : List ℕ) where
   })
 
   -- one worker's answers more
-  pub gathers_more : (v w : Drawn) (prices : List (Option ℕ)) (answers : List Answer) (priced : ℕ)
+  pub gathers_more : (v w : Drawn) (prices : List (Option PriceView)) (answers : List Answer) (priced : ℕ)
       → length projects ≤ most_projects → AreGathered s rests projects v prices priced → IsDone s rests projects w answers
       → AreGathered s rests projects (joined v w) (placed prices answers) (priced + length answers)
   gathers_more v w prices answers priced most h done =
@@ -223,8 +223,8 @@ module _ (s : SupportView) (rests projects : List ℕ) where
       )
 
   -- a result that has them
-  pub gathers_result : {G E : Type 0} (r : Result G E) (prices : G → List (Option ℕ)) (priced : G → ℕ) (v w : Drawn)
-      (all : List (Option ℕ)) (n : ℕ) → OnOk r (w ≡ v) → IfOk r (λ g. prices g ≡ all) → IfOk r (λ g. priced g ≡ n)
+  pub gathers_result : {G E : Type 0} (r : Result G E) (prices : G → List (Option PriceView)) (priced : G → ℕ) (v w : Drawn)
+      (all : List (Option PriceView)) (n : ℕ) → OnOk r (w ≡ v) → IfOk r (λ g. prices g ≡ all) → IfOk r (λ g. priced g ≡ n)
       → AreGathered s rests projects v all n → IfOk r (λ g. AreGathered s rests projects w (prices g) (priced g))
   gathers_result (Ok g) prices priced v w all n joined read counted h = rw (joined, read, counted) h
   gathers_result (Err e) prices priced v w all n joined read counted h = tt
@@ -259,7 +259,7 @@ module _ (s : SupportView) (rests projects : List ℕ) where
       ]
 
   -- with all workers' answers each piece has its price, and as many were priced as there are pieces
-  pub gathers_all : (v : Drawn) (prices : List (Option ℕ)) (priced next : ℕ) → AreGathered s rests projects v prices priced
+  pub gathers_all : (v : Drawn) (prices : List (Option PriceView)) (priced next : ℕ) → AreGathered s rests projects v prices priced
       → AreBelowOnce v.numbers next → 0 < v.seats
       → (prices ≡ map (price_at s rests) projects) × (priced ≡ length projects)
   gathers_all v prices priced next h once some =

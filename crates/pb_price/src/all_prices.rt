@@ -11,6 +11,7 @@ ghost use Rattle.pb_price.specs.PriceFault.{is_worker_count};
 ghost use Rattle.pb_price.specs.Supporters.{SupportView};
 ghost use Rattle.pb_price.specs.Inner.Working.{AreGathered, IsBatch, IsDone};
 
+use crate::amount_each::Price;
 use crate::claims::rule::Batch;
 use crate::claims::{Claim, Claims};
 use crate::gathering::{Gathered, gather};
@@ -56,7 +57,7 @@ pub fn price_all<
     supporters: &Supporters<B>,
     rests: &[Money],
     tally: &mut Tally,
-) -> Result<Vec<Option<Money>, A>, PriceFault>
+) -> Result<Vec<Option<Price>, A>, PriceFault>
     requires rests { AreRests supporters.now.voters rests.now }
     requires known { All (λ place. place < length supporters.now.costs) projects.now }
     requires few { length projects.now ≤ most_projects }
@@ -99,7 +100,7 @@ pub fn price_pieces<
     workers: u32,
     pieces: &Pieces<G, B>,
     tally: &mut Tally,
-) -> Result<Vec<Option<Money>, A>, NoMemory>
+) -> Result<Vec<Option<Price>, A>, NoMemory>
     requires workers { is_worker_count workers ≡ true }
     requires rests { AreRests pieces.now.supporters.now.voters pieces.now.rests.now }
     requires known { All (λ place. place < length pieces.now.supporters.now.costs) pieces.now.projects.now }
@@ -112,6 +113,8 @@ pub fn price_pieces<
     }) }
     ensures refused { OnErr result (tally.new ≡ tally.old) }
 {
+    // What is true of all supporters holds of those of these pieces.
+    let _projects = pieces.supporters.projects();
     let workers = workers_for(workers, pieces.projects.len());
     let gathered = if workers == 1 {
         Gathered::in_turn(alloc, pieces)?

@@ -1,8 +1,10 @@
 //! Prices where all rests are equal, as in the first round of a run: no supporter has to be visited.
 
 ghost use Rattle.std.specs.Prelude.{◌≡◌, ◌<◌, ℕ, List, All, IfSome, length};
-ghost use Rattle.pb_price.specs.Price.{price_at, AreRests, IsPrice};
+ghost use Rattle.pb_price.specs.Price.{AreRests, HasPayers, IsPrice, price_at};
 
+use crate::amount_each::Price;
+use crate::base::base;
 use crate::steps::price_in_steps;
 use crate::supporters::Supporters;
 use pb_core::money::Money;
@@ -36,37 +38,36 @@ pub(crate) fn price_by<A: Allocator>(
     rests: &[Money],
     common: &Option<Money>,
     place: u32,
-) -> Option<Money>
+) -> Option<Price>
     requires rests { AreRests supporters.now.voters rests.now }
     requires known { place < length supporters.now.costs }
     requires common { IfSome common.now (λ share. All (λ rest. rest ≡ share) rests.now) }
     ensures { result ≡ price_at supporters.now rests.now place }
 {
+    // What is true of all supporters holds of this project's.
+    let _projects = supporters.projects();
     match common {
         Some(share) => price_at_share(supporters, *share, place),
         None => price_in_steps(supporters, rests, place),
     }
 }
 
-/// The price where each voter has this share left: the cost divided by the number of supporters, rounded up,
-/// unless that is more than the share.
+/// The price where each voter has this share left: the cost divided by the number of supporters, unless that is
+/// more than the share.
 pub fn price_at_share<A: Allocator>(
     supporters: &Supporters<A>,
     share: Money,
     place: u32,
-) -> Option<Money>
+) -> Option<Price>
     requires { place < length supporters.now.costs }
-    ensures { (rests : List ℕ) → AreRests supporters.now.voters rests → All (λ rest. rest ≡ share) rests
+    ensures price { (rests : List ℕ) → AreRests supporters.now.voters rests → All (λ rest. rest ≡ share) rests
         → IsPrice supporters.now rests place result }
+    ensures payers { IfSome result (HasPayers supporters.now) }
 {
-    let list = supporters.of(place);
-    let cost = supporters.cost(place).0;
-    if list.is_empty() {
-        return None;
+    let price = base(supporters, place)?;
+    if price.is_within(share) {
+        Some(price)
+    } else {
+        None
     }
-    let payment = cost.div_ceil(list.len() as u64);
-    if payment > share.0 {
-        return None;
-    }
-    Some(Money(payment))
 }

@@ -8,6 +8,7 @@ ghost use Rattle.pb_price.specs.Inner.Claims.{all_joined, joined};
 ghost use Rattle.pb_price.specs.Price.{price_at};
 ghost use Rattle.pb_price.specs.Inner.Working.{gathered, placed, IsBatch};
 
+use crate::amount_each::Price;
 use crate::answer::Answer;
 use crate::claims::{Claim, Claims};
 use crate::common_rest::{common_rest, price_by};
@@ -15,7 +16,6 @@ use crate::pieces::Pieces;
 use crate::tally::Tally;
 use crate::worker::Worker;
 use pb_core::gate::Gate;
-use pb_core::money::Money;
 use pb_core::no_memory::NoMemory;
 use std::alloc::Allocator;
 
@@ -23,7 +23,7 @@ use std::alloc::Allocator;
 /// alone.
 #[derive(Drop)]
 pub(crate) struct Gathered<A: Allocator> {
-    prices: Vec<Option<Money>, A>,
+    prices: Vec<Option<Price>, A>,
     priced: u64,
     workers: u32,
 }
@@ -55,7 +55,7 @@ impl<A: Allocator> Gathered<A> {
     }
 
     /// The prices. The tally grows by how many were computed, and by the workers.
-    pub(crate) fn into_prices(self, tally: &mut Tally) -> Vec<Option<Money>, A>
+    pub(crate) fn into_prices(self, tally: &mut Tally) -> Vec<Option<Price>, A>
         ensures prices { result.items ≡ self.prices.items }
         ensures counted { tally.new ≡ record {
           prices = u64_saturate (tally.old.prices + self.priced);
@@ -112,7 +112,7 @@ pub(crate) fn gather<A: Allocator>(
 fn take_in<A: Allocator>(
     claims: &Claims<A>,
     stock: &mut Claim,
-    prices: &mut Vec<Option<Money>, A>,
+    prices: &mut Vec<Option<Price>, A>,
     worker: Worker<A>,
 ) -> u64
     requires stock { stock.old.seat.table_id ≡ claims.now.table.shared.table_id }
@@ -134,7 +134,7 @@ fn take_in<A: Allocator>(
 }
 
 /// Puts each answer in the place of its piece.
-fn place<A: Allocator>(prices: &mut Vec<Option<Money>, A>, answers: &[Answer])
+fn place<A: Allocator>(prices: &mut Vec<Option<Price>, A>, answers: &[Answer])
     requires known { All (λ answer. answer.piece < length prices.old.items) answers.now }
     ensures { prices.new.items ≡ placed prices.old.items answers.now }
 {

@@ -1,6 +1,6 @@
 //! Laws over prices, each as the contract of a function that does nothing.
 
-ghost use Rattle.std.specs.Prelude.{◌≡◌, ◌↔◌, ℕ, ◌+◌, ◌<◌, ◌≤◌, List, [], Option, Some, None, Contains, length};
+ghost use Rattle.std.specs.Prelude.{◌≡◌, ◌↔◌, ℕ, ◌+◌, ◌*◌, ◌<◌, ◌≤◌, List, [], Option, Some, None, Contains, length};
 ghost use Rattle.std.specs.Prelude.{slice_index, sum_by};
 ghost use Rattle.std.specs.List.{range_with_len};
 ghost use Rattle.std.specs.List.Sorted.{IsStrictlyIncreasing};
@@ -9,9 +9,10 @@ ghost use lib.ListN.{get_elem?};
 ghost use Rattle.atomic_table.specs.Table.{State, keeps, stepped};
 ghost use Rattle.pb_core.specs.Election.{ElectionView};
 ghost use Rattle.pb_price.specs.Claims.{AreClaims};
-ghost use Rattle.pb_price.specs.Price.{price_at, IsPrice};
-ghost use Rattle.pb_price.specs.Supporters.{SupportView, ballot_at, supporters_of};
+ghost use Rattle.pb_price.specs.Price.{PriceView, price_at, IsPrice};
+ghost use Rattle.pb_price.specs.Supporters.{SupportView, ballot_at, cost_in_parts, supporters_of};
 ghost use Rattle.pb_price.specs.declared.claims.drawn.Drawn.{Drawn};
+ghost use Rattle.pb_price.specs.declared.grain.Grain.TheVariants.{Fine};
 
 /// The supporters of a project are the voters whose ballot approves it, by position, rising.
 pub fn supporters_approve()
@@ -20,18 +21,20 @@ pub fn supporters_approve()
         ↔ ((voter < length e.voters) × Contains (ballot_at e voter) place) }
 {}
 
-/// The price that is computed is the one of which the words of its rule hold: the least payment by which the
-/// supporters cover the cost, and none where all that is left to them together is below the cost.
+/// The price that is computed is the one of which the words of its rule hold: in hundredths the least payment by which
+/// the supporters cover the cost; in fine money, of what costs something, the one by which they cover it exactly; and none
+/// where all that is left to them together is below the cost.
 pub fn price_is_least_payment()
-    ensures { (s : SupportView) (rests : List ℕ) (place : ℕ) (answer : Option ℕ)
-        → (answer ≡ price_at s rests place) ↔ IsPrice s rests place answer }
+    ensures { (s : SupportView) (rests : List ℕ) (place : ℕ) (answer : Option PriceView)
+        → (s.grain ≡ Fine → 0 < cost_in_parts s place) → (answer ≡ price_at s rests place) ↔ IsPrice s rests place answer }
 {}
 
 /// Where no rest rises, no price falls, and a project without a price gets none.
 pub fn no_price_falls()
-    ensures rises { (s : SupportView) (before after : List ℕ) (place p q : ℕ)
+    ensures rises { (s : SupportView) (before after : List ℕ) (place : ℕ) (p q : PriceView)
         → ((voter : ℕ) → slice_index after voter ≤ slice_index before voter)
-        → IsPrice s before place (Some p) → IsPrice s after place (Some q) → p ≤ q }
+        → IsPrice s before place (Some p) → IsPrice s after place (Some q)
+        → p.amount * q.payers ≤ q.amount * p.payers }
     ensures stays_none { (s : SupportView) (before after : List ℕ) (place : ℕ)
         → ((voter : ℕ) → slice_index after voter ≤ slice_index before voter)
         → IsPrice s before place None → IsPrice s after place None }

@@ -2,10 +2,13 @@
 #![tactic(auto)]
 
 mod all_prices;
+pub mod amount_each;
 mod answer;
+mod base;
 mod claims;
 mod common_rest;
 mod gathering;
+pub mod grain;
 pub mod laws;
 pub mod pieces;
 pub mod price;
@@ -17,7 +20,9 @@ mod voter_list;
 mod worker;
 
 pub use all_prices::{is_worker_count, price_all, price_pieces};
+pub use amount_each::Price;
 pub use common_rest::price_at_share;
+pub use grain::Grain;
 pub use pb_core::gate::{Gate, NoGate};
 pub use pieces::Pieces;
 pub use price_fault::PriceFault;

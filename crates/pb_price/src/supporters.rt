@@ -1,8 +1,11 @@
 //! The supporters of each project.
 
-ghost use Rattle.std.specs.Prelude.{◌≡◌, ◌<◌, All, length, map, replicate, [], IfOk};
-ghost use Rattle.pb_price.specs.Supporters.{support_of};
+ghost use Rattle.std.specs.Prelude.{◌≡◌, ◌<◌, ◌^◌, All, length, map, replicate, [], IfOk};
+ghost use Rattle.pb_price.specs.Grain.{in_parts};
+ghost use Rattle.pb_price.specs.Supporters.{support_in, support_of};
+ghost use Rattle.pb_price.specs.declared.grain.Grain.TheVariants.{Hundredths};
 
+use crate::grain::Grain;
 use crate::voter_list::{VoterList, add_ballot};
 use pb_core::election::Election;
 use pb_core::money::Money;
@@ -14,6 +17,7 @@ use std::marker::Model;
 /// It takes about 4 bytes for each approval on a ballot.
 #[derive(Drop)]
 pub struct Supporters<A: Allocator = Global> {
+    grain: Grain,
     voters: u32,
     costs: Vec<Money, A>,
     lists: Vec<VoterList<A>, A>,
@@ -25,27 +29,45 @@ impl<A: Allocator> Model for Supporters<A> {
 
     ghost Value = { SupportView };
 
-    ghost view = { λ s. record { voters = s.voters; costs = s.costs.items; supporters = s.lists.items } };
+    ghost view = { λ s. record { grain = s.grain; voters = s.voters; costs = s.costs.items; supporters = s.lists.items } };
 
     ghost invariant = { λ s. IsSupport
-        (record { voters = s.voters; costs = s.costs.items; supporters = s.lists.items })
+        (record { grain = s.grain; voters = s.voters; costs = s.costs.items; supporters = s.lists.items })
         × HasSupportForm
-        (record { voters = s.voters; costs = s.costs.items; supporters = s.lists.items }) };
+        (record { grain = s.grain; voters = s.voters; costs = s.costs.items; supporters = s.lists.items }) };
 }
 
 impl<A: Allocator> Supporters<A> {
-    ghost use Rattle.pb_price.specs.Supporters.{IsSupport, supporters_at, cost_at};
+    ghost use Rattle.pb_price.specs.Supporters.{IsSupport, supporters_at, cost_at, cost_in_parts};
 
-    /// The supporters of each project of this election: the voters whose ballot approves it.
+    /// The supporters of each project of this election, for a count in hundredths: the voters whose ballot
+    /// approves it.
     pub fn build<B: Allocator>(alloc: A, election: &Election<B>) -> Result<Supporters<A>, NoMemory>
     where
         A: Copy,
         ensures { IfOk result (λ supporters. supporters ≡ support_of election.now) }
     {
+        // What is true of every election holds of its costs.
+        let _projects = election.projects();
+        Supporters::build_in(alloc, election, Grain::Hundredths)
+    }
+
+    /// The supporters of each project of this election, for a count so fine.
+    pub fn build_in<B: Allocator>(
+        alloc: A,
+        election: &Election<B>,
+        grain: Grain,
+    ) -> Result<Supporters<A>, NoMemory>
+    where
+        A: Copy,
+        requires { All (λ p. in_parts grain (length election.now.voters) p.cost < 2 ^ 64) election.now.projects }
+        ensures { IfOk result (λ supporters. supporters ≡ support_in grain election.now) }
+    {
         let costs = costs_of(alloc, election)?;
         let lists = lists_of(alloc, election)?;
         let voters = election.voters().len() as u32;
         Ok(Supporters {
+            grain,
             voters,
             costs,
             lists,
@@ -69,6 +91,24 @@ impl<A: Allocator> Supporters<A> {
         ensures is_support { IsSupport self.now }
     {
         self.costs[place as usize]
+    }
+
+    /// What the project at this place costs, in the parts that are counted.
+    pub fn cost_in_parts(&self, place: u32) -> Money
+        requires { place < length self.now.costs }
+        ensures cost { result ≡ cost_in_parts self.now place }
+        ensures is_support { IsSupport self.now }
+    {
+        let cost = self.costs[place as usize];
+        Money(self.grain.parts(self.voters) * cost.0)
+    }
+
+    /// How finely money is counted.
+    pub fn grain(&self) -> Grain
+        ensures grain { result ≡ self.now.grain }
+        ensures is_support { IsSupport self.now }
+    {
+        self.grain
     }
 
     /// How many projects there are.

@@ -1,20 +1,18 @@
 -- The ties of all rounds, round by round.
-use Rattle.std.proofs.Common.{◌≡◌, ℕ, ◌+◌, ◌<◌, ◌≤◌, List, [], ◌∷◌, ◌++◌, length, get_or, take, replicate, refl, sym, ◌∙◌, ap, inl, inr, arith}
+use Rattle.std.proofs.Common.{◌≡◌, ℕ, ◌+◌, ◌<◌, ◌≤◌, false, List, [], ◌∷◌, ◌++◌, length, get_or, take, replicate, refl, sym, ◌∙◌, ap, arith}
 use Rattle.std.specs.Prelude.{All, flat_map}
 use Rattle.std.specs.List.{range_with_len}
-use Rattle.std.proofs.lemmas.Bool.{cases_lt}
 use Rattle.std.proofs.lemmas.Grind.{flat_map-append}
 use Rattle.std.proofs.lemmas.List.{append-nil, append_assoc, length-map, take_more}
 use Rattle.std.proofs.lemmas.Option.{slice_get_read}
-use Rattle.std.proofs.Math.Nat.{mul-le-mul_left, mul-le-mul_right}
+use Rattle.std.proofs.Math.Nat.{mul-le-mul_right}
 use Rattle.pb_core.specs.Election.{ElectionView, IsElection}
-use Rattle.pb_core.specs.Money.{largest_money}
 use Rattle.pb_price.specs.Price.{largest_share}
 use Rattle.pb_price.specs.Supporters.{SupportView, support_of, supporters_at}
+use Rattle.pb_price.specs.declared.grain.Grain.{Grain}
 use Rattle.pb_price.proofs.BuiltLists.{range_with_len_more}
 use Rattle.pb_rounds.specs.Cheapest.{rests_after}
-use Rattle.pb_rounds.specs.Count.{opening_share}
-use Rattle.pb_rounds.specs.CountFault.{largest_step}
+use Rattle.pb_rounds.specs.Count.{is_too_fine, share_by, step_of}
 use Rattle.pb_rounds.specs.Counted.{IsCountOf}
 use Rattle.pb_rounds.specs.Outcome.{OutcomeView}
 use Rattle.pb_rounds.specs.Run.{ElectedView, charged}
@@ -22,8 +20,7 @@ use Rattle.pb_rounds.specs.declared.measure.Measure.{Measure}
 use Rattle.pb_rounds.specs.declared.options.Completion.{Completion}
 use Rattle.pb_rounds.specs.declared.options.Completion.TheVariants.{Plain, Add1, NoShares}
 use Rattle.pb_rounds.specs.declared.options.CountOptions.{CountOptions}
-use Rattle.pb_rounds.proofs.Completing.{opening_of_nobody, opening_within}
-use Rattle.pb_rounds.proofs.Counted.{can_complete, share_within}
+use Rattle.pb_rounds.proofs.Counted.{fine_in_words}
 use Rattle.pb_reasons.specs.Inner.Rounds.{ties_with}
 use Rattle.pb_reasons.specs.Ties.{ties_in}
 use Rattle.pb_reasons.specs.declared.tie.Tie.{Tie}
@@ -32,27 +29,28 @@ use Rattle.pb_reasons.proofs.TiedRounds.{take_again}
 
 -- ---- a share is at most the largest
 
-pub small_opening : (e : ElectionView) → IsElection e → opening_share e ≤ largest_money
-small_opening e h = elim (cases_lt 0 (length e.voters)) [
-  | inl some ↦
-      let within = opening_within e in
-      let one = mul-le-mul_right (opening_share e) some in
-      omega (arith, within, one, h.budget_bounded)
-  | inr nobody ↦ let none = opening_of_nobody e (omega arith) in omega (arith, none)
-]
-
 pub few_raises : (e : ElectionView) (options : CountOptions) (o : OutcomeView) → IsCountOf e options o → (c : Completion) → options.completion ≡ c → o.raised ≤ options.max_raises
 few_raises e options o h Plain is = omega (arith, h.unraised (λ add1. absurd (cc (is, add1))))
 few_raises e options o h NoShares is = omega (arith, h.unraised (λ add1. absurd (cc (is, add1))))
 few_raises e options o h Add1 is = (h.completed is).within_limit
 
-pub small_share : (e : ElectionView) (options : CountOptions) (o : OutcomeView) → IsElection e → IsCountOf e options o → o.share ≤ largest_share
-small_share e options o h counted =
-    let in_range = can_complete e (support_of e) refl options counted.in_range o.raised (few_raises e options o counted options.completion refl) in
-    let one = mul-le-mul_left o.raised in_range.small_step in
-    let two = mul-le-mul_right largest_step in_range.few_raises in
-    let within = share_within options.completion e options.step o.raised in
-    omega (arith, small_opening e h, counted.share_is, within, one, two)
+-- a share of so few raises, however it is completed
+share_rises : (c : Completion) (grain : Grain) (e : ElectionView) (step raises most : ℕ) → raises ≤ most → share_by c grain e step raises ≤ share_by c grain e step most
+share_rises Plain grain e step raises most few = omega arith
+share_rises Add1 grain e step raises most few = let more = mul-le-mul_right step few in omega (arith, more)
+share_rises NoShares grain e step raises most few = omega arith
+
+pub small_run_of : (e : ElectionView) (options : CountOptions) → is_too_fine e options ≡ false → (raises : ℕ) → raises ≤ options.max_raises
+    → share_by options.completion options.grain e (step_of e options) raises ≤ largest_share
+small_run_of e options fine raises few =
+    let largest = (fine_in_words e options fine).0 in
+    let rises = share_rises options.completion options.grain e (step_of e options) raises options.max_raises few in
+    omega (arith, largest, rises)
+
+pub small_share : (e : ElectionView) (options : CountOptions) (o : OutcomeView) → IsCountOf e options o → o.share ≤ largest_share
+small_share e options o counted =
+    let within = small_run_of e options counted.in_range.1 o.raised (few_raises e options o counted options.completion refl) in
+    omega (arith, within, counted.share_is)
 
 -- ---- the rests after one round more
 

@@ -1,7 +1,6 @@
 -- The winners: the elected and the added together.
-use Rattle.std.proofs.Common.{◌≡◌, ◌≢◌, ℕ, zero, suc, ◌+◌, ◌-◌, ◌≤◌, List, [], ◌∷◌, ◌++◌, false, map, refl, sym, ◌∙◌, ap, subst, arith, ◌||◌}
+use Rattle.std.proofs.Common.{◌≡◌, ◌≢◌, ℕ, zero, suc, ◌+◌, ◌-◌, List, [], ◌∷◌, ◌++◌, false, length, map, refl, sym, ◌∙◌, ap, subst, arith, ◌||◌}
 use Rattle.std.specs.Prelude.{◌==◌, All, AllPairs, sum_by}
-use Rattle.std.specs.List.{AllZip}
 use Rattle.std.proofs.lemmas.Bool.{eqb-false, or_parts}
 use Rattle.std.proofs.lemmas.List.Elements.{All-append, All-map, All-weaker}
 use Rattle.std.proofs.lemmas.List.Folds.{list_any-append}
@@ -12,10 +11,12 @@ use Rattle.pb_rounds.proofs.Added.{added_differ, added_were_not_taken, election_
 use Rattle.pb_rounds.proofs.Filled.{rule_from_filled}
 use Rattle.pb_rounds.specs.MostVotes.{IsMostVotesFirst, fits, is_taken}
 use Rattle.pb_rounds.specs.Inner.LeftAfter.{left_after}
-use Rattle.pb_price.specs.Supporters.{SupportView, cost_at, support_of}
+use Rattle.pb_price.specs.Grain.{in_parts}
+use Rattle.pb_price.specs.Supporters.{SupportView, cost_at, support_in, support_of}
+use Rattle.pb_price.specs.declared.grain.Grain.{Grain}
+use Rattle.pb_price.specs.declared.grain.Grain.TheVariants.{Fine, Hundredths}
 use Rattle.pb_rounds.specs.Count.{spent_on}
 use Rattle.pb_rounds.specs.Outcome.{OutcomeView}
-use Rattle.pb_rounds.specs.PriceSystem.{PaysFor}
 use Rattle.pb_rounds.specs.Run.{ElectedView, is_elected}
 use Rattle.pb_rounds.specs.declared.rule.FillUp.{FillUp}
 use Rattle.pb_rounds.specs.declared.rule.FillUp.TheVariants.{Nothing, MostVotes}
@@ -23,7 +24,9 @@ use Rattle.pb_reasons.specs.Counted.{CountedView, counted, is_selected, winners_
 use Rattle.pb_reasons.specs.CountedElection.{CountedElectionView, IsCountedElection}
 use Rattle.pb_reasons.specs.Inner.Counts.{IsCounted, added_to}
 use Rattle.pb_reasons.specs.Totals.{totals_of}
+use Rattle.pb_reasons.specs.Inner.OfOutcome.{collected_for}
 use Rattle.pb_reasons.specs.Inner.Told.{AreApart}
+use Rattle.pb_reasons.proofs.Printables.{AreCollected, all_collected, few_supporters}
 use Rattle.pb_reasons.proofs.Tellable.{count_can_be_told}
 
 pub elected_are_taken : (elected : List ElectedView) (place : ℕ) → is_elected elected place ≡ is_taken (map (λ w. w.place) elected) place
@@ -42,27 +45,30 @@ places_cost s (w ∷ elected) =
     sum_by-cons (cost_at s) w.place (map (λ v. v.place) elected) ∙ ap (λ n. cost_at s w.place + n) (places_cost s elected)
     ∙ sym (sum_by-cons (λ (v : ElectedView). cost_at s v.place) w elected)
 
-pub winners_cost : (e : ElectionView) (c : CountedView) → (totals_of e c).spent ≡ sum_by (cost_at (support_of e)) (winners_of c)
-winners_cost e c =
+pub winners_cost : (grain : Grain) (e : ElectionView) (c : CountedView) → (totals_of grain e c).spent ≡ sum_by (cost_at (support_of e)) (winners_of c)
+winners_cost grain e c =
     let s = support_of e in
     let parts = sum_by-append (cost_at s) (map (λ (w : ElectedView). w.place) c.outcome.elected) c.added in
     omega (arith, parts, places_cost s c.outcome.elected)
 
--- what was paid for the elected is at least what they cost
-pub spent_within : (s : SupportView) (rests : List ℕ) (elected : List ElectedView) (rows : List (List ℕ)) → AllZip (PaysFor s rests) elected rows → spent_on s elected ≤ sum_by (λ (w : ElectedView). w.collected) elected
-spent_within s rests [] [] all = omega arith
-spent_within s rests [] (row ∷ rows) all = absurd all
-spent_within s rests (w ∷ elected) [] all = absurd all
-spent_within s rests (w ∷ elected) (row ∷ rows) all =
-    omega (arith, spent_within s rests elected rows all.1, all.0.covered, sum_by-cons (λ (w : ElectedView). w.collected) w elected, sum_by-cons (λ (w : ElectedView). cost_at s w.place) w elected)
-
-pub paid_beyond : (c : CountedElectionView) → IsCountedElection c
-    → (totals_of c.election c.counted).surplus + sum_by (λ (w : ElectedView). cost_at (support_of c.election) w.place) c.counted.outcome.elected
-    ≡ sum_by (λ (w : ElectedView). w.collected) c.counted.outcome.elected
+-- what was paid for the elected is what they cost, but for what is rounded up, or in fine money down
+pub paid_beyond : (c : CountedElectionView) → IsCountedElection c → let grain = c.rule.options.grain in let elected = c.counted.outcome.elected in
+    let cost = in_parts grain (length c.election.voters) (sum_by (λ (w : ElectedView). cost_at (support_of c.election) w.place) elected) in
+    let paid = sum_by (λ (w : ElectedView). w.collected) elected in let surplus = (totals_of grain c.election c.counted).surplus in
+    (grain ≡ Hundredths → surplus + cost ≡ paid) × (grain ≡ Fine → surplus + paid ≡ cost)
 paid_beyond c is =
+    let grain = c.rule.options.grain in
     let o = c.counted.outcome in
-    let within = spent_within (support_of c.election) o.rests o.elected is.is_count.price_system.0 is.is_count.price_system.1.paid in
-    omega (arith, within)
+    let cost = in_parts grain (length c.election.voters) (spent_on (support_of c.election) o.elected) in
+    let slack = sum_by (λ (w : ElectedView). length c.election.voters) o.elected in
+    let paid = collected_for o.elected in
+    let prices = is.is_count.price_system in
+    let known = (count_can_be_told c.election c.rule.options o is.is_election is.is_count).known in
+    let are : AreCollected grain cost slack paid =
+    all_collected (support_in grain c.election) o.rests (length c.election.projects) (length c.election.voters) (few_supporters c.election) o.elected prices.0 known prices.1.paid in (
+      λ whole. let h = subst (λ (g : Grain). AreCollected g cost slack paid) whole are in omega (arith, h.0),
+      λ fine. let h = subst (λ (g : Grain). AreCollected g cost slack paid) fine are in omega (arith, h.0),
+    )
 
 -- nobody is elected twice, or added twice, or both
 differ : (elected : List ElectedView) (added : List ℕ) → AllPairs AreApart elected → AllPairs (λ place other. place ≢ other) added
@@ -97,9 +103,9 @@ module _ (e : ElectionView) (h : IsElection e) where
       subst (λ (l : List ℕ). AllPairs (λ place other. place ≢ other) (map (λ w. w.place) c.outcome.elected ++ l)) (sym added)
       (filled_differ c.outcome c.fill_up told.apart)
 
-  pub none_fits_at_the_end : (c : CountedView) (place : ℕ) → IsCounted e c → c.fill_up ≡ MostVotes
-      → fits (support_of e) (winners_of c) (e.budget - (totals_of e c).spent) place ≡ false
-  none_fits_at_the_end c place result fills =
+  pub none_fits_at_the_end : (grain : Grain) (c : CountedView) (place : ℕ) → IsCounted e c → c.fill_up ≡ MostVotes
+      → fits (support_of e) (winners_of c) (e.budget - (totals_of grain e c).spent) place ≡ false
+  none_fits_at_the_end grain c place result fills =
       let s = support_of e in
       let taken = map (λ (w : ElectedView). w.place) c.outcome.elected in
       let left = e.budget - spent_on s c.outcome.elected in

@@ -10,14 +10,15 @@ use Rattle.std.proofs.lemmas.List.Folds.{list_any-append}
 use Rattle.pb_core.specs.Election.{ProjectView}
 use Rattle.pb_core.specs.Order.{position_in}
 use Rattle.pb_core.proofs.Members.{range_below}
-use Rattle.pb_price.proofs.Payments.{least_from_price}
-use Rattle.pb_price.specs.Price.{price_at}
-use Rattle.pb_price.specs.Supporters.{SupportView, cost_at, support_of, supporters_at}
+use Rattle.pb_price.proofs.Prices.{is_price_from_at}
+use Rattle.pb_price.proofs.SupporterLists.{cost_positive}
+use Rattle.pb_price.specs.Price.{PriceView, price_at}
+use Rattle.pb_price.specs.Supporters.{SupportView, cost_at, support_in, support_of}
 use Rattle.pb_rounds.proofs.Added.{election_is_filled}
 use Rattle.pb_rounds.proofs.Filled.{rule_from_filled}
 use Rattle.pb_rounds.proofs.RunIs.{words_of_run}
 use Rattle.pb_rounds.specs.Cheapest.{IsRun, rests_after}
-use Rattle.pb_rounds.specs.Count.{share_by, spent_on}
+use Rattle.pb_rounds.specs.Count.{share_by, spent_on, step_of}
 use Rattle.pb_rounds.specs.MostVotes.{IsMostVotesFirst, is_taken, most_votes_first, votes_at}
 use Rattle.pb_rounds.specs.Outcome.{OutcomeView}
 use Rattle.pb_rounds.specs.Run.{ElectedView, RunView, is_elected, outcome_of}
@@ -59,7 +60,11 @@ front_is {X = X} xs i x below x_is = take_more xs i x below ∙ ap (λ (y : X). 
 
 module _ (x : CountedElectionView) (is : IsCountedElection x) where
   abbrev s : SupportView
-  s = support_of x.election
+  s = support_in x.rule.options.grain x.election
+
+  -- the same for most votes first, which counts in hundredths
+  abbrev u : SupportView
+  u = support_of x.election
 
   abbrev m : Measure
   m = x.rule.options.measure
@@ -91,7 +96,7 @@ module _ (x : CountedElectionView) (is : IsCountedElection x) where
     rests_at i = rests_after s (replicate s.voters share) (take i elected)
 
     module _ (i : ℕ) (w : ElectedView) (below : i < length elected) (w_is : w ≡ get_or elected i w) where
-      by_price : (position : ℕ) → position < length x.election.projects → is_elected (take (i + 1) elected) position ≡ false → (answer : Option ℕ)
+      by_price : (position : ℕ) → position < length x.election.projects → is_elected (take (i + 1) elected) position ≡ false → (answer : Option PriceView)
           → price_at s (rests_at i) position ≡ answer → option_map_or (is_as_good m s w position) answer false ≡ true → w.place < position
       by_price position known free None priced good = absurd (false≢true good)
       by_price position known free (Some price) priced good =
@@ -104,7 +109,7 @@ module _ (x : CountedElectionView) (is : IsCountedElection x) where
           let was = words.cheapest front w (drop (i + 1) elected) (split_at elected i w below w_is) in
           as_good_is_later m s w position price
           (was.cheapest position price (omega (arith, known, many), others_from front position both.0) apart
-          (least_from_price (supporters_at s position) (rests_at i) (cost_at s position) price priced)) good
+          (is_price_from_at s (rests_at i) position (cost_positive s words.is_support position (omega (arith, known, many))) (Some price) (sym priced))) good
 
       tied_later : (position : ℕ) → position < length x.election.projects → is_tied m s (take (i + 1) elected) (rests_at i) w position ≡ true → w.place < position
       tied_later position known tied =
@@ -120,10 +125,10 @@ module _ (x : CountedElectionView) (is : IsCountedElection x) where
 
   run_later : (run : ℕ) → All IsChosenFirst (run_ties x run)
   run_later run =
-      let share = share_by x.rule.options.completion x.election x.rule.options.step run in
-      let result : RunView = outcome_of m x.election share in
-      let words = words_of_run m s share (x.election, is.is_election, refl) in
-      let nobody : ElectedView = record { place = 0; price = 0; collected = 0 } in
+      let share = share_by x.rule.options.completion x.rule.options.grain x.election (step_of x.election x.rule.options) run in
+      let result : RunView = outcome_of m x.rule.options.grain x.election share in
+      let words = words_of_run m s share is.is_count.run_is.is_support in
+      let nobody : ElectedView = record { place = 0; price = 0; exact = record { amount = 0; payers = 1 }; collected = 0 } in
       subst (All IsChosenFirst) (run_rows x is run share result.elected result.rests words refl)
       (all_in_range (round_ties x run share result.elected) (length result.elected)
       (λ i below. round_later run share result.elected result.rests words i (get_or result.elected i nobody) below (get_or_default result.elected i nobody _ below)))
@@ -134,32 +139,32 @@ module _ (x : CountedElectionView) (is : IsCountedElection x) where
   places = map (λ (w : ElectedView). w.place) o.elected
 
   abbrev left : ℕ
-  left = x.election.budget - spent_on s o.elected
+  left = x.election.budget - spent_on u o.elected
 
-  added_by : (fill_up : FillUp) → x.rule.fill_up ≡ fill_up → (number : ℕ) → number < length x.counted.added → IsMostVotesFirst s places left x.counted.added
+  added_by : (fill_up : FillUp) → x.rule.fill_up ≡ fill_up → (number : ℕ) → number < length x.counted.added → IsMostVotesFirst u places left x.counted.added
   added_by Nothing now number below =
       let none = ap (λ (c : CountedView). length c.added) is.is_filled_up ∙ ap (λ (f : FillUp). length (counted x.election f o).added) now in
       absurd (omega (arith, below, none))
   added_by MostVotes now number below =
       let added_is = ap (λ (c : CountedView). c.added) is.is_filled_up ∙ ap (λ (f : FillUp). (counted x.election f o).added) now in
-      subst (IsMostVotesFirst s places left) (sym added_is)
-      (rule_from_filled s places left (most_votes_first s places left) (election_is_filled x.election places left is.is_election))
+      subst (IsMostVotesFirst u places left) (sym added_is)
+      (rule_from_filled u places left (most_votes_first u places left) (election_is_filled x.election places left is.is_election))
 
   equal_later : (number winner : ℕ) → number < length x.counted.added → winner ≡ get_or x.counted.added number winner → (position : ℕ)
-      → is_equal_to s (places ++ take (number + 1) x.counted.added) winner position ≡ true → winner < position
+      → is_equal_to u (places ++ take (number + 1) x.counted.added) winner position ≡ true → winner < position
   equal_later number winner below winner_is position equal =
       let added = x.counted.added in
       let front = take number added in
       let rule = added_by x.rule.fill_up refl number below in
       let parts = and_parts (not (is_taken (places ++ take (number + 1) added) position)) _ equal in
-      let same = and_parts (votes_at s position == votes_at s winner) _ parts.1 in
+      let same = and_parts (votes_at u position == votes_at u winner) _ parts.1 in
       let all : places ++ take (number + 1) added ≡ (places ++ front) ++ winner ∷ [] =
       ap (λ (xs : List ℕ). places ++ xs) (front_is added number winner below winner_is) ∙ sym (append_assoc places front (winner ∷ [])) in
       let both =
       or_parts (is_taken (places ++ front) position) ((winner == position) || false)
       (sym (list_any-append (λ p. p == position) (places ++ front) (winner ∷ []))
       ∙ (ap (λ (xs : List ℕ). is_taken xs position) (sym all) ∙ not-true (is_taken (places ++ take (number + 1) added) position) parts.0)) in
-      first_is_before s (places ++ front) _ winner position (rule.first front winner (drop (number + 1) added) (split_at added number winner below winner_is)) both.0
+      first_is_before u (places ++ front) _ winner position (rule.first front winner (drop (number + 1) added) (split_at added number winner below winner_is)) both.0
       (eqb-false winner position (or_parts (winner == position) false both.1).0) (eqb-true _ _ same.0) (eqb-true _ _ same.1)
 
   added_later : (number : ℕ) → number < length x.counted.added → All IsChosenFirst (ties_at_added x number)
@@ -168,8 +173,8 @@ module _ (x : CountedElectionView) (is : IsCountedElection x) where
       let winner = slice_index added number in
       let taken = places ++ take (number + 1) added in
       let first : ToldTie = record { run = o.raised; number = number + 1; tie = record { round = None; winner = winner; other = winner } } in
-      subst (All IsChosenFirst) (sym (told_of x first (is_equal_to s taken winner) (length s.costs) is many) ∙ added_rows x is number winner taken refl refl)
-      (told_later first (is_equal_to s taken winner)
+      subst (All IsChosenFirst) (sym (told_of x first (is_equal_to u taken winner) (length u.costs) is many) ∙ added_rows x is number winner taken refl refl)
+      (told_later first (is_equal_to u taken winner)
       (λ position known. equal_later number winner below (get_or_default added number 0 winner below) position))
 
   -- in every run, and among the added

@@ -9,10 +9,12 @@ use Rattle.std.proofs.lemmas.List.Kept.{AllPairs-cons}
 use Rattle.std.proofs.lemmas.List.Elements.{All-cons, All-nil}
 use Rattle.std.proofs.lemmas.Option.{none-some, same_Some}
 use Rattle.pb_core.specs.Election.{ElectionView}
-use Rattle.pb_price.specs.Supporters.{SupportView, supporters_at, support_of}
+use Rattle.pb_price.specs.Price.{due}
+use Rattle.pb_price.specs.Supporters.{SupportView, supporters_at, support_in}
+use Rattle.pb_price.specs.declared.grain.Grain.{Grain}
 use Rattle.pb_rounds.proofs.BestKey.{best_is_key}
 use Rattle.pb_rounds.proofs.Listed.{RisesWithin-below, is_listed-without_same, listed-below, listed_from_without, range_rises}
-use Rattle.pb_rounds.specs.Count.{count_of, raises_of, share_by}
+use Rattle.pb_rounds.specs.Count.{count_of, raises_of, share_by, step_of}
 use Rattle.pb_rounds.specs.Key.{KeyView}
 use Rattle.pb_rounds.specs.Outcome.{Settled, settled_by}
 use Rattle.pb_rounds.specs.Inner.Listed.{is_listed}
@@ -37,10 +39,10 @@ run_is_drawn m s (suc rounds) rests left = by_best (best_of m s rests left) refl
   where
     by_best : (best : Option KeyView) → best_of m s rests left ≡ best
         → ((rests left : List ℕ) → IsDrawn rounds left (run_from m s rounds rests left).elected)
-        → IsDrawn (suc rounds) left (option_map_or (λ b. then_run (elected_by s rests b) (run_from m s rounds (charged (supporters_at s b.place) b.price rests) (without b.place left))) best (record { elected = []; rests = rests })).elected
+        → IsDrawn (suc rounds) left (option_map_or (λ b. then_run (elected_by s rests b) (run_from m s rounds (charged (supporters_at s b.place) (due b.price) rests) (without b.place left))) best (record { elected = []; rests = rests })).elected
     by_best None e later = none_drawn (suc rounds) left
     by_best (Some b) e later =
-        let drawn = later (charged (supporters_at s b.place) b.price rests) (without b.place left) in
+        let drawn = later (charged (supporters_at s b.place) (due b.price) rests) (without b.place left) in
         record {
           few = omega (arith, drawn.few);
           listed = All-cons (λ w. is_listed left w.place ≡ true) _ _ (best_is_key m s rests left b e).is_left
@@ -55,10 +57,10 @@ pub record AreProjects (e : ElectionView) (elected : List ElectedView) : Type 0 
   pub few : length elected ≤ length e.projects
   pub apart : AllPairs AreApart elected
 
-pub run_elects_projects : (m : Measure) (e : ElectionView) (share : ℕ) → AreProjects e (outcome_of m e share).elected
+pub run_elects_projects : (m : Measure) (grain : Grain) (e : ElectionView) (share : ℕ) → AreProjects e (outcome_of m grain e share).elected
 unfolding run_of
-run_elects_projects m e share =
-    let s = support_of e in
+run_elects_projects m grain e share =
+    let s = support_in grain e in
     let n = length s.costs in
     let count : n ≡ length e.projects = simp length-map in
     let drawn = run_is_drawn m s n (replicate s.voters share) (range_with_len 0 n) in
@@ -68,11 +70,12 @@ run_elects_projects m e share =
       apart = drawn.apart;
     }
 
-settled_elects_projects : (m : Measure) (e : ElectionView) (shares : ℕ → ℕ) (raises : Option ℕ) (o : Settled)
-    → option_map (λ r. settled_by (shares r) r (outcome_of m e (shares r))) raises ≡ Some o → AreProjects e o.elected
-settled_elects_projects m e shares None o same = absurd (none-some _ same)
-settled_elects_projects m e shares (Some raises) o same =
-    rw (← ap (λ (o : Settled). o.elected) (same_Some _ _ same)) (run_elects_projects m e (shares raises))
+settled_elects_projects : (m : Measure) (grain : Grain) (e : ElectionView) (shares : ℕ → ℕ) (raises : Option ℕ) (o : Settled)
+    → option_map (λ r. settled_by (shares r) r (outcome_of m grain e (shares r))) raises ≡ Some o → AreProjects e o.elected
+settled_elects_projects m grain e shares None o same = absurd (none-some _ same)
+settled_elects_projects m grain e shares (Some raises) o same =
+    rw (← ap (λ (o : Settled). o.elected) (same_Some _ _ same)) (run_elects_projects m grain e (shares raises))
 
 pub count_elects_projects : (e : ElectionView) (options : CountOptions) (o : Settled) → count_of e options ≡ Some o → AreProjects e o.elected
-count_elects_projects e options o counted = settled_elects_projects options.measure e (share_by options.completion e options.step) (raises_of options.completion options.measure e options.step options.max_raises) o counted
+count_elects_projects e options o counted = settled_elects_projects options.measure options.grain e (share_by options.completion options.grain e (step_of e options))
+    (raises_of options.completion options.measure options.grain e (step_of e options) options.max_raises) o counted

@@ -6,7 +6,7 @@ use Rattle.std.proofs.lemmas.Bool.{and_parts, eqb-false, ltb-true, or_parts}
 use Rattle.std.proofs.lemmas.Grind.{div_ceil_times}
 use Rattle.std.proofs.lemmas.List.{length-map}
 use Rattle.std.proofs.lemmas.List.Elements.{All-cons, All-filter, All-nil, filter_passes}
-use Rattle.pb_price.specs.Supporters.{cost_at, support_of, supporters_at}
+use Rattle.pb_price.specs.Supporters.{cost_in_parts, support_in, support_of, supporters_at}
 use Rattle.pb_rounds.proofs.FairToGroups.{run_is_fair_to_groups}
 use Rattle.pb_rounds.proofs.Listed.{RisesWithin-below, range_rises}
 use Rattle.pb_rounds.specs.Cheapest.{IsLeft}
@@ -48,9 +48,9 @@ none_is_it (w ∷ elected) place none =
 module _ (c : CountedElectionView) (is : IsCountedElection c) where
   loser_is_fair : (place : ℕ) → place < length c.election.projects → 0 < votes_at (support_of c.election) place
       → is_taken (winners_of c.counted) place ≡ false
-      → c.counted.outcome.share < spent c.rule.options.measure (support_of c.election) c.counted.outcome place + needed (support_of c.election) place
+      → c.counted.outcome.share < spent c.rule.options.measure (support_in c.rule.options.grain c.election) c.counted.outcome place + needed (support_in c.rule.options.grain c.election) place
   loser_is_fair place known some free =
-      let s = support_of c.election in
+      let s = support_in c.rule.options.grain c.election in
       let o = c.counted.outcome in
       let m = c.rule.options.measure in
       let supporters = supporters_at s place in
@@ -58,13 +58,13 @@ module _ (c : CountedElectionView) (is : IsCountedElection c) where
       let unselected = or_parts (is_elected o.elected place) (is_taken c.counted.added place) (selected_are_winners c.counted place ∙ free) in
       let costs : length s.costs ≡ length c.election.projects = simp length-map in
       let left : IsLeft s o.elected place = (rw costs known, none_is_it o.elected place unselected.0) in
-      let bounds = div_ceil_times (cost_at s place) (votes_at s place) some in
-      let covers : cost_at s place ≤ length (filter (λ v. true) supporters) * needed s place = rw all (omega (arith, bounds)) in
+      let bounds = div_ceil_times (cost_in_parts s place) (votes_at s place) some in
+      let covers : cost_in_parts s place ≤ length (filter (λ v. true) supporters) * needed s place = rw all (omega (arith, bounds)) in
       let (k, voter, below, here, above) = run_is_fair_to_groups m s o.share o.elected o.rests is.is_count.run_is place (needed s place) (λ v. true) left covers in
       let most = at_most_the_most (λ v. paid_within m s o.share o.elected place (needed s place) v) 0 supporters k voter (rw all at below) (rw all at here) in
       omega (arith, most, above)
 
-  pub rows_are_fair : All (λ place. c.counted.outcome.share < spent c.rule.options.measure (support_of c.election) c.counted.outcome place + needed (support_of c.election) place)
+  pub rows_are_fair : All (λ place. c.counted.outcome.share < spent c.rule.options.measure (support_in c.rule.options.grain c.election) c.counted.outcome place + needed (support_in c.rule.options.grain c.election) place)
       (losers c.election c.counted)
   rows_are_fair = λ k d below.
       let s = support_of c.election in

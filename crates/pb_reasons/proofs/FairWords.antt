@@ -10,7 +10,7 @@ use Rattle.std.proofs.lemmas.List.FromFn.{get_or-range_with_len, length-range_wi
 use Rattle.std.proofs.lemmas.List.Kept.{IsStrictlyIncreasing-filter}
 use Rattle.std.proofs.Math.Nat.{mul-le-mul_left, mul-suc, mul_comm}
 use Rattle.pb_core.specs.Election.{ElectionView}
-use Rattle.pb_price.specs.Supporters.{SupportView, cost_at, support_of, supporters_at}
+use Rattle.pb_price.specs.Supporters.{SupportView, cost_in_parts, support_of, supporters_at}
 use Rattle.pb_rounds.proofs.Listed.{RisesWithin-below, range_rises}
 use Rattle.pb_rounds.specs.Fairness.{paid_within}
 use Rattle.pb_rounds.specs.MostVotes.{is_taken, votes_at}
@@ -70,15 +70,15 @@ module _ (e : ElectionView) (c : CountedView) where
 
 -- the least amount that pays for a project where each supporter gives as much
 module _ (s : SupportView) (place : ℕ) (some : 0 < votes_at s place) where
-  pub needed_pays : cost_at s place ≤ votes_at s place * needed s place
+  pub needed_pays : cost_in_parts s place ≤ votes_at s place * needed s place
   needed_pays =
-      let bounds = div_ceil_times (cost_at s place) (votes_at s place) some in
+      let bounds = div_ceil_times (cost_in_parts s place) (votes_at s place) some in
       let turned = mul_comm (needed s place) (votes_at s place) in
       omega (arith, bounds, turned)
 
-  pub less_is_short : (less : ℕ) → less < needed s place → votes_at s place * less < cost_at s place
+  pub less_is_short : (less : ℕ) → less < needed s place → votes_at s place * less < cost_in_parts s place
   less_is_short less below =
-      let bounds = div_ceil_times (cost_at s place) (votes_at s place) some in
+      let bounds = div_ceil_times (cost_in_parts s place) (votes_at s place) some in
       let turned = mul_comm (needed s place) (votes_at s place) in
       let one = mul-suc (votes_at s place) less in
       let more : votes_at s place * suc less ≤ votes_at s place * needed s place = mul-le-mul_left (votes_at s place) (omega (arith, below)) in

@@ -7,9 +7,9 @@ use Rattle.std.proofs.lemmas.Bool.{eqb-true}
 use Rattle.std.proofs.lemmas.List.Elements.{All-append, All-filter, All-head, All-map, All-nil, All-tail, All-take, filter_passes}
 use Rattle.std.proofs.lemmas.List.FromFn.{get_or-range_with_len, length-range_with_len}
 use Rattle.pb_core.specs.Order.{position_in}
-use Rattle.pb_price.specs.Supporters.{support_of}
+use Rattle.pb_price.specs.Supporters.{support_in, support_of}
 use Rattle.pb_rounds.specs.Cheapest.{rests_after}
-use Rattle.pb_rounds.specs.Count.{share_by}
+use Rattle.pb_rounds.specs.Count.{share_by, step_of}
 use Rattle.pb_rounds.specs.Run.{ElectedView, outcome_of}
 use Rattle.pb_reasons.specs.AllTies.{added_ties, all_ties, run_ties, runs_of, told}
 use Rattle.pb_reasons.specs.CountedElection.{CountedElectionView, IsCountedElection, in_file}
@@ -80,7 +80,7 @@ module _ (x : CountedElectionView) (is : IsCountedElection x) where
 
   round_known : (run share : ℕ) (elected : List ElectedView) (round : ℕ) → All (λ w. w.place < n) elected → All IsKnown (round_ties x run share elected round)
   round_known run share elected round all =
-      let s = support_of x.election in
+      let s = support_in x.rule.options.grain x.election in
       let m = x.rule.options.measure in
       let front = take (round + 1) elected in
       told_known (ties_in m s share front round)
@@ -90,11 +90,12 @@ module _ (x : CountedElectionView) (is : IsCountedElection x) where
 
   run_known : (run : ℕ) → All IsKnown (run_ties x run)
   run_known run =
-      let share = share_by x.rule.options.completion x.election x.rule.options.step run in
-      let elected = (outcome_of x.rule.options.measure x.election share).elected in
+      let grain = x.rule.options.grain in
+      let share = share_by x.rule.options.completion grain x.election (step_of x.election x.rule.options) run in
+      let elected = (outcome_of x.rule.options.measure grain x.election share).elected in
       all_of_each IsKnown (round_ties x run share elected) (range_with_len 0 (length elected))
       (λ k d below. round_known run share elected (get_or (range_with_len 0 (length elected)) k d)
-      (run_elects_projects x.rule.options.measure x.election share).known)
+      (run_elects_projects x.rule.options.measure grain x.election share).known)
 
   pub added_are_known : All (λ place. place < n) x.counted.added
   added_are_known = (result_is_added x.election x.counted is.is_election (counted_is_result x is)).known

@@ -1,6 +1,7 @@
 -- The lemmas that the proofs of this crate share.
 pub mod Comparing
-pub mod ElectedPlaces
+pub mod EachGrain
+mod ElectedPlaces
 pub mod Printables
 pub mod Tellable
 pub mod Turns

@@ -10,7 +10,8 @@ use Rattle.std.proofs.lemmas.List.Elements.{All-head, All-tail}
 use Rattle.pb_core.specs.Inner.Approved.{approves}
 use Rattle.pb_core.specs.Election.{ElectionView, IsElection, ProjectView}
 use Rattle.pb_price.proofs.SupporterLists.{known_voters}
-use Rattle.pb_price.specs.Supporters.{IsSupport, SupportView, ballot_at, support_of, supporters_at}
+use Rattle.pb_price.specs.Supporters.{IsSupport, SupportView, ballot_at, support_in, support_of, supporters_at}
+use Rattle.pb_price.specs.declared.grain.Grain.{Grain}
 use Rattle.pb_rounds.specs.Outcome.{OutcomeView}
 use Rattle.pb_rounds.specs.Run.{ElectedView}
 use Rattle.pb_rounds.specs.declared.measure.Measure.TheVariants.{Votes}
@@ -167,9 +168,9 @@ module _ (sums : List ℕ) (elected : List ElectedView) (i : ℕ) (w : ElectedVi
       omega (arith, more, pushed, all_is, amount_is, new_is)
 
 -- supporters are voters
-pub supporters_are_voters : (e : ElectionView) (o : OutcomeView) → CanBeTold e o → (s : SupportView) → IsSupport s → s ≡ support_of e → (place : ℕ)
+pub supporters_are_voters : (grain : Grain) (e : ElectionView) (o : OutcomeView) → CanBeTold grain e o → (s : SupportView) → IsSupport s → s ≡ support_in grain e → (place : ℕ)
     → place < length e.projects → (list : List ℕ) → list ≡ supporters_at s place → All (λ voter. voter < length e.voters) list
-supporters_are_voters e o told s support s_is place known list is = λ i d below.
+supporters_are_voters grain e o told s support s_is place known list is = λ i d below.
     let size : length s.costs ≡ length e.projects = ap (λ (t : SupportView). length t.costs) s_is ∙ length-map e.projects (λ (p : ProjectView). p.cost) in
     let voters : length o.rests ≡ s.voters = told.one_each ∙ sym (ap (λ (t : SupportView). t.voters) s_is) in
     let short = known_voters s support place (omega (arith, known, size)) list o.rests is voters i d below in

@@ -1,22 +1,24 @@
 -- The projects of an election in another order, and the runs of it where no round has an equal.
 use Rattle.std.proofs.Common.{◌≡◌, ◌≢◌, ◌∙◌, ◌<◌, ℕ, List, [], ◌∷◌, ◌++◌, Option, Some, None, ap, arith, get_or, inl, length, map, refl, replicate, subst, sym}
-use Rattle.std.specs.Prelude.{◌*◌, All}
+use Rattle.std.specs.Prelude.{◌*◌, All, MatchOption}
 use Rattle.std.proofs.lemmas.List.{get_or-map, length-map}
 use Rattle.std.proofs.lemmas.List.Elements.{All-cons, All-head, All-map, All-nil, All-tail}
 use Rattle.std.proofs.lemmas.List.Sums.{sum_by-cons}
-use Rattle.pb_price.specs.Inner.Payment.{IsPriceFor}
-use Rattle.pb_price.specs.Price.{IsPrice, paid_at}
-use Rattle.pb_price.specs.Supporters.{IsSupport, SupportView, cost_at, supporters_at}
+use Rattle.pb_price.specs.Grain.{in_parts}
+use Rattle.pb_price.specs.Price.{IsPrice, IsPriceIn, PriceView, paid_at, total_rest}
+use Rattle.pb_price.specs.Supporters.{IsSupport, SupportView, cost_at, cost_in_parts, supporters_at}
+use Rattle.pb_price.specs.declared.grain.Grain.{Grain}
 use Rattle.pb_rounds.specs.Cheapest.{IsCheaper, IsLeft, IsRun, WasCheapest, rests_after}
 use Rattle.pb_rounds.specs.Completed.{IsExhausted}
 use Rattle.pb_rounds.specs.Count.{spent_on}
-use Rattle.pb_rounds.specs.Run.{ElectedView, charged}
+use Rattle.pb_rounds.specs.Run.{ElectedView, charged, weight_of}
 use Rattle.pb_rounds.specs.declared.measure.Measure.{Measure}
 use Rattle.pb_rounds.specs.declared.measure.Measure.TheVariants.{Votes, Cost}
 
 -- the second has the projects of the first in another order: the position of each place, and the place at each position
 pub record AreMoved (s t : SupportView) (to back : ℕ → ℕ) : Type 0 where
   pub as_many : length t.costs ≡ length s.costs
+  pub same_grain : t.grain ≡ s.grain
   pub same_voters : t.voters ≡ s.voters
   pub put : (place : ℕ) → place < length s.costs → (to place < length s.costs) × (back (to place) ≡ place)
   pub stands : (position : ℕ) → position < length s.costs → (back position < length s.costs) × (to (back position) ≡ position)
@@ -25,21 +27,21 @@ pub record AreMoved (s t : SupportView) (to back : ℕ → ℕ) : Type 0 where
 
 -- an elected project by its position
 abbrev pub renamed : (ℕ → ℕ) → ElectedView → ElectedView
-renamed to w = record { place = to w.place; price = w.price; collected = w.collected }
+renamed to w = record { place = to w.place; price = w.price; exact = w.exact; collected = w.collected }
 
 abbrev pub AreKnown : SupportView → List ElectedView → Type 0
 AreKnown s elected = All (λ (w : ElectedView). w.place < length s.costs) elected
 
 -- the price is less, for its cost under measure cost
-abbrev pub IsLess : Measure → SupportView → (place price other other_price : ℕ) → Type 0
-IsLess Votes s place price other other_price = price < other_price
-IsLess Cost s place price other other_price = price * cost_at s other < other_price * cost_at s place
+abbrev pub IsLess : Measure → SupportView → (place : ℕ) (price : PriceView) (other : ℕ) (other_price : PriceView) → Type 0
+IsLess m s place price other other_price =
+    price.amount * (other_price.payers * weight_of m s other) < other_price.amount * (price.payers * weight_of m s place)
 
 -- each of the elected was better than all that were left
 abbrev pub HaveNoEquals : Measure → SupportView → (share : ℕ) → List ElectedView → Type 0
 HaveNoEquals m s share elected = (before : List ElectedView) (w : ElectedView) (later : List ElectedView) → elected ≡ before ++ w ∷ later
-    → (other price : ℕ) → IsLeft s before other → other ≢ w.place
-    → IsPrice s (rests_after s (replicate s.voters share) before) other (Some price) → IsLess m s w.place w.price other price
+    → (other : ℕ) (price : PriceView) → IsLeft s before other → other ≢ w.place
+    → IsPrice s (rests_after s (replicate s.voters share) before) other (Some price) → IsLess m s w.place w.exact other price
 
 -- ---- lists that are split
 
@@ -88,6 +90,22 @@ pub All-front : {X : Type 0} (P : X → Type 0) (xs ys : List X) → All P (xs +
 All-front P [] ys all = All-nil P
 All-front P (x ∷ xs) ys all = All-cons P x xs (All-head P x (xs ++ ys) all) (All-front P xs ys (All-tail P x (xs ++ ys) all))
 
+-- ---- what has the same supporters, at the same cost, has the same price
+
+abbrev IsPriceOf : Grain → (supporters rests : List ℕ) (cost : ℕ) → Option PriceView → Type 0
+IsPriceOf grain supporters rests cost answer = MatchOption answer (total_rest supporters rests < cost) (IsPriceIn grain supporters rests cost)
+
+same_parts : (s t : SupportView) (a b : ℕ) → t.grain ≡ s.grain → t.voters ≡ s.voters → cost_at t b ≡ cost_at s a → cost_in_parts t b ≡ cost_in_parts s a
+same_parts s t a b grain voters cost =
+    ap (λ (g : Grain). in_parts g t.voters (cost_at t b)) grain ∙ ap (λ n. in_parts s.grain n (cost_at t b)) voters ∙ ap (in_parts s.grain s.voters) cost
+
+same_price_there : (s t : SupportView) (a b : ℕ) → t.grain ≡ s.grain → t.voters ≡ s.voters → cost_at t b ≡ cost_at s a → supporters_at t b ≡ supporters_at s a
+    → (rests : List ℕ) (answer : Option PriceView) → IsPrice s rests a answer → IsPrice t rests b answer
+same_price_there s t a b grain voters cost supporters rests answer is =
+    subst (λ (g : Grain). IsPriceOf g (supporters_at t b) rests (cost_in_parts t b) answer) (sym grain)
+    (subst (λ (n : ℕ). IsPriceOf s.grain (supporters_at t b) rests n answer) (sym (same_parts s t a b grain voters cost))
+    (subst (λ (xs : List ℕ). IsPriceOf s.grain xs rests (cost_in_parts s a) answer) (sym supporters) is))
+
 -- ---- what is so of the places is so of the positions
 
 module _ (s t : SupportView) (to back : ℕ → ℕ) (h : AreMoved s t to back) where
@@ -97,22 +115,25 @@ module _ (s t : SupportView) (to back : ℕ → ℕ) (h : AreMoved s t to back) 
   pub cost_put : (place : ℕ) → place < length s.costs → cost_at t (to place) ≡ cost_at s place
   cost_put place known = let at = h.put place known in h.costs (to place) at.0 ∙ ap (cost_at s) at.1
 
-  price_put : (place : ℕ) → place < length s.costs → (rests : List ℕ) (answer : Option ℕ) → IsPrice s rests place answer → IsPrice t rests (to place) answer
-  price_put place known rests answer is =
-      subst (λ (cost : ℕ). IsPriceFor (supporters_at t (to place)) rests cost answer) (sym (cost_put place known))
-      (subst (λ (xs : List ℕ). IsPriceFor xs rests (cost_at s place) answer) (sym (supporters_put place known)) is)
+  weight_put : (m : Measure) (place : ℕ) → place < length s.costs → weight_of m t (to place) ≡ weight_of m s place
+  weight_put Votes place known = refl
+  weight_put Cost place known = cost_put place known
 
-  price_there : (position : ℕ) → position < length s.costs → (rests : List ℕ) (answer : Option ℕ) → IsPrice s rests (back position) answer
+  weight_there : (m : Measure) (position : ℕ) → position < length s.costs → weight_of m t position ≡ weight_of m s (back position)
+  weight_there Votes position known = refl
+  weight_there Cost position known = h.costs position known
+
+  price_put : (place : ℕ) → place < length s.costs → (rests : List ℕ) (answer : Option PriceView) → IsPrice s rests place answer → IsPrice t rests (to place) answer
+  price_put place known = same_price_there s t place (to place) h.same_grain h.same_voters (cost_put place known) (supporters_put place known)
+
+  price_there : (position : ℕ) → position < length s.costs → (rests : List ℕ) (answer : Option PriceView) → IsPrice s rests (back position) answer
       → IsPrice t rests position answer
-  price_there position known rests answer is =
-      subst (λ (cost : ℕ). IsPriceFor (supporters_at t position) rests cost answer) (sym (h.costs position known))
-      (subst (λ (xs : List ℕ). IsPriceFor xs rests (cost_at s (back position)) answer) (sym (h.supporters position known)) is)
+  price_there position known = same_price_there s t (back position) position h.same_grain h.same_voters (h.costs position known) (h.supporters position known)
 
-  price_back : (position : ℕ) → position < length s.costs → (rests : List ℕ) (answer : Option ℕ) → IsPrice t rests position answer
+  price_back : (position : ℕ) → position < length s.costs → (rests : List ℕ) (answer : Option PriceView) → IsPrice t rests position answer
       → IsPrice s rests (back position) answer
-  price_back position known rests answer is =
-      subst (λ (cost : ℕ). IsPriceFor (supporters_at s (back position)) rests cost answer) (h.costs position known)
-      (subst (λ (xs : List ℕ). IsPriceFor xs rests (cost_at t position) answer) (h.supporters position known) is)
+  price_back position known =
+      same_price_there t s position (back position) (sym h.same_grain) (sym h.same_voters) (sym (h.costs position known)) (sym (h.supporters position known))
 
   left_put : (before : List ElectedView) → AreKnown s before → (place : ℕ) → IsLeft s before place → IsLeft t (map (renamed to) before) (to place)
   left_put before known place left =
@@ -150,27 +171,27 @@ module _ (s t : SupportView) (to back : ℕ → ℕ) (h : AreMoved s t to back) 
 
   -- ---- a round, and a run
 
-  cheaper_put : (m : Measure) (place price other other_price : ℕ) → place < length s.costs → other < length s.costs
+  cheaper_put : (m : Measure) (place : ℕ) (price : PriceView) (other : ℕ) (other_price : PriceView) → place < length s.costs → other < length s.costs
       → IsLess m s place price (back other) other_price → IsCheaper m t (to place) price other other_price
-  cheaper_put Votes place price other other_price known below less = inl less
-  cheaper_put Cost place price other other_price known below less =
-      inl (subst (λ (c : ℕ). price * c < other_price * cost_at t (to place)) (sym (h.costs other below))
-      (subst (λ (c : ℕ). price * cost_at s (back other) < other_price * c) (sym (cost_put place known)) less))
+  cheaper_put m place price other other_price known below less =
+      inl (subst (λ (n : ℕ). price.amount * (other_price.payers * n) < other_price.amount * (price.payers * weight_of m t (to place))) (sym (weight_there m other below))
+      (subst (λ (n : ℕ). price.amount * (other_price.payers * weight_of m s (back other)) < other_price.amount * (price.payers * n)) (sym (weight_put m place known)) less))
 
   module _ (m : Measure) where
     was_put : (rests : List ℕ) (before : List ElectedView) (w : ElectedView) → AreKnown s before → WasCheapest m s rests before w
-        → ((other price : ℕ) → IsLeft s before other → other ≢ w.place → IsPrice s rests other (Some price) → IsLess m s w.place w.price other price)
+        → ((other : ℕ) (price : PriceView) → IsLeft s before other → other ≢ w.place → IsPrice s rests other (Some price) → IsLess m s w.place w.exact other price)
         → WasCheapest m t rests (map (renamed to) before) (renamed to w)
     was_put rests before w known was no_equal =
         let here = was.was_left.0 in
         record {
           was_left = left_put before known w.place was.was_left;
-          priced = price_put w.place here rests (Some w.price) was.priced;
+          priced = price_put w.place here rests (Some w.exact) was.priced;
+          rounded = was.rounded;
           collected = was.collected ∙ ap (λ (xs : List ℕ). paid_at xs rests w.price) (sym (supporters_put w.place here));
           cheapest = λ other price left apart priced.
               let below : other < length s.costs = omega (arith, left.0, h.as_many) in
               let at = h.stands other below in
-              cheaper_put m w.place w.price other price here below
+              cheaper_put m w.place w.exact other price here below
               (no_equal (back other) price (left_back before other left) (λ same. apart (sym at.1 ∙ ap to same)) (price_back other below rests (Some price) priced));
         }
 

@@ -12,18 +12,19 @@ use Rattle.pb_core.specs.Election.{ProjectView}
 use Rattle.pb_core.specs.Order.{position_in}
 use Rattle.pb_core.proofs.Members.{in_filter}
 use Rattle.pb_core.proofs.Orders.{order_known}
-use Rattle.pb_price.proofs.Payments.{price_from_least}
-use Rattle.pb_price.specs.Price.{price_at}
-use Rattle.pb_price.specs.Supporters.{SupportView, cost_at, support_of, supporters_at}
+use Rattle.pb_price.proofs.Prices.{price_from_is_price}
+use Rattle.pb_price.proofs.SupporterLists.{cost_positive}
+use Rattle.pb_price.specs.Price.{PriceView, price_at}
+use Rattle.pb_price.specs.Supporters.{SupportView, support_in, support_of}
 use Rattle.pb_rounds.specs.Cheapest.{IsCheaper, IsRun, rests_after}
-use Rattle.pb_rounds.specs.Count.{share_by}
+use Rattle.pb_rounds.specs.Count.{share_by, step_of}
 use Rattle.pb_rounds.specs.MostVotes.{is_taken}
 use Rattle.pb_rounds.specs.Run.{ElectedView, is_elected, weight_of}
 use Rattle.pb_rounds.specs.declared.measure.Measure.{Measure}
-use Rattle.pb_rounds.specs.declared.measure.Measure.TheVariants.{Votes, Cost}
 use Rattle.pb_reasons.specs.AllTies.{added_ties, run_ties}
 use Rattle.pb_reasons.specs.CountedElection.{CountedElectionView, IsCountedElection}
 use Rattle.pb_reasons.specs.Inner.AllTies.{is_equal_to, round_ties, ties_at_added, told_with, with_other}
+use Rattle.pb_reasons.specs.Inner.Rounds.{is_as_good}
 use Rattle.pb_reasons.specs.Ties.{is_tied}
 use Rattle.pb_reasons.specs.declared.told_tie.ToldTie.{ToldTie}
 use Rattle.pb_reasons.proofs.Far.{told_of}
@@ -84,20 +85,16 @@ module _ {X : Type 0} where
 
 -- ---- whether a project is as good, and whether the other is less
 
-tied_when : (m : Measure) (s : SupportView) (elected : List ElectedView) (rests : List ℕ) (w : ElectedView) (place price : ℕ)
+tied_when : (m : Measure) (s : SupportView) (elected : List ElectedView) (rests : List ℕ) (w : ElectedView) (place : ℕ) (price : PriceView)
     → is_elected elected place ≡ false → price_at s rests place ≡ Some price
-    → is_tied m s elected rests w place ≡ (price * weight_of m s w.place == w.price * weight_of m s place)
+    → is_tied m s elected rests w place ≡ is_as_good m s w place price
 tied_when m s elected rests w place price free priced =
-    let good : ℕ → Bool = λ p. p * weight_of m s w.place == w.price * weight_of m s place in
-    ap (λ (b : Bool). not b && option_map_or good (price_at s rests place) false) free ∙ ap (λ (o : Option ℕ). option_map_or good o false) priced
+    ap (λ (b : Bool). not b && option_map_or (is_as_good m s w place) (price_at s rests place) false) free
+    ∙ ap (λ (o : Option PriceView). option_map_or (is_as_good m s w place) o false) priced
 
-less_by : (m : Measure) (s : SupportView) (place price other q : ℕ) → IsCheaper m s place price other q
-    → q * weight_of m s place ≢ price * weight_of m s other → IsLess m s place price other q
-less_by Votes s place price other q cheaper apart = elim cheaper [
-  | inl less ↦ less
-  | inr same ↦ absurd (apart (ap (λ n. n * 1) (sym same.0)))
-]
-less_by Cost s place price other q cheaper apart = elim cheaper [
+less_by : (m : Measure) (s : SupportView) (place : ℕ) (price : PriceView) (other : ℕ) (q : PriceView) → IsCheaper m s place price other q
+    → q.amount * (price.payers * weight_of m s place) ≢ price.amount * (q.payers * weight_of m s other) → IsLess m s place price other q
+less_by m s place price other q cheaper apart = elim cheaper [
   | inl less ↦ less
   | inr same ↦ absurd (apart (sym same.0))
 ]
@@ -107,7 +104,11 @@ not_elected elected place apart = list_any_none (λ (w : ElectedView). w.place =
 
 module _ (x : CountedElectionView) (is : IsCountedElection x) where
   abbrev s : SupportView
-  s = support_of x.election
+  s = support_in x.rule.options.grain x.election
+
+  -- the same for most votes first, which counts in hundredths
+  abbrev u : SupportView
+  u = support_of x.election
 
   abbrev m : Measure
   m = x.rule.options.measure
@@ -126,7 +127,7 @@ module _ (x : CountedElectionView) (is : IsCountedElection x) where
   -- ---- in a run
 
   module _ (run share : ℕ) (elected : List ElectedView) (rests : List ℕ) (words : IsRun m s share elected rests)
-      (share_is : share ≡ share_by x.rule.options.completion x.election x.rule.options.step run) where
+      (share_is : share ≡ share_by x.rule.options.completion x.rule.options.grain x.election (step_of x.election x.rule.options) run) where
     pub elected_known : AreKnown s elected
     elected_known = λ k d below. winner_known x is run share elected rests words k (get_or elected k d) below (get_or_default elected k d (get_or elected k d) below)
 
@@ -156,9 +157,9 @@ module _ (x : CountedElectionView) (is : IsCountedElection x) where
       no_equals before w later split other price left apart priced =
           let free =
           not_elected (before ++ w ∷ []) other (All-push (λ (v : ElectedView). v.place ≢ other) before w left.1 (λ same. apart (sym same))) in
-          let at = price_from_least (supporters_at s other) (rests_at before) (cost_at s other) price priced in
+          let at = sym (price_from_is_price s (rests_at before) other (cost_positive s words.is_support other left.0) (Some price) priced) in
           let none_here = none_at_split before w later split other (omega (arith, left.0, many)) in
-          less_by m s w.place w.price other price ((words.cheapest before w later split).cheapest other price left apart priced)
+          less_by m s w.place w.exact other price ((words.cheapest before w later split).cheapest other price left apart priced)
           (eqb-false _ _ (sym (tied_when m s (before ++ w ∷ []) (rests_at before) w other price free at) ∙ none_here))
 
   -- ---- among the added
@@ -169,15 +170,15 @@ module _ (x : CountedElectionView) (is : IsCountedElection x) where
 
     none_equal : (number winner : ℕ) (taken : List ℕ) → number < length x.counted.added
         → taken ≡ elected_places ++ take (number + 1) x.counted.added → winner ≡ slice_index x.counted.added number
-        → (position : ℕ) → position < length x.election.projects → is_equal_to s taken winner position ≡ false
+        → (position : ℕ) → position < length x.election.projects → is_equal_to u taken winner position ≡ false
     none_equal number winner taken below taken_is winner_is position known =
         let first : ToldTie = record { run = x.counted.outcome.raised; number = number + 1; tie = record { round = None; winner = winner; other = winner } } in
         let nothing : ties_at_added x number ≡ [] = none_at (ties_at_added x) (length x.counted.added) number none below in
-        none_told first (is_equal_to s taken winner)
-        (sym (told_of x first (is_equal_to s taken winner) (length s.costs) is many) ∙ (added_rows x is number winner taken taken_is winner_is ∙ nothing))
+        none_told first (is_equal_to u taken winner)
+        (sym (told_of x first (is_equal_to u taken winner) (length u.costs) is many) ∙ (added_rows x is number winner taken taken_is winner_is ∙ nothing))
         position known
 
-    pub none_alike : AreAlone s elected_places x.counted.added
+    pub none_alike : AreAlone u elected_places x.counted.added
     none_alike before place later split other known free apart votes cost =
         let added = x.counted.added in
         let taken = elected_places ++ (before ++ place ∷ []) in
@@ -190,6 +191,6 @@ module _ (x : CountedElectionView) (is : IsCountedElection x) where
         ap (λ (xs : List ℕ). is_taken xs other) (sym (append_assoc elected_places before (place ∷ [])))
         ∙ (list_any-append (λ p. p == other) (elected_places ++ before) (place ∷ [])
         ∙ or_from _ _ free (or_from _ _ (ne_eqb place other (λ same. apart (sym same))) refl)) in
-        let equal : is_equal_to s taken place other ≡ true =
+        let equal : is_equal_to u taken place other ≡ true =
         and_from _ _ (not_from_false _ still_free) (and_from _ _ (eq-eqb _ _ votes) (eq-eqb _ _ cost)) in
         true≢false (sym equal ∙ unequal)

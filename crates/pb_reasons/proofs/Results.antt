@@ -9,6 +9,7 @@ use Rattle.pb_core.specs.Election.{ElectionView, IsElection}
 use Rattle.pb_rounds.proofs.Added.{added_are_paid, added_have_votes, election_is_filled}
 use Rattle.pb_rounds.specs.MostVotes.{votes_at}
 use Rattle.pb_price.specs.Supporters.{cost_at, support_of, supporters_at, supporters_of}
+use Rattle.pb_price.specs.declared.grain.Grain.{Grain}
 use Rattle.pb_rounds.specs.Count.{spent_on}
 use Rattle.pb_rounds.specs.Outcome.{OutcomeView}
 use Rattle.pb_rounds.specs.declared.rule.Rule.{Rule}
@@ -77,10 +78,10 @@ winners_known c is =
     (result_is_added c.election c.counted is.is_election (counted_is_result c is)).known
 
 -- the reasons of the outcome, and with them what is added
-pub ending_filled : (e : ElectionView) (c : CountedView) (place : ℕ) (w : Option ElectedView)
-    → ending_with c.added place (outcome_ending e c.outcome place w) ≡ ending_of e c place w
-ending_filled e c place (Some w) = refl
-ending_filled e c place None = refl
+pub ending_filled : (grain : Grain) (e : ElectionView) (c : CountedView) (place : ℕ) (w : Option ElectedView)
+    → ending_with c.added place (outcome_ending grain e c.outcome place w) ≡ ending_of grain e c place w
+ending_filled grain e c place (Some w) = refl
+ending_filled grain e c place None = refl
 
 -- an ending told by a project's number
 pub ending_numbered : (added numbers : List ℕ) (projects place : ℕ) (ending : Ending) → AreNumbers projects added numbers → place < projects
@@ -90,19 +91,19 @@ ending_numbered added numbers projects place (Added a) are known = refl
 ending_numbered added numbers projects place (Lost l) are known = rw (are.numbered place known, added_has_number added place) refl
 
 -- what is told of a project, from what is told of it in the outcome and from its number
-pub project_filled : (e : ElectionView) (c : CountedView) (numbers : List ℕ) (place : ℕ) → AreNumbers (length e.projects) c.added numbers
-    → place < length e.projects → (reason : ProjectReason) → reason ≡ outcome_reason e c.outcome place
+pub project_filled : (grain : Grain) (e : ElectionView) (c : CountedView) (numbers : List ℕ) (place : ℕ) → AreNumbers (length e.projects) c.added numbers
+    → place < length e.projects → (reason : ProjectReason) → reason ≡ outcome_reason grain e c.outcome place
     → (number added : ℕ) → number ≡ slice_index numbers place → added ≡ length c.added
     → (ending : Ending) → ending ≡ ending_as reason.ending number added
-    → record { votes = reason.votes; ending = ending } ≡ project_reason e c place
-project_filled e c numbers place are known reason reason_is number added number_is added_is ending ending_is =
+    → record { votes = reason.votes; ending = ending } ≡ project_reason grain e c place
+project_filled grain e c numbers place are known reason reason_is number added number_is added_is ending ending_is =
     let winner = slice_get c.outcome.elected (round_of c.outcome.elected place) in
-    let end : ending ≡ ending_of e c place winner =
+    let end : ending ≡ ending_of grain e c place winner =
     ending_is
     ∙ ap (λ n. ending_as reason.ending n added) number_is
     ∙ ap (ending_as reason.ending (slice_index numbers place)) added_is
     ∙ ending_numbered c.added numbers (length e.projects) place reason.ending are known
     ∙ ap (λ (r : ProjectReason). ending_with c.added place r.ending) reason_is
-    ∙ ending_filled e c place winner in
+    ∙ ending_filled grain e c place winner in
     ap (λ (r : ProjectReason). record { votes = r.votes; ending = ending }) reason_is
     ∙ ap (λ (last : Ending). record { votes = length (supporters_at (support_of e) place); ending = last }) end

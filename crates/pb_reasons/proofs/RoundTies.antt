@@ -6,13 +6,15 @@ use Rattle.std.proofs.lemmas.Bool.{cases_eq, eq-eqb, ne_eqb, or_left, or_right, 
 use Rattle.std.proofs.lemmas.List.{get_or-set_other, get_or-set_same, get_or-take, length-map, length-set, length-take, take-take, take_more}
 use Rattle.std.proofs.lemmas.List.Folds.{list_any-append}
 use Rattle.std.proofs.lemmas.Option.{none-some}
-use Rattle.pb_price.specs.Supporters.{SupportView, support_of}
+use Rattle.pb_price.specs.Price.{HasPayers, PriceView}
+use Rattle.pb_price.specs.Supporters.{SupportView, support_in, support_of}
 use Rattle.pb_rounds.specs.Cheapest.{IsRun, rests_after}
-use Rattle.pb_rounds.specs.Count.{share_by}
+use Rattle.pb_rounds.specs.Count.{share_by, step_of}
 use Rattle.pb_rounds.specs.Key.{KeyView}
 use Rattle.pb_rounds.specs.MostVotes.{is_taken}
 use Rattle.pb_rounds.specs.Run.{ElectedView, RunView, is_elected, outcome_of}
 use Rattle.pb_rounds.specs.declared.measure.Measure.{Measure}
+use Rattle.pb_rounds.proofs.Payers.{run_has_payers}
 use Rattle.pb_rounds.proofs.RunIs.{only_run}
 use Rattle.pb_reasons.specs.AllTies.{run_ties, told}
 use Rattle.pb_reasons.specs.Counted.{winners_of}
@@ -47,10 +49,10 @@ module _ (s : SupportView) (elected : List ElectedView) (i : ℕ) (w : ElectedVi
       ∙ or_false (is_elected (take i elected) place)
 
   -- the bounds once the winner has none
-  module _ (rests : List ℕ) (bounds : List (Option ℕ)) (known : w.place < length s.costs) (h : AreTieBounds s (take i elected) rests bounds) where
-    still : (place : ℕ) (bound : Option ℕ) → place ≢ w.place → IsTieBound s (take i elected) rests place bound → IsTieBound s (take (i + 1) elected) rests place bound
+  module _ (rests : List ℕ) (bounds : List (Option PriceView)) (known : w.place < length s.costs) (h : AreTieBounds s (take i elected) rests bounds) where
+    still : (place : ℕ) (bound : Option PriceView) → place ≢ w.place → IsTieBound s (take i elected) rests place bound → IsTieBound s (take (i + 1) elected) rests place bound
     still place None other is = λ left. is (sym (as_before place other) ∙ left)
-    still place (Some bound) other is = (as_before place other ∙ is.0, is.1)
+    still place (Some bound) other is = (as_before place other ∙ is.0, is.1, is.2)
 
     none_there : slice_index_or (set bounds w.place None) w.place None ≡ None
     none_there = get_or-set_same bounds w.place None None (subst (λ n. w.place < n) (sym h.one_each) known)
@@ -80,18 +82,25 @@ module _ (s : SupportView) (elected : List ElectedView) (i : ℕ) (w : ElectedVi
       ];
     }
 
+-- the prices of a run have payers
+pub run_payers : (m : Measure) (s : SupportView) (share : ℕ) (elected : List ElectedView) (rests : List ℕ) → IsRun m s share elected rests
+    → All (λ (w : ElectedView). HasPayers s w.exact) elected
+run_payers m s share elected rests words =
+    subst (All (λ (w : ElectedView). HasPayers s w.exact))
+    (sym (ap (λ (r : RunView). r.elected) (only_run m s share (record { elected = elected; rests = rests }) words))) (run_has_payers m s words.is_support share)
+
 module _ (x : CountedElectionView) (is : IsCountedElection x) where
-  many : length (support_of x.election).costs ≡ length x.election.projects
+  many : length (support_in x.rule.options.grain x.election).costs ≡ length x.election.projects
   many = simp length-map
 
   -- the rows of a round
   pub round_rows : (run share : ℕ) (elected : List ElectedView) (i : ℕ) (w : ElectedView) → i < length elected → w ≡ get_or elected i w → (rests : List ℕ)
-      → rests ≡ rests_after (support_of x.election) (replicate (support_of x.election).voters share) (take i elected)
+      → rests ≡ rests_after (support_in x.rule.options.grain x.election) (replicate (support_in x.rule.options.grain x.election).voters share) (take i elected)
       → told_with x (record { run = run; number = i + 1; tie = record { round = Some (i + 1); winner = w.place; other = w.place } })
-      (is_taken (filter (is_tied x.rule.options.measure (support_of x.election) (take (i + 1) elected) rests w) (range_with_len 0 (length (support_of x.election).costs))))
+      (is_taken (filter (is_tied x.rule.options.measure (support_in x.rule.options.grain x.election) (take (i + 1) elected) rests w) (range_with_len 0 (length (support_in x.rule.options.grain x.election).costs))))
       ≡ round_ties x run share elected i
   round_rows run share elected i w below w_is rests rests_are =
-      let s = support_of x.election in
+      let s = support_in x.rule.options.grain x.election in
       let m = x.rule.options.measure in
       let front = take (i + 1) elected in
       let test = is_tied m s front rests w in
@@ -118,23 +127,29 @@ module _ (x : CountedElectionView) (is : IsCountedElection x) where
 
   -- ---- a whole run
 
-  module _ (run share : ℕ) (elected : List ElectedView) (rests : List ℕ) (words : IsRun x.rule.options.measure (support_of x.election) share elected rests) where
-    elected_by_run : elected ≡ (outcome_of x.rule.options.measure x.election share).elected
+  module _ (run share : ℕ) (elected : List ElectedView) (rests : List ℕ) (words : IsRun x.rule.options.measure (support_in x.rule.options.grain x.election) share elected rests) where
+    elected_by_run : elected ≡ (outcome_of x.rule.options.measure x.rule.options.grain x.election share).elected
     elected_by_run =
-        ap (λ (r : RunView). r.elected) (only_run x.rule.options.measure (support_of x.election) share (record { elected = elected; rests = rests }) words)
+        ap (λ (r : RunView). r.elected) (only_run x.rule.options.measure (support_in x.rule.options.grain x.election) share (record { elected = elected; rests = rests }) words)
 
-    pub winner_known : (i : ℕ) (w : ElectedView) → i < length elected → w ≡ get_or elected i w → w.place < length (support_of x.election).costs
+    pub winner_known : (i : ℕ) (w : ElectedView) → i < length elected → w ≡ get_or elected i w → w.place < length (support_in x.rule.options.grain x.election).costs
     winner_known i w below w_is =
         let all : All (λ w. w.place < length x.election.projects) elected =
-        subst (All (λ (w : ElectedView). w.place < length x.election.projects)) (sym elected_by_run) (run_elects_projects x.rule.options.measure x.election share).known in
+        subst (All (λ (w : ElectedView). w.place < length x.election.projects)) (sym elected_by_run) (run_elects_projects x.rule.options.measure x.rule.options.grain x.election share).known in
         let at = all i w below in
         let same : w.place ≡ (get_or elected i w).place = ap (λ (v : ElectedView). v.place) w_is in
         omega (arith, at, same, many)
 
-    pub run_rows : share ≡ share_by x.rule.options.completion x.election x.rule.options.step run
+    -- each price has payers
+    pub winner_payers : (i : ℕ) (w : ElectedView) → i < length elected → w ≡ get_or elected i w → HasPayers (support_in x.rule.options.grain x.election) w.exact
+    winner_payers i w below w_is =
+        let s = support_in x.rule.options.grain x.election in
+        subst (λ (v : ElectedView). HasPayers s v.exact) (sym w_is) (run_payers x.rule.options.measure s share elected rests words i w below)
+
+    pub run_rows : share ≡ share_by x.rule.options.completion x.rule.options.grain x.election (step_of x.election x.rule.options) run
         → flat_map (round_ties x run share elected) (range_with_len 0 (length elected)) ≡ run_ties x run
     run_rows share_is =
-        let at : ℕ → List ElectedView = λ n. (outcome_of x.rule.options.measure x.election n).elected in
+        let at : ℕ → List ElectedView = λ n. (outcome_of x.rule.options.measure x.rule.options.grain x.election n).elected in
         ap (λ (es : List ElectedView). flat_map (round_ties x run share es) (range_with_len 0 (length es))) elected_by_run
         ∙ ap (λ n. flat_map (round_ties x run n (at n)) (range_with_len 0 (length (at n)))) share_is
 

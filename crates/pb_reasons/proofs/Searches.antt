@@ -9,7 +9,7 @@ use Rattle.pb_rounds.specs.Counted.{IsCountFault, IsCountOf}
 use Rattle.pb_rounds.specs.Outcome.{OutcomeView}
 use Rattle.pb_rounds.specs.TieOrder.{IsSortedFor}
 use Rattle.pb_rounds.specs.declared.count_fault.CountFault.{CountFault}
-use Rattle.pb_rounds.specs.declared.count_fault.CountFault.TheVariants.{WorkerCount, StepRange, RaisesRange, RaisesSpent, NoMemory}
+use Rattle.pb_rounds.specs.declared.count_fault.CountFault.TheVariants.{WorkerCount, StepRange, RaisesRange, RaisesSpent, NoMemory, TooFine}
 use Rattle.pb_rounds.specs.declared.rule.Rule.{Rule}
 use Rattle.pb_reasons.specs.WhatIf.{CanBe, IsFound, IsTrue, Says, Seen, wins}
 use Rattle.pb_reasons.specs.Inner.Searching.{AreEnds, AreNear, AreOpposed, HasWon, IsSaid, IsStop}
@@ -92,18 +92,21 @@ found_same s q change low high a b a_is b_is a_at b_at same = record {
 }
 
 -- a count's fault ends a search, but for raises that are spent; and what ends one is a fault of each count
-pub stop_by : (e : ElectionView) (q : Question) (fault : CountFault) → fault ≢ RaisesSpent → (fault ≢ NoMemory → IsFaultIn q.rule e fault) → IsStop q fault
-stop_by e q WorkerCount apart is = record { out_of_range = λ unlike. let (order, sorted, is_put, out) = is unlike in out; not_spent = apart }
-stop_by e q StepRange apart is = record { out_of_range = λ unlike. let (order, sorted, is_put, out) = is unlike in out; not_spent = apart }
-stop_by e q RaisesRange apart is = record { out_of_range = λ unlike. let (order, sorted, is_put, out) = is unlike in out; not_spent = apart }
-stop_by e q RaisesSpent apart is = absurd (apart refl)
-stop_by e q NoMemory apart is = record { out_of_range = λ unlike. absurd (unlike refl); not_spent = apart }
+pub stop_by : (e : ElectionView) (q : Question) (fault : CountFault) → fault ≢ RaisesSpent → fault ≢ TooFine
+    → (fault ≢ NoMemory → IsFaultIn q.rule e fault) → IsStop q fault
+stop_by e q WorkerCount apart coarse is = record { out_of_range = λ unlike. let (order, sorted, is_put, out) = is unlike in out; not_spent = apart; not_fine = coarse }
+stop_by e q StepRange apart coarse is = record { out_of_range = λ unlike. let (order, sorted, is_put, out) = is unlike in out; not_spent = apart; not_fine = coarse }
+stop_by e q RaisesRange apart coarse is = record { out_of_range = λ unlike. let (order, sorted, is_put, out) = is unlike in out; not_spent = apart; not_fine = coarse }
+stop_by e q RaisesSpent apart coarse is = absurd (apart refl)
+stop_by e q TooFine apart coarse is = absurd (coarse refl)
+stop_by e q NoMemory apart coarse is = record { out_of_range = λ unlike. absurd (unlike refl); not_spent = apart; not_fine = coarse }
 
 fault_of : (e : ElectionView) (q : Question) (fault : CountFault) → IsStop q fault → fault ≢ NoMemory → IsCountFault e q.rule.options fault
 fault_of e q WorkerCount stop unlike = stop.out_of_range unlike
 fault_of e q StepRange stop unlike = stop.out_of_range unlike
 fault_of e q RaisesRange stop unlike = stop.out_of_range unlike
 fault_of e q RaisesSpent stop unlike = absurd (stop.not_spent refl)
+fault_of e q TooFine stop unlike = absurd (stop.not_fine refl)
 fault_of e q NoMemory stop unlike = absurd (unlike refl)
 
 fault_of_stop : (e sorted : ElectionView) (order : List ℕ) (q : Question) (fault : CountFault) → IsSortedFor q.rule.ties e order sorted → IsStop q fault → fault ≢ NoMemory
@@ -117,8 +120,11 @@ stopped_after e sorted order q (Ok x) is_put stop = tt
 stopped_after e sorted order q (Err fault) is_put stop = fault_of_stop e sorted order q fault is_put stop
 
 pub memory_stops : (q : Question) → IsStop q NoMemory
-memory_stops q = record { out_of_range = λ unlike. absurd (unlike refl); not_spent = memory_spent }
+memory_stops q = record { out_of_range = λ unlike. absurd (unlike refl); not_spent = memory_spent; not_fine = memory_fine }
   where
+    memory_fine : NoMemory ≢ TooFine
+    memory_fine same = cc
+
     memory_spent : NoMemory ≢ RaisesSpent
     memory_spent same = cc
 

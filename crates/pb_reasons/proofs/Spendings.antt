@@ -12,7 +12,8 @@ use Rattle.std.proofs.lemmas.List.Sums.{fold_push, sum_by-cons}
 use Rattle.pb_core.specs.Inner.Approved.{approves}
 use Rattle.pb_core.specs.Election.{ElectionView, IsElection, VoterView}
 use Rattle.pb_price.proofs.BuiltLists.{ballot_known, range_with_len_more}
-use Rattle.pb_price.specs.Supporters.{SupportView, ballot_at, support_of, supporters_at, supporters_of}
+use Rattle.pb_price.specs.Supporters.{SupportView, ballot_at, support_in, support_of, supporters_at, supporters_of}
+use Rattle.pb_price.specs.declared.grain.Grain.{Grain}
 use Rattle.pb_rounds.proofs.Charged.{payment_at}
 use Rattle.pb_rounds.proofs.Explained.{paid_in_turn-cons}
 use Rattle.pb_rounds.proofs.Listed.{contains_from_listed, listed_from_contains}
@@ -30,6 +31,7 @@ use Rattle.pb_reasons.specs.Inner.Spending.{AreMost, NotesSpent, counts_within, 
 use Rattle.pb_reasons.specs.Inner.Told.{AreApart, CanBeTold}
 use Rattle.pb_reasons.specs.Reasons.{paid_for, round_of, voter_payments}
 use Rattle.pb_reasons.specs.declared.payment.Payment.{Payment}
+use Rattle.pb_reasons.proofs.EachGrain.{same_payments}
 use Rattle.pb_reasons.proofs.VoterTold.{supports}
 
 -- sums of numbers that are the same, or that are nothing
@@ -186,12 +188,14 @@ ballot_rises e voter h is_voter =
     rw same (AllPairs-from_increasing _ (h.are_voters voter d is_voter).ballot_rises)
 
 -- what a voter's payments come to, as the law says it
-pub within_need_is : (m : Measure) (e : ElectionView) (o : OutcomeView) → IsElection e → CanBeTold e o → (place voter : ℕ) → voter < length e.voters
-    → within_need m (support_of e) place (voter_payments e o voter)
-    ≡ paid_within m (support_of e) o.share o.elected place (needed (support_of e) place) voter
-within_need_is m e o h told place voter is_voter =
-    let s = support_of e in
+pub within_need_is : (m : Measure) (grain : Grain) (e : ElectionView) (o : OutcomeView) → IsElection e → CanBeTold grain e o → (place voter : ℕ) → voter < length e.voters
+    → within_need m (support_in grain e) place (voter_payments e o voter)
+    ≡ paid_within m (support_in grain e) o.share o.elected place (needed (support_in grain e) place) voter
+within_need_is m grain e o h told place voter is_voter =
+    let s = support_in grain e in
     payments_counted m s place (λ p. paid_for e o p voter) (ballot_at e voter)
+    ∙ ap (λ (rows : List (List ℕ)). sum_by (λ p. counts_within m s place (record { place = p; amount = slice_index (slice_index_or rows (round_of o.elected p) []) voter })) (ballot_at e voter))
+    (sym (same_payments grain e (replicate (length e.voters) o.share) o.elected))
     ∙ all_by_place m s place (length e.projects) voter (ballot_at e voter) (ballot_rises e voter h is_voter)
     (λ p known. supports e voter p is_voter known) o.elected told.known told.apart (replicate s.voters o.share)
 
@@ -280,7 +284,7 @@ module _ (c : CountedElectionView) where
   -- all voters
   pub most_all : (most : List ℕ) → AreMost c (length c.election.voters) most → (place : ℕ) → place < length c.election.projects
       → is_taken (winners_of c.counted) place ≡ false
-      → slice_index most place ≡ spent c.rule.options.measure (support_of c.election) c.counted.outcome place
+      → slice_index most place ≡ spent c.rule.options.measure (support_in c.rule.options.grain c.election) c.counted.outcome place
   unfolding supporters_of
   most_all most are place known free =
       are.each place known free

@@ -9,22 +9,24 @@ use Rattle.std.proofs.lemmas.List.Elements.{All-append, All-cons, All-filter, Al
 use Rattle.std.proofs.lemmas.List.Folds.{list_any-append}
 use Rattle.std.proofs.lemmas.Option.{get_or_from_slice_get, slice_get_within}
 use Rattle.pb_core.specs.Election.{ElectionView}
-use Rattle.pb_price.proofs.Payments.{least_from_price}
-use Rattle.pb_price.proofs.SupporterLists.{support_form}
-use Rattle.pb_price.specs.Price.{price_at}
-use Rattle.pb_price.specs.Supporters.{IsSupport, SupportView, cost_at, supporters_at, support_of}
+use Rattle.pb_price.proofs.Prices.{is_price_from_at}
+use Rattle.pb_price.proofs.SupporterLists.{cost_positive, support_form}
+use Rattle.pb_price.specs.Inner.Support.{HasSupportForm}
+use Rattle.pb_price.specs.Price.{PriceView, price_at}
+use Rattle.pb_price.specs.declared.grain.Grain.{Grain}
+use Rattle.pb_price.specs.Supporters.{IsSupport, SupportView, cost_at, support_in, support_of}
 use Rattle.pb_rounds.proofs.Computed.{computed_is_filled}
 use Rattle.pb_rounds.proofs.Filled.{IsFilled}
 use Rattle.pb_rounds.proofs.InWords.{first_comes}
 use Rattle.pb_rounds.proofs.Listed.{range_rises, RisesWithin-below}
-use Rattle.pb_rounds.specs.Cheapest.{ComesFirst, IsCheaper, IsRun, rests_after}
+use Rattle.pb_rounds.specs.Cheapest.{IsCheaper, IsRun, rests_after}
+use Rattle.pb_rounds.specs.Inner.Cheapest.{ComesFirst}
 use Rattle.pb_rounds.specs.Count.{spent_on}
 use Rattle.pb_rounds.specs.Counted.{IsCountOf}
 use Rattle.pb_rounds.specs.MostVotes.{FitsFirst, fits, is_taken, most_votes_first, votes_at}
 use Rattle.pb_rounds.specs.Outcome.{OutcomeView}
-use Rattle.pb_rounds.specs.Run.{ElectedView, is_elected}
+use Rattle.pb_rounds.specs.Run.{ElectedView, is_elected, weight_of}
 use Rattle.pb_rounds.specs.declared.measure.Measure.{Measure}
-use Rattle.pb_rounds.specs.declared.measure.Measure.TheVariants.{Votes, Cost}
 use Rattle.pb_rounds.specs.declared.rule.FillUp.{FillUp}
 use Rattle.pb_rounds.specs.declared.rule.FillUp.TheVariants.{Nothing, MostVotes}
 use Rattle.pb_rounds.specs.declared.rule.Rule.{Rule}
@@ -44,13 +46,11 @@ earlier : (number other place other_place : ℕ) → ComesFirst number other pla
 earlier number other place other_place (inl less) same = absurd (omega (arith, less, same))
 earlier number other place other_place (inr more) same = more.1
 
-pub as_good_is_later : (m : Measure) (s : SupportView) (w : ElectedView) (place price : ℕ) → IsCheaper m s w.place w.price place price
+pub as_good_is_later : (m : Measure) (s : SupportView) (w : ElectedView) (place : ℕ) (price : PriceView) → IsCheaper m s w.place w.exact place price
     → is_as_good m s w place price ≡ true → w.place < place
-as_good_is_later Votes s w place price cheaper good =
-    let same : price * 1 ≡ w.price * 1 = eqb-true (price * 1) (w.price * 1) good in
-    earlier w.price price w.place place cheaper (omega (arith, same))
-as_good_is_later Cost s w place price cheaper good =
-    earlier (w.price * cost_at s place) (price * cost_at s w.place) w.place place cheaper (sym (eqb-true (price * cost_at s w.place) (w.price * cost_at s place) good))
+as_good_is_later m s w place price cheaper good =
+    earlier (w.exact.amount * (price.payers * weight_of m s place)) (price.amount * (w.exact.payers * weight_of m s w.place)) w.place place cheaper
+    (sym (eqb-true (price.amount * (w.exact.payers * weight_of m s w.place)) (w.exact.amount * (price.payers * weight_of m s place)) good))
 
 module _ (m : Measure) (s : SupportView) (share : ℕ) (elected : List ElectedView) (after : List ℕ) (run : IsRun m s share elected after) where
   module _ (round : ℕ) (w : ElectedView) (here : slice_get elected round ≡ Some w) where
@@ -65,7 +65,7 @@ module _ (m : Measure) (s : SupportView) (share : ℕ) (elected : List ElectedVi
     get_place : (get_or elected round w).place ≡ w.place
     get_place = ap (λ (v : ElectedView). v.place) (get_or_from_slice_get elected round w w here)
 
-    later_by : (place : ℕ) → place < length s.costs → is_elected elected place ≡ false → (answer : Option ℕ)
+    later_by : (place : ℕ) → place < length s.costs → is_elected elected place ≡ false → (answer : Option PriceView)
         → price_at s (rests_after s (replicate s.voters share) (take round elected)) place ≡ answer
         → option_map_or (is_as_good m s w place) answer false ≡ true → w.place < place
     later_by place known left None priced good = absurd (false≢true good)
@@ -74,7 +74,7 @@ module _ (m : Measure) (s : SupportView) (share : ℕ) (elected : List ElectedVi
         let apart : place ≢ w.place = λ same. others round w below (get_place ∙ sym same) in
         as_good_is_later m s w place price
         ((run.cheapest (take round elected) w (drop (round + 1) elected) split).cheapest place price (known, All-take (λ v. v.place ≢ place) round elected others) apart
-        (least_from_price (supporters_at s place) (rests_after s (replicate s.voters share) (take round elected)) (cost_at s place) price priced)) good
+        (is_price_from_at s (rests_after s (replicate s.voters share) (take round elected)) place (cost_positive s run.is_support place known) (Some price) (sym priced))) good
 
     tied_is_later : (place : ℕ) → place < length s.costs
         → is_tied m s elected (rests_after s (replicate s.voters share) (take round elected)) w place ≡ true → w.place < place
@@ -155,21 +155,35 @@ module _ (s : SupportView) where
         All-append (λ (t : Tie). t.winner < t.other) (ties_with_added s c w) (flat_map (ties_with_added s c) ws)
         (one_added w (All-head (IsBeforeTied s (winners_of c)) w ws h)) (all_added ws (All-tail (IsBeforeTied s (winners_of c)) w ws h))
 
-added_later : (e : ElectionView) (o : OutcomeView) → IsSupport (support_of e) → (fill_up : FillUp)
-    → All (λ (t : Tie). t.winner < t.other) (flat_map (ties_with_added (support_of e) (counted e fill_up o)) (counted e fill_up o).added)
-added_later e o is Nothing = All-nil (λ (t : Tie). t.winner < t.other)
-added_later e o is MostVotes =
+-- as most votes first takes them, whose supporters are counted in hundredths
+as_filled : (grain : Grain) (e : ElectionView) → IsSupport (support_in grain e) → HasSupportForm (support_of e)
+as_filled grain e is = let form = support_form (support_in grain e) is in record {
+  few_voters = form.few_voters;
+  few_projects = form.few_projects;
+  paired = form.paired;
+  costs_positive = form.costs_positive;
+  costs_bounded = form.costs_bounded;
+  costs_fit = λ k d below. let small = form.costs_bounded k d below in omega (arith, small);
+  supporters_rise = form.supporters_rise;
+  supporters_few = form.supporters_few;
+  supporters_known = form.supporters_known;
+}
+
+added_later : (grain : Grain) (e : ElectionView) (o : OutcomeView) → IsSupport (support_in grain e) → (fill_up : FillUp)
+    → All (λ (t : Tie). t.winner < t.other) (flat_map (ties_with_added (support_in grain e) (counted e fill_up o)) (counted e fill_up o).added)
+added_later grain e o is Nothing = All-nil (λ (t : Tie). t.winner < t.other)
+added_later grain e o is MostVotes =
     let s = support_of e in
     let taken = map (λ (w : ElectedView). w.place) o.elected in
     let left = e.budget - spent_on s o.elected in
     all_added s (counted e MostVotes o) (most_votes_first s taken left)
-    (added_are_before s taken left (most_votes_first s taken left) (computed_is_filled s (support_form s is) left taken left (omega arith)))
+    (added_are_before s taken left (most_votes_first s taken left) (computed_is_filled s (as_filled grain e is) left taken left (omega arith)))
 
 pub ties_are_later : (e : ElectionView) (rule : Rule) (o : OutcomeView) → IsCountOf e rule.options o
-    → All (λ (t : Tie). t.winner < t.other) (ties_of rule.options.measure e (counted e rule.fill_up o))
+    → All (λ (t : Tie). t.winner < t.other) (ties_of rule.options.measure (support_in rule.options.grain e) (counted e rule.fill_up o))
 unfolding ties_of
 ties_are_later e rule o count =
     All-take (λ (t : Tie). t.winner < t.other) 100 _
     (All-append (λ (t : Tie). t.winner < t.other) _ _
-    (all_rounds rule.options.measure (support_of e) o.share o.elected o.rests count.run_is (range_with_len 0 (length o.elected)))
-    (added_later e o count.run_is.is_support rule.fill_up))
+    (all_rounds rule.options.measure (support_in rule.options.grain e) o.share o.elected o.rests count.run_is (range_with_len 0 (length o.elected)))
+    (added_later rule.options.grain e o count.run_is.is_support rule.fill_up))

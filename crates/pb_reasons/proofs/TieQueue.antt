@@ -12,8 +12,11 @@ use Rattle.std.proofs.lemmas.Bool.{cases_eq, lt-leb, ne_eqb, or_from, true≢fal
 use Rattle.std.proofs.lemmas.List.{append_assoc, get_or-set_other, get_or-set_same, map-append}
 use Rattle.std.proofs.lemmas.List.Elements.{Contains-get_or}
 use Rattle.std.proofs.lemmas.Option.{none-some, same_Some}
-use Rattle.std.proofs.Math.Nat.{mul-le-mul_left}
-use Rattle.pb_price.specs.Supporters.{SupportView, cost_at}
+use Rattle.std.proofs.Math.Nat.{mul-le-mul, mul-le-mul_left}
+use Rattle.pb_price.specs.Inner.Payment.{nothing}
+use Rattle.pb_price.specs.Price.{HasPayers, PriceView}
+use Rattle.pb_price.specs.Supporters.{IsSupport, SupportView}
+use Rattle.pb_price.proofs.SupporterLists.{cost_positive}
 use Rattle.pb_rounds.specs.Inner.KeyOrder.{greater_from}
 use Rattle.pb_rounds.specs.Inner.Listed.{is_listed}
 use Rattle.pb_rounds.specs.Inner.Progress.{RisesWithin}
@@ -21,13 +24,12 @@ use Rattle.pb_rounds.specs.Inner.Queue.{IsDone, IsFull, IsIn, Rises, places_of}
 use Rattle.pb_rounds.specs.Key.{KeyView, is_before, key_cmp}
 use Rattle.pb_rounds.specs.Run.{ElectedView, is_elected, key_of, weight_of}
 use Rattle.pb_rounds.specs.declared.measure.Measure.{Measure}
-use Rattle.pb_rounds.specs.declared.measure.Measure.TheVariants.{Votes, Cost}
 use Rattle.pb_rounds.proofs.Listed.{contains_from_listed, listed_from_contains, rises_within}
 use Rattle.pb_rounds.proofs.QueueLists.{before_chain, in_either, in_from_listed, in_left, in_right, listed_from_in, put_from, put_is_in, put_keeps, rises_from_sorted, rises_suffix}
 use Rattle.pb_reasons.specs.Inner.Rounds.{AreOpeningBounds, AreTieBounds, IsTieBound, scaled, target, ties_among, ties_with}
 use Rattle.pb_reasons.specs.Inner.TieQueue.{AreQueued, PutsBound, TakesDue, limit_of}
 use Rattle.pb_reasons.specs.Ties.{is_tied}
-use Rattle.pb_reasons.proofs.TiedRounds.{no_tie}
+use Rattle.pb_reasons.proofs.TiedRounds.{no_bound_no_tie, no_tie}
 
 -- ---- heads are taken out
 
@@ -49,7 +51,7 @@ takes_more queue rest later head places h rest_is = record {
 
 -- ---- a bound goes into the queue
 
-pub puts_some : (m : Measure) (s : SupportView) (place least : ℕ) (queue : List KeyView) (k : KeyView) → k ≡ key_of m s place least
+pub puts_some : (m : Measure) (s : SupportView) (place : ℕ) (least : PriceView) (queue : List KeyView) (k : KeyView) → k ≡ key_of m s place least
     → (new : List KeyView) → new ≡ insert_key key_cmp queue k → IsStrictlySortedBy key_cmp new → PutsBound m s place (Some least) queue new
 puts_some m s place least queue k k_is new new_is sorted = record {
   from = λ b i. elim (put_from k b queue (subst (IsIn b) new_is i)) [
@@ -72,21 +74,25 @@ less_first Greater second third greater e = absurd (true≢false (sym e))
 less_is : (x y : ℕ) → nat_cmp x y ≡ Less → x < y
 less_is x y e = rw e at (ranks x y)
 
-module _ (s : SupportView) (w : ElectedView) (place bound : ℕ) (known : place < length s.costs) where
-  ratio_beyond : (m : Measure) → is_before (limit_of m s w) (key_of m s place bound) ≡ true
-      → w.price * max 1 (weight_of m s place) < bound * max 1 (weight_of m s w.place)
-  ratio_beyond m e = less_is _ _ (less_first _ _ _ (greater_from (length s.costs) place known) e)
+-- the winner's price is divided by something
+abbrev pub IsDivided : Measure → SupportView → ElectedView → Type 0
+IsDivided m s w = (1 ≤ weight_of m s w.place) × IsSupport s × HasPayers s w.exact
+
+module _ (m : Measure) (s : SupportView) (w : ElectedView) (place : ℕ) (bound : PriceView) (known : place < length s.costs) where
+  ratio_beyond : is_before (limit_of m s w) (key_of m s place bound) ≡ true
+      → w.exact.amount * (max 1 bound.payers * max 1 (weight_of m s place)) < bound.amount * (max 1 w.exact.payers * max 1 (weight_of m s w.place))
+  ratio_beyond e = less_is _ _ (less_first _ _ _ (greater_from (length s.costs) place known) e)
 
   -- a bound beyond the limit is above a tie
-  beyond : (m : Measure) → 1 ≤ weight_of m s w.place → is_before (limit_of m s w) (key_of m s place bound) ≡ true
-      → target m s w place < scaled m s w bound
-  beyond Votes positive e = let ratio : w.price * 1 < bound * 1 = ratio_beyond Votes e in omega (arith, ratio)
-  beyond Cost positive e =
-      let ratio = ratio_beyond Cost e in
-      let more : cost_at s place ≤ max 1 (cost_at s place) = omega arith in
-      let same : max 1 (cost_at s w.place) ≡ cost_at s w.place = omega (arith, positive) in
-      let up = mul-le-mul_left w.price more in
-      let down = ap (λ n. bound * n) same in
+  beyond : IsDivided m s w → is_before (limit_of m s w) (key_of m s place bound) ≡ true → target m s w place bound < scaled m s w bound
+  beyond (positive, is_support, has) e =
+      let ratio = ratio_beyond e in
+      let less : bound.payers ≤ max 1 bound.payers = omega arith in
+      let lighter : weight_of m s place ≤ max 1 (weight_of m s place) = omega arith in
+      let up = mul-le-mul_left w.exact.amount (mul-le-mul less lighter) in
+      let some : max 1 w.exact.payers ≡ w.exact.payers = omega (arith, has.some) in
+      let heavy : max 1 (weight_of m s w.place) ≡ weight_of m s w.place = omega (arith, positive) in
+      let down = ap (λ n. bound.amount * (n * max 1 (weight_of m s w.place))) some ∙ ap (λ n. bound.amount * (w.exact.payers * n)) heavy in
       omega (arith, ratio, up, down)
 
 after_done : (limit : KeyView) (rest : List KeyView) → IsDone (Some limit) rest → Rises rest → (b : KeyView) → IsIn b rest → is_before limit b ≡ true
@@ -96,8 +102,8 @@ after_done limit (head ∷ rest) done (first, later) b (inr i) = before_chain li
 
 -- ---- what is due
 
-module _ (m : Measure) (s : SupportView) (elected : List ElectedView) (rests : List ℕ) (w : ElectedView) (positive : 1 ≤ weight_of m s w.place)
-    (bounds : List (Option ℕ)) (are : AreTieBounds s elected rests bounds) (queue rest : List KeyView) (due : List ℕ)
+module _ (m : Measure) (s : SupportView) (elected : List ElectedView) (rests : List ℕ) (w : ElectedView) (ready : IsDivided m s w)
+    (bounds : List (Option PriceView)) (are : AreTieBounds s elected rests bounds) (queue rest : List KeyView) (due : List ℕ)
     (queued : AreQueued m s [] bounds queue) (takes : TakesDue (limit_of m s w) queue rest due) where
   place_known : (place : ℕ) → Contains due place → place < length s.costs
   place_known place among =
@@ -113,7 +119,7 @@ module _ (m : Measure) (s : SupportView) (elected : List ElectedView) (rests : L
   taken_is_due : (k : KeyView) → IsIn k takes.heads → is_listed due k.place ≡ true
   taken_is_due k i = listed_from_contains due k.place ((takes.members k.place).0 (contains_from_listed (places_of takes.heads) k.place (listed_from_in k takes.heads i)))
 
-  still_queued : (place bound : ℕ) → place < length s.costs → is_listed due place ≡ false → slice_index_or bounds place None ≡ Some bound
+  still_queued : (place : ℕ) (bound : PriceView) → place < length s.costs → is_listed due place ≡ false → slice_index_or bounds place None ≡ Some bound
       → IsIn (key_of m s place bound) rest
   still_queued place bound known out e =
       elim (in_either (key_of m s place bound) takes.heads rest (subst (IsIn (key_of m s place bound)) takes.cut (queued.whole place bound known refl e))) [
@@ -129,12 +135,12 @@ module _ (m : Measure) (s : SupportView) (elected : List ElectedView) (rests : L
   }
 
   module _ (place : ℕ) (known : place < length s.costs) (out : is_listed due place ≡ false) where
-    untied_by : (bound : Option ℕ) → slice_index_or bounds place None ≡ bound → is_tied m s elected rests w place ≡ false
-    untied_by None e = no_tie m s elected rests w place None (subst (IsTieBound s elected rests place) e (are.each place known)) refl
+    untied_by : (bound : Option PriceView) → slice_index_or bounds place None ≡ bound → is_tied m s elected rests w place ≡ false
+    untied_by None e = no_bound_no_tie m s elected rests w place (subst (IsTieBound s elected rests place) e (are.each place known))
     untied_by (Some bound) e =
-        no_tie m s elected rests w place (Some bound) (subst (IsTieBound s elected rests place) e (are.each place known))
-        (lt-leb (scaled m s w bound) (target m s w place)
-        (beyond s w place bound known m positive
+        no_tie m s elected rests w place (cost_positive s ready.1 place known) (Some bound) (subst (IsTieBound s elected rests place) e (are.each place known))
+        (lt-leb (scaled m s w bound) (target m s w place bound)
+        (beyond m s w place bound known ready
         (after_done (limit_of m s w) rest takes.done rest_rises (key_of m s place bound) (still_queued place bound known out e))))
 
     untied : is_tied m s elected rests w place ≡ false
@@ -165,26 +171,26 @@ filter_listed p (x ∷ xs) low (suc n) high e (from, to, rest) out = elim (cases
 ]
 
 -- what is not due does not tie
-pub those_are_due : (m : Measure) (s : SupportView) (elected : List ElectedView) (rests : List ℕ) (w : ElectedView) → 1 ≤ weight_of m s w.place
-    → (bounds : List (Option ℕ)) → AreTieBounds s elected rests bounds → (queue rest : List KeyView) (due : List ℕ)
+pub those_are_due : (m : Measure) (s : SupportView) (elected : List ElectedView) (rests : List ℕ) (w : ElectedView) → IsDivided m s w
+    → (bounds : List (Option PriceView)) → AreTieBounds s elected rests bounds → (queue rest : List KeyView) (due : List ℕ)
     → AreQueued m s [] bounds queue → TakesDue (limit_of m s w) queue rest due
     → filter (is_tied m s elected rests w) due ≡ filter (is_tied m s elected rests w) (range_with_len 0 (length s.costs))
-those_are_due m s elected rests w positive bounds are queue rest due queued takes =
+those_are_due m s elected rests w ready bounds are queue rest due queued takes =
     filter_listed (is_tied m s elected rests w) due 0 (length s.costs) (length s.costs) (omega arith)
-    (rises_within due 0 (length s.costs) (λ some. omega arith) (due_known m s elected rests w positive bounds are queue rest due queued takes) takes.rise)
-    (λ k a b out. untied m s elected rests w positive bounds are queue rest due queued takes k b out)
+    (rises_within due 0 (length s.costs) (λ some. omega arith) (due_known m s elected rests w ready bounds are queue rest due queued takes) takes.rise)
+    (λ k a b out. untied m s elected rests w ready bounds are queue rest due queued takes k b out)
 
-pub ties_are_due : (m : Measure) (s : SupportView) (elected : List ElectedView) (rests : List ℕ) (w : ElectedView) → 1 ≤ weight_of m s w.place
-    → (bounds : List (Option ℕ)) → AreTieBounds s elected rests bounds → (queue rest : List KeyView) (due : List ℕ)
+pub ties_are_due : (m : Measure) (s : SupportView) (elected : List ElectedView) (rests : List ℕ) (w : ElectedView) → IsDivided m s w
+    → (bounds : List (Option PriceView)) → AreTieBounds s elected rests bounds → (queue rest : List KeyView) (due : List ℕ)
     → AreQueued m s [] bounds queue → TakesDue (limit_of m s w) queue rest due → (round : ℕ)
     → ties_among m s elected rests w round due ≡ ties_with m s elected rests w round (length s.costs)
-ties_are_due m s elected rests w positive bounds are queue rest due queued takes round =
+ties_are_due m s elected rests w ready bounds are queue rest due queued takes round =
     ap (map (λ place. record { round = Some round; winner = w.place; other = place }))
-    (those_are_due m s elected rests w positive bounds are queue rest due queued takes)
+    (those_are_due m s elected rests w ready bounds are queue rest due queued takes)
 
 -- ---- one project is put back
 
-pub one_put : (m : Measure) (s : SupportView) (later : List ℕ) (bounds : List (Option ℕ)) (queue new : List KeyView) (place : ℕ) (bound : Option ℕ)
+pub one_put : (m : Measure) (s : SupportView) (later : List ℕ) (bounds : List (Option PriceView)) (queue new : List KeyView) (place : ℕ) (bound : Option PriceView)
     → AreQueued m s (place ∷ later) bounds queue → place < length s.costs → length bounds ≡ length s.costs → PutsBound m s place bound queue new
     → AreQueued m s later (set bounds place bound) new
 one_put m s later bounds queue new place bound h here long put = record {
@@ -206,12 +212,12 @@ one_put m s later bounds queue new place bound h here long put = record {
 
 -- ---- before the first round
 
-opening_by : (m : Measure) (s : SupportView) (place bound : ℕ) (queue : List KeyView) → IsIn (key_of m s place 0) queue
-    → (b : Bool) → cond b None (Some 0) ≡ Some bound → IsIn (key_of m s place bound) queue
+opening_by : (m : Measure) (s : SupportView) (place : ℕ) (bound : PriceView) (queue : List KeyView) → IsIn (key_of m s place nothing) queue
+    → (b : Bool) → cond b None (Some nothing) ≡ Some bound → IsIn (key_of m s place bound) queue
 opening_by m s place bound queue there true e = absurd (none-some bound e)
 opening_by m s place bound queue there false e = subst (λ n. IsIn (key_of m s place n) queue) (same_Some _ _ e) there
 
-pub opening_queued : (m : Measure) (s : SupportView) (elected : List ElectedView) (bounds : List (Option ℕ)) (queue : List KeyView)
+pub opening_queued : (m : Measure) (s : SupportView) (elected : List ElectedView) (bounds : List (Option PriceView)) (queue : List KeyView)
     → AreOpeningBounds (length s.costs) elected bounds → IsFull m s (length s.costs) queue → AreQueued m s [] bounds queue
 opening_queued m s elected bounds queue h full = record {
   known = λ k i. (full.sound k i).0;

@@ -10,7 +10,7 @@ use Rattle.std.proofs.lemmas.List.Elements.{All-contains, All-head, All-tail, fi
 use Rattle.std.proofs.lemmas.List.Kept.{IsStrictlyIncreasing-filter}
 use Rattle.pb_core.proofs.Members.{filter_rises, from_filter, in_filter}
 use Rattle.pb_core.specs.Election.{ElectionView, IsElection, VoterView}
-use Rattle.pb_price.specs.Price.{price_at}
+use Rattle.pb_price.specs.Price.{PriceView, price_at}
 use Rattle.pb_price.specs.Supporters.{SupportView, ballot_at, cost_at, support_of, supporters_at}
 use Rattle.pb_rounds.proofs.Charged.{payment_at}
 use Rattle.pb_rounds.proofs.Explained.{paid_in_turn-cons, paid_in_turn-nil}
@@ -43,26 +43,26 @@ others_are f same (place ∷ places) =
 
 -- a project is tied where it is not elected, and has a price that is as good
 module _ (m : Measure) (s : SupportView) (elected : List ElectedView) (rests : List ℕ) (w : ElectedView) (place : ℕ) where
-  abbrev IsAsGood : ℕ → Type 0
-  IsAsGood price = price * weight_of m s w.place ≡ w.price * weight_of m s place
+  abbrev IsAsGood : PriceView → Type 0
+  IsAsGood price = price.amount * (w.exact.payers * weight_of m s w.place) ≡ w.exact.amount * (price.payers * weight_of m s place)
 
-  abbrev as_good : Option ℕ → Bool
-  as_good answer = option_map_or (λ price. price * weight_of m s w.place == w.price * weight_of m s place) answer false
+  abbrev as_good : Option PriceView → Bool
+  as_good answer = option_map_or (λ price. price.amount * (w.exact.payers * weight_of m s w.place) == w.exact.amount * (price.payers * weight_of m s place)) answer false
 
-  good_price : (answer : Option ℕ) → as_good answer ≡ true → (price : ℕ) × (answer ≡ Some price) × IsAsGood price
+  good_price : (answer : Option PriceView) → as_good answer ≡ true → (price : PriceView) × (answer ≡ Some price) × IsAsGood price
   good_price None is = absurd (false≢true is)
-  good_price (Some price) is = (price, refl, eqb-true (price * weight_of m s w.place) (w.price * weight_of m s place) is)
+  good_price (Some price) is = (price, refl, eqb-true (price.amount * (w.exact.payers * weight_of m s w.place)) (w.exact.amount * (price.payers * weight_of m s place)) is)
 
   pub tied_has_price : is_tied m s elected rests w place ≡ true
-      → (is_elected elected place ≡ false) × ((price : ℕ) × (price_at s rests place ≡ Some price) × IsAsGood price)
+      → (is_elected elected place ≡ false) × ((price : PriceView) × (price_at s rests place ≡ Some price) × IsAsGood price)
   tied_has_price is =
       let parts = and_parts (not (is_elected elected place)) (as_good (price_at s rests place)) is in
       (not-true (is_elected elected place) parts.0, good_price (price_at s rests place) parts.1)
 
-  pub price_is_tied : (is_elected elected place ≡ false) × ((price : ℕ) × (price_at s rests place ≡ Some price) × IsAsGood price)
+  pub price_is_tied : (is_elected elected place ≡ false) × ((price : PriceView) × (price_at s rests place ≡ Some price) × IsAsGood price)
       → is_tied m s elected rests w place ≡ true
   price_is_tied (left, (price, priced, same)) =
-      and_from _ _ (ap not left) (ap as_good priced ∙ eq-eqb (price * weight_of m s w.place) (w.price * weight_of m s place) same)
+      and_from _ _ (ap not left) (ap as_good priced ∙ eq-eqb (price.amount * (w.exact.payers * weight_of m s w.place)) (w.exact.amount * (price.payers * weight_of m s place)) same)
 
 -- the ties of a round
 module _ (m : Measure) (s : SupportView) (share : ℕ) (elected : List ElectedView) (round : ℕ) where

@@ -9,6 +9,7 @@ use Rattle.std.proofs.lemmas.List.Elements.{All-contains, All-head, All-tail, Co
 use Rattle.std.proofs.lemmas.List.Sums.{sum_by-cons}
 use Rattle.pb_core.specs.Inner.Approved.{approves}
 use Rattle.pb_core.specs.Election.{ElectionView}
+use Rattle.pb_price.specs.declared.grain.Grain.{Grain}
 use Rattle.pb_price.specs.Supporters.{SupportView, ballot_at, support_of, supporters_at, supporters_of}
 use Rattle.pb_rounds.proofs.Charged.{charged_at, payment_at}
 use Rattle.pb_rounds.proofs.Listed.{contains_from_listed, is_listed-range, listed_from_contains}
@@ -67,7 +68,7 @@ count_agree p q (x ∷ xs) same =
     sum_by-cons (λ y. cond (p y) 1 0) x xs
     ∙ rw (All-head (λ y. p y ≡ q y) x xs same, count_agree p q xs (All-tail (λ y. p y ≡ q y) x xs same)) (sym (sum_by-cons (λ y. cond (q y) 1 0) x xs))
 
-module _ (e : ElectionView) (o : OutcomeView) (told : CanBeTold e o) (rounds amounts ballot : List ℕ) (numbered : AreRounds (length e.projects) o.elected rounds)
+module _ (e : ElectionView) (o : OutcomeView) {g : Grain} (told : CanBeTold g e o) (rounds amounts ballot : List ℕ) (numbered : AreRounds (length e.projects) o.elected rounds)
     (one_each : length amounts ≡ length o.elected) (voter : ℕ) (is_voter : voter < length e.voters) (own : ballot ≡ ballot_at e voter)
     (known : All (λ place. place < length e.projects) ballot) (paid : HasPaid o.elected ballot o.share amounts) where
   amount_is : (place : ℕ) → approves ballot place ≡ true → place < length e.projects → amount_at rounds amounts place ≡ paid_for e o place voter
@@ -113,5 +114,5 @@ module _ (e : ElectionView) (o : OutcomeView) (told : CanBeTold e o) (rounds amo
       rw (elected_is, elected_told, all, left_is, own) refl
 
 -- what is left is no more than the share
-pub left_within : (e : ElectionView) (o : OutcomeView) → CanBeTold e o → (voter : ℕ) → voter < length e.voters → slice_index o.rests voter ≤ o.share
+pub left_within : (e : ElectionView) (o : OutcomeView) {g : Grain} → CanBeTold g e o → (voter : ℕ) → voter < length e.voters → slice_index o.rests voter ≤ o.share
 left_within e o told voter is_voter = let endowed = told.price_system.endowed voter is_voter in omega (arith, endowed)

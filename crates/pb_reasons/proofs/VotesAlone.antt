@@ -1,10 +1,10 @@
 -- Most votes first as a rule of its own.
 use Rattle.std.proofs.Common.{◌≡◌, ◌-◌, ◌++◌, ℕ, List, [], map, subst, ◌∙◌, ap, arith}
 use Rattle.std.specs.Prelude.{if◌then◌else◌}
-use Rattle.pb_price.specs.Supporters.{support_of}
+use Rattle.pb_price.specs.Supporters.{support_in, support_of}
 use Rattle.pb_rounds.proofs.NoShares.{no_share_elects_none}
 use Rattle.pb_rounds.specs.Cheapest.{IsRun}
-use Rattle.pb_rounds.specs.Count.{share_by, spent_on}
+use Rattle.pb_rounds.specs.Count.{share_by, spent_on, step_of}
 use Rattle.pb_rounds.specs.MostVotes.{most_votes_first}
 use Rattle.pb_rounds.specs.RuleNames.{fills_up}
 use Rattle.pb_rounds.specs.Run.{ElectedView}
@@ -20,9 +20,9 @@ module _ (c : CountedElectionView) (h : IsCountedElection c) (none : c.rule.opti
   nobody_by_shares =
       let options = c.rule.options in
       let o = c.counted.outcome in
-      let share : o.share ≡ 0 = h.is_count.share_is ∙ ap (λ k. share_by k c.election options.step o.raised) none in
-      no_share_elects_none options.measure (support_of c.election) o.elected o.rests
-      (subst (λ (n : ℕ). IsRun options.measure (support_of c.election) n o.elected o.rests) share h.is_count.run_is)
+      let share : o.share ≡ 0 = h.is_count.share_is ∙ ap (λ k. share_by k options.grain c.election (step_of c.election options) o.raised) none in
+      no_share_elects_none options.measure (support_in options.grain c.election) o.elected o.rests
+      (subst (λ (n : ℕ). IsRun options.measure (support_in options.grain c.election) n o.elected o.rests) share h.is_count.run_is)
 
   pub winners_by_votes : c.rule.fill_up ≡ MostVotes → winners_of c.counted ≡ elected_by_votes c.election
   winners_by_votes filled =

@@ -5,14 +5,14 @@ use Rattle.std.specs.Prelude.{filter, flat_map, if◌then◌else◌, is_some, le
 use Rattle.std.specs.List.{list_any, range_with_len}
 use Rattle.pb_core.specs.Ballot.{HasSameMembers}
 use Rattle.pb_core.specs.Order.{in_order}
-use Rattle.pb_price.specs.Supporters.{support_of}
+use Rattle.pb_price.specs.Supporters.{support_in, support_of}
 use Rattle.pb_reasons.specs.Counted.{CountedView, IsCountBy, winners_of}
 use Rattle.pb_reasons.specs.CountedElection.{CountedElectionView, in_file}
 use Rattle.pb_reasons.specs.Ties.{ties_in, ties_with_added}
 use Rattle.pb_reasons.specs.declared.tie.Tie.{Tie}
 use Rattle.pb_reasons.specs.declared.told_tie.TieRow.{TieRow}
 use Rattle.pb_reasons.specs.declared.told_tie.ToldTie.{ToldTie}
-use Rattle.pb_rounds.specs.Count.{count_of, share_by}
+use Rattle.pb_rounds.specs.Count.{count_of, share_by, step_of}
 use Rattle.pb_rounds.specs.Counted.{IsCountFault}
 use Rattle.pb_rounds.specs.Run.{outcome_of}
 use Rattle.pb_rounds.specs.declared.count_fault.CountFault.TheVariants.{RaisesSpent}
@@ -30,10 +30,10 @@ told x run number ties = map (λ t. record { run = run; number = number; tie = t
 
 -- the ties of each round of a run, as if the round were the last: with all that are left then
 abbrev pub run_ties : CountedElectionView → ℕ → List ToldTie
-run_ties x run = let options = x.rule.options in let share = share_by options.completion x.election options.step run in
-    let elected = (outcome_of options.measure x.election share).elected in
+run_ties x run = let options = x.rule.options in let share = share_by options.completion options.grain x.election (step_of x.election options) run in
+    let elected = (outcome_of options.measure options.grain x.election share).elected in
     flat_map (λ round. told x run (round + 1)
-    (ties_in options.measure (support_of x.election) share (take (round + 1) elected) round)) (range_with_len 0 (length elected))
+    (ties_in options.measure (support_in options.grain x.election) share (take (round + 1) elected) round)) (range_with_len 0 (length elected))
 
 -- the ties of each added project, as if it were the last
 abbrev pub added_ties : CountedElectionView → List ToldTie

@@ -3,7 +3,7 @@ use Rattle.std.specs.Prelude.{ℕ, ◌&&◌, List, filter, fold, length, max, na
 use Rattle.std.specs.Int.{div_ceil}
 use Rattle.std.specs.List.{range_with_len}
 use Rattle.pb_core.specs.Election.{ElectionView}
-use Rattle.pb_price.specs.Supporters.{SupportView, cost_at, support_of, supporters_at}
+use Rattle.pb_price.specs.Supporters.{SupportView, cost_in_parts, support_of, supporters_at}
 use Rattle.pb_rounds.specs.Fairness.{paid_within}
 use Rattle.pb_rounds.specs.MostVotes.{is_taken, votes_at}
 use Rattle.pb_rounds.specs.Outcome.{OutcomeView}
@@ -17,7 +17,7 @@ losers e c = filter (λ place. nat_lt 0 (votes_at (support_of e) place) && not (
 
 -- what the project at this place would have cost each of its supporters, rounded up
 abbrev pub needed : SupportView → ℕ → ℕ
-needed s place = div_ceil (cost_at s place) (votes_at s place)
+needed s place = div_ceil (cost_in_parts s place) (votes_at s place)
 
 -- the most that one of them paid for elected projects that each took at most that from it, as `paid_within`
 -- understands it

@@ -5,8 +5,10 @@ use Rattle.std.specs.Prelude.{slice_index_or, sum_by}
 use Rattle.std.specs.List.{position_or_len}
 use Rattle.pb_core.specs.Election.{ElectionView}
 use Rattle.pb_rounds.specs.MostVotes.{is_taken}
+use Rattle.pb_price.specs.Grain.{in_parts}
 use Rattle.pb_price.specs.Price.{total_rest}
 use Rattle.pb_price.specs.Supporters.{ballot_at, cost_at, support_of, supporters_at}
+use Rattle.pb_price.specs.declared.grain.Grain.{Grain}
 use Rattle.pb_rounds.specs.Outcome.{OutcomeView}
 use Rattle.pb_rounds.specs.Payments.{paid_in_turn}
 use Rattle.pb_rounds.specs.Run.{ElectedView, is_elected}
@@ -30,23 +32,24 @@ abbrev pub paid_for : ElectionView → OutcomeView → (place voter : ℕ) → �
 paid_for e o place voter = slice_index (slice_index_or (all_payments e o) (round_of o.elected place) []) voter
 
 -- how a project ended: elected, added, or neither
-abbrev pub ending_of : ElectionView → CountedView → ℕ → Option ElectedView → Ending
-ending_of e c place (Some w) = Won (record {
+abbrev pub ending_of : Grain → ElectionView → CountedView → ℕ → Option ElectedView → Ending
+ending_of grain e c place (Some w) = Won (record {
   round = round_of c.outcome.elected place + 1;
   price = w.price;
+  exact = w.exact;
   collected = w.collected;
   in_full = count_by (λ voter. paid_for e c.outcome place voter == w.price) (supporters_at (support_of e) place);
 })
-ending_of e c place None =
+ending_of grain e c place None =
     let left = total_rest (supporters_at (support_of e) place) c.outcome.rests in
     if is_taken c.added place then Added (record { number = position_or_len (λ p. p == place) c.added + 1 })
-    else Lost (record { left = left; missing = cost_at (support_of e) place - left })
+    else Lost (record { left = left; missing = in_parts grain (length e.voters) (cost_at (support_of e) place) - left })
 
 -- why the project at this place is elected or added, or is neither
-abbrev pub project_reason : ElectionView → CountedView → ℕ → ProjectReason
-project_reason e c place = record {
+abbrev pub project_reason : Grain → ElectionView → CountedView → ℕ → ProjectReason
+project_reason grain e c place = record {
   votes = length (supporters_at (support_of e) place);
-  ending = ending_of e c place (slice_get c.outcome.elected (round_of c.outcome.elected place));
+  ending = ending_of grain e c place (slice_get c.outcome.elected (round_of c.outcome.elected place));
 }
 
 -- what the ballot of the voter at this position came to; nobody pays for what is added

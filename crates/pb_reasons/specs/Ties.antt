@@ -3,9 +3,8 @@ use Rattle.std.specs.Prelude.{ℕ, ◌+◌, ◌*◌, ◌==◌, ◌&&◌, ◌++�
 use Rattle.std.specs.Prelude.{length, map, not, replicate, slice_get, take}
 use Rattle.std.specs.List.{range_with_len}
 use Rattle.std.specs.Option.{option_map_or}
-use Rattle.pb_core.specs.Election.{ElectionView}
 use Rattle.pb_price.specs.Price.{price_at}
-use Rattle.pb_price.specs.Supporters.{SupportView, cost_at, support_of}
+use Rattle.pb_price.specs.Supporters.{SupportView, cost_at}
 use Rattle.pb_rounds.specs.Cheapest.{rests_after}
 use Rattle.pb_rounds.specs.MostVotes.{is_taken, votes_at}
 use Rattle.pb_rounds.specs.Run.{ElectedView, is_elected, weight_of}
@@ -17,7 +16,8 @@ use Rattle.pb_reasons.specs.declared.tie.Tie.{Tie}
 -- same, or under measure cost the same for its cost, compared by cross products
 abbrev pub is_tied : Measure → SupportView → (elected : List ElectedView) (rests : List ℕ) (winner : ElectedView) → ℕ → Bool
 is_tied m s elected rests winner place = not (is_elected elected place) && option_map_or
-    (λ price. price * weight_of m s winner.place == winner.price * weight_of m s place) (price_at s rests place) false
+    (λ price. price.amount * (winner.exact.payers * weight_of m s winner.place)
+    == winner.exact.amount * (price.payers * weight_of m s place)) (price_at s rests place) false
 
 -- the ties of a round, from 0, in the order of the projects; its rests are those after the rounds before it
 abbrev pub ties_in : Measure → SupportView → (share : ℕ) (elected : List ElectedView) → (round : ℕ) → List Tie
@@ -34,7 +34,7 @@ ties_with_added s c winner = map (λ place. record { round = None; winner = winn
     && (cost_at s place == cost_at s winner))) (range_with_len 0 (length s.costs)))
 
 -- the first hundred ties: of all rounds, in their order, and then of the added
-unfoldable pub ties_of : Measure → ElectionView → CountedView → List Tie
-ties_of m e c = let s = support_of e in let o = c.outcome in
+unfoldable pub ties_of : Measure → SupportView → CountedView → List Tie
+ties_of m s c = let o = c.outcome in
     take 100 (flat_map (ties_in m s o.share o.elected) (range_with_len 0 (length o.elected))
     ++ flat_map (ties_with_added s c) c.added)

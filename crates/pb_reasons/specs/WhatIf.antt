@@ -6,7 +6,7 @@ use Rattle.pb_core.specs.Money.{largest_money}
 use Rattle.pb_core.specs.Order.{position_in}
 use Rattle.pb_reasons.specs.Counted.{is_selected}
 use Rattle.pb_reasons.specs.CountedElection.{CountedElectionView, IsCountIn, IsFaultIn}
-use Rattle.pb_rounds.specs.declared.count_fault.CountFault.TheVariants.{RaisesSpent}
+use Rattle.pb_rounds.specs.declared.count_fault.CountFault.TheVariants.{RaisesSpent, TooFine}
 use Rattle.pb_reasons.specs.declared.changes.change.Change.{Change}
 use Rattle.pb_reasons.specs.declared.changes.change.Change.TheVariants.{Cost, Voters}
 use Rattle.pb_reasons.specs.declared.changes.change.Row.{Row}
@@ -39,7 +39,7 @@ CanBe s Voters value = length s.ballots + value ≤ most_voters
 
 -- what the count of an election says of the project that is asked about: whether it elects or adds it
 abbrev pub Says : ElectionView → Question → Verdict → Type 0
-Says e q Refused = IsFaultIn q.rule e RaisesSpent
+Says e q Refused = IsFaultIn q.rule e RaisesSpent ⊎ IsFaultIn q.rule e TooFine
 Says e q verdict = (x : CountedElectionView) × IsCountIn q.rule e x
     × (verdict ≡ (if is_selected x.counted (position_in x.order q.place) then Won else Lost))
 

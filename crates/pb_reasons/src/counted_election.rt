@@ -3,7 +3,8 @@
 ghost use Rattle.std.specs.Prelude.{◌≡◌, ◌<◌, All, IfOk, length, map, slice_index};
 ghost use Rattle.std.specs.List.{range_with_len};
 ghost use Rattle.pb_core.specs.Order.{in_order, position_in};
-ghost use Rattle.pb_price.specs.Supporters.{support_of};
+ghost use Rattle.pb_price.specs.Grain.{in_parts};
+ghost use Rattle.pb_price.specs.Supporters.{support_in};
 ghost use Rattle.pb_reasons.specs.Counted.{counted, winners_of};
 ghost use Rattle.pb_reasons.specs.CountedElection.{IsCountedElection};
 ghost use Rattle.pb_reasons.specs.Inner.Kept.{IsKept};
@@ -58,7 +59,8 @@ impl Model for CountedElection {
       order = c.order;
       rule = c.rule;
       counted = c.counted;
-    }) × IsKept c.election c.counted c.kept × (c.totals ≡ totals_of c.election c.counted) };
+    }) × IsKept c.rule.options.grain c.election c.counted c.kept
+        × (c.totals ≡ totals_of c.rule.options.grain c.election c.counted) };
 }
 
 impl CountedElection {
@@ -84,8 +86,9 @@ impl CountedElection {
         let _budget = election.budget();
         let _places = order.places();
         let counted = Counted::of(alloc, &election, outcome, rule.fill_up)?;
-        let totals = Totals::of(&election, &counted);
-        let kept = Kept::of(alloc, &election, &counted)?;
+        let grain = rule.options.grain;
+        let totals = Totals::of(&election, &counted, grain);
+        let kept = Kept::of(alloc, &election, &counted, grain)?;
         Ok(CountedElection {
             election,
             order,
@@ -134,6 +137,14 @@ impl CountedElection {
         ensures { result ≡ self.now.rule }
     {
         self.rule
+    }
+
+    /// How many parts a hundredth has, in which shares, prices, payments and rests are counted.
+    pub fn parts(&self) -> u64
+        ensures { result ≡ in_parts self.now.rule.options.grain (length self.now.election.voters) 1 }
+    {
+        let voters = self.election.voters().len() as u32;
+        self.rule.options.grain.parts(voters)
     }
 
     /// The outcome of the count.
@@ -200,21 +211,21 @@ impl CountedElection {
 
     /// What the winners come to together.
     pub fn totals(&self) -> Totals
-        ensures { result ≡ totals_of self.now.election self.now.counted }
+        ensures { result ≡ totals_of self.now.rule.options.grain self.now.election self.now.counted }
     {
         self.totals
     }
 
     /// The supporters of each project.
     pub fn supporters(&self) -> &Supporters
-        ensures { result.now ≡ support_of self.now.election }
+        ensures { result.now ≡ support_in self.now.rule.options.grain self.now.election }
     {
         self.kept.supporters()
     }
 
     /// What is kept of the count.
     pub(crate) fn kept(&self) -> &Kept
-        ensures kept { IsKept self.now.election self.now.counted result.now }
+        ensures kept { IsKept self.now.rule.options.grain self.now.election self.now.counted result.now }
         ensures is_counted { IsCountedElection self.now }
     {
         &self.kept
@@ -223,7 +234,7 @@ impl CountedElection {
     /// Why the project at this place is elected or added, or is neither.
     pub fn project(&self, place: u32) -> ProjectReason
         requires { place < length self.now.election.projects }
-        ensures { result ≡ project_reason self.now.election self.now.counted place }
+        ensures { result ≡ project_reason self.now.rule.options.grain self.now.election self.now.counted place }
     {
         self.kept.project(&self.election, &self.counted, place)
     }

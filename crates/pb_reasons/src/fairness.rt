@@ -2,7 +2,7 @@
 
 ghost use Rattle.std.specs.Prelude.{◌≡◌, ◌*◌, ℕ, ◌<◌, All, IfOk, false, if◌then◌else◌, length, nat_le};
 ghost use Rattle.std.specs.Prelude.{slice_index, true};
-ghost use Rattle.pb_price.specs.Supporters.{support_of};
+ghost use Rattle.pb_price.specs.Supporters.{support_in, support_of};
 ghost use Rattle.pb_rounds.specs.MostVotes.{is_taken, votes_at};
 ghost use Rattle.pb_reasons.specs.Counted.{winners_of};
 ghost use Rattle.pb_reasons.specs.Fairness.{needed, spent};
@@ -17,28 +17,28 @@ use pb_core::no_memory::NoMemory;
 use pb_price::supporters::Supporters;
 use std::alloc::Global;
 
-/// What the project at this place would have cost each of its supporters, in hundredths, rounded up.
+/// What the project at this place would have cost each of its supporters, rounded up, in the parts that are counted.
 pub fn needed(supporters: &Supporters, place: u32) -> Money
     requires known { place < length supporters.now.costs }
     requires supported { 0 < votes_at supporters.now place }
     ensures { result ≡ needed supporters.now place }
 {
     let votes = supporters.of(place).len();
-    let cost = supporters.cost(place);
+    let cost = supporters.cost_in_parts(place);
     Money(cost.0.div_ceil(votes as u64))
 }
 
 /// For each project that is neither elected nor added, in their order, the most that one of its
 /// supporters paid for elected projects that each took at most what this one would have cost each supporter
-/// (under measure cost, for their cost), in hundredths; 0 for each winner.
+/// (under measure cost, for their cost), in the parts that are counted; 0 for each winner.
 ///
 /// Each voter's payments are looked at once for each of the voter's choices that lost.
 pub fn most_spent(alloc: Global, count: &CountedElection) -> Result<Vec<u128>, NoMemory>
     ensures one_each { IfOk result (λ most. length most.items ≡ length count.now.election.projects) }
     ensures spent { IfOk result (λ most. (place : ℕ) → place < length count.now.election.projects
         → is_taken (winners_of count.now.counted) place ≡ false → slice_index most.items place
-        ≡ spent count.now.rule.options.measure (support_of count.now.election) count.now.counted.outcome
-        place) }
+        ≡ spent count.now.rule.options.measure (support_in count.now.rule.options.grain count.now.election)
+        count.now.counted.outcome place) }
     ensures winners { IfOk result (λ most. (place : ℕ) → place < length count.now.election.projects
         → is_taken (winners_of count.now.counted) place ≡ true → slice_index most.items place ≡ 0) }
 {
@@ -63,7 +63,8 @@ fn note_spent(count: &CountedElection, ballot: &[u32], payments: &[Payment], mos
     requires payments { All (λ p. p.place < length count.now.election.projects) payments.now }
     requires one_each { length most.old.items ≡ length count.now.election.projects }
     ensures { NotesSpent (winners_of count.now.counted)
-        (λ place. within_need count.now.rule.options.measure (support_of count.now.election) place payments.now)
+        (λ place. within_need count.now.rule.options.measure
+        (support_in count.now.rule.options.grain count.now.election) place payments.now)
         ballot.now most.old.items most.new.items }
 {
     for place in ballot {
@@ -80,8 +81,8 @@ fn within_need(count: &CountedElection, place: u32, payments: &[Payment]) -> u12
     requires known { place < length count.now.election.projects }
     requires supported { 0 < votes_at (support_of count.now.election) place }
     requires payments { All (λ p. p.place < length count.now.election.projects) payments.now }
-    ensures { result
-        ≡ within_need count.now.rule.options.measure (support_of count.now.election) place payments.now }
+    ensures { result ≡ within_need count.now.rule.options.measure
+        (support_in count.now.rule.options.grain count.now.election) place payments.now }
 {
     let measure = count.rule().options.measure;
     let supporters = count.supporters();
@@ -100,7 +101,7 @@ fn within_need(count: &CountedElection, place: u32, payments: &[Payment]) -> u12
 /// What a project would have cost each of its supporters, and what its price is divided by.
 #[derive(Clone, Copy)]
 struct Need {
-    /// In hundredths.
+    /// In the parts that are counted.
     amount: u64,
     weight: u64,
 }

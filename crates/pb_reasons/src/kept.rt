@@ -14,6 +14,7 @@ use crate::reasons::Reasons;
 use crate::winners::flags_of;
 use pb_core::election::Election;
 use pb_core::no_memory::NoMemory;
+use pb_price::Grain;
 use pb_price::supporters::Supporters;
 use std::alloc::Global;
 use std::marker::Model;
@@ -50,14 +51,15 @@ impl Kept {
         alloc: Global,
         election: &Election,
         counted: &Counted,
+        grain: Grain,
     ) -> Result<Kept, NoMemory>
         requires counted { IsCounted election.now counted.now }
-        requires told { CanBeTold election.now counted.now.outcome }
-        ensures { IfOk result (IsKept election.now counted.now) }
+        requires told { CanBeTold grain election.now counted.now.outcome }
+        ensures { IfOk result (IsKept grain election.now counted.now) }
     {
         let projects = election.projects().len();
         let numbers = numbers_of(alloc, counted.added.as_slice(), projects)?;
-        let reasons = Reasons::of(alloc, election, &counted.outcome)?;
+        let reasons = Reasons::of(alloc, election, &counted.outcome, grain)?;
         let winners = counted.winners(alloc)?;
         let flags = flags_of(alloc, winners.as_slice(), projects)?;
         Ok(Kept {
@@ -111,10 +113,10 @@ impl Kept {
         counted: &Counted,
         place: u32,
     ) -> ProjectReason
-        requires told { CanBeTold election.now counted.now.outcome }
-        requires own { IsKept election.now counted.now self.now }
+        requires told { CanBeTold self.now.reasons.supporters.grain election.now counted.now.outcome }
+        requires own { IsKept self.now.reasons.supporters.grain election.now counted.now self.now }
         requires known { place < length election.now.projects }
-        ensures { result ≡ project_reason election.now counted.now place }
+        ensures { result ≡ project_reason self.now.reasons.supporters.grain election.now counted.now place }
     {
         let reason = self.reasons.project(election, &counted.outcome, place);
         let number = self.numbers[place as usize];

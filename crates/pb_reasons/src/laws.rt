@@ -7,14 +7,16 @@ ghost use Rattle.std.specs.List.{Any};
 ghost use Rattle.std.specs.List.Sorted.{IsStrictlyIncreasing};
 ghost use Rattle.pb_core.specs.Election.{ElectionView, IsElection};
 ghost use Rattle.pb_core.specs.Order.{IsOrder, in_order};
-ghost use Rattle.pb_price.specs.Supporters.{SupportView, cost_at, support_of, supporters_at, ballot_at};
+ghost use Rattle.pb_price.specs.Supporters.{SupportView, cost_at, cost_in_parts, support_in, support_of, supporters_at, ballot_at};
 ghost use Rattle.pb_rounds.specs.Fairness.{paid_within};
 ghost use Rattle.pb_rounds.specs.MostVotes.{fits, is_taken, votes_at};
 ghost use Rattle.pb_reasons.specs.AllTies.{all_ties, runs_of, different, is_same_pair};
 ghost use Rattle.pb_reasons.specs.BesideVotes.{elected_by_votes};
 ghost use Rattle.pb_reasons.specs.Counted.{CountedView, IsCountBy, counted, is_selected, winners_of};
 ghost use Rattle.pb_reasons.specs.CountedElection.{CountedElectionView, IsCountedElection};
-ghost use Rattle.pb_price.specs.Price.{price_at};
+ghost use Rattle.pb_price.specs.Price.{PriceView, price_at};
+ghost use Rattle.pb_price.specs.Grain.{in_parts};
+ghost use Rattle.pb_price.specs.declared.grain.Grain.TheVariants.{Fine, Hundredths};
 ghost use Rattle.pb_rounds.specs.Cheapest.{rests_after};
 ghost use Rattle.pb_rounds.specs.Completed.{IsExhausted};
 ghost use Rattle.pb_reasons.specs.Fairness.{losers, needed, spent};
@@ -35,23 +37,25 @@ ghost use Rattle.pb_rounds.specs.declared.rule.FillUp.TheVariants.{MostVotes};
 ghost use Rattle.pb_rounds.specs.declared.rule.Rule.{Rule};
 
 /// The winners of a count are its elected and its added projects, each once, and together they cost at most
-/// the budget. What was paid beyond the costs of the elected is the surplus. Where a count is filled up, no other project that has a supporter costs at most what the
+/// the budget. What was paid beyond the costs of the elected is the surplus; in fine money nothing is, and the surplus
+/// is what they do not cover. Where a count is filled up, no other project that has a supporter costs at most what the
 /// winners leave of the budget.
 pub fn winners_share_the_budget()
     ensures selected { (c : CountedView) (place : ℕ) → is_selected c place ≡ is_taken (winners_of c) place }
     ensures once { (c : CountedElectionView) → IsCountedElection c
         → AllPairs (λ place other. place ≢ other) (winners_of c.counted) }
-    ensures spent { (c : CountedElectionView) → (totals_of c.election c.counted).spent
+    ensures spent { (c : CountedElectionView) → (totals_of c.rule.options.grain c.election c.counted).spent
         ≡ sum_by (cost_at (support_of c.election)) (winners_of c.counted) }
     ensures surplus { (c : CountedElectionView) → IsCountedElection c
-        → let elected = c.counted.outcome.elected in
-        (totals_of c.election c.counted).surplus + sum_by (λ w. cost_at (support_of c.election) w.place) elected
-        ≡ sum_by (λ w. w.collected) elected }
+        → let grain = c.rule.options.grain in let elected = c.counted.outcome.elected in
+        let cost = in_parts grain (length c.election.voters) (sum_by (λ w. cost_at (support_of c.election) w.place) elected) in
+        let paid = sum_by (λ w. w.collected) elected in let surplus = (totals_of grain c.election c.counted).surplus in
+        (grain ≡ Hundredths → surplus + cost ≡ paid) × (grain ≡ Fine → surplus + paid ≡ cost) }
     ensures paid { (c : CountedElectionView) → IsCountedElection c
-        → (totals_of c.election c.counted).spent ≤ c.election.budget }
+        → (totals_of c.rule.options.grain c.election c.counted).spent ≤ c.election.budget }
     ensures none_fits { (c : CountedElectionView) (place : ℕ) → IsCountedElection c → c.rule.fill_up ≡ MostVotes
         → fits (support_of c.election) (winners_of c.counted)
-        (c.election.budget - (totals_of c.election c.counted).spent) place ≡ false }
+        (c.election.budget - (totals_of c.rule.options.grain c.election c.counted).spent) place ≡ false }
 {}
 
 /// Most votes first as a rule of its own: where nobody has a share and what is left is filled up, nobody is elected
@@ -65,7 +69,8 @@ pub fn most_votes_is_its_rule()
 /// Only the order of the projects decided the ties of a count: its winner comes before the other project.
 pub fn ties_are_decided_by_place()
     ensures { (e : ElectionView) (rule : Rule) (o : OutcomeView) → IsCountOf e rule.options o
-        → All (λ (t : Tie). t.winner < t.other) (ties_of rule.options.measure e (counted e rule.fill_up o)) }
+        → All (λ (t : Tie). t.winner < t.other) (ties_of rule.options.measure (support_in rule.options.grain e)
+        (counted e rule.fill_up o)) }
 {}
 
 /// In each tie of all ties, those of every run and of the added, the chosen project comes before the other one in the
@@ -96,8 +101,8 @@ pub fn without_ties_no_others_win()
 pub fn ties_are_their_words()
     ensures tied { (m : Measure) (s : SupportView) (elected : List ElectedView) (rests : List ℕ)
         → (w : ElectedView) (place : ℕ) → (is_tied m s elected rests w place ≡ true)
-        ↔ ((is_elected elected place ≡ false) × ((price : ℕ) × (price_at s rests place ≡ Some price)
-        × (price * weight_of m s w.place ≡ w.price * weight_of m s place))) }
+        ↔ ((is_elected elected place ≡ false) × ((price : PriceView) × (price_at s rests place ≡ Some price)
+        × (price.amount * (w.exact.payers * weight_of m s w.place) ≡ w.exact.amount * (price.payers * weight_of m s place)))) }
     ensures round { (m : Measure) (s : SupportView) (share : ℕ) (elected : List ElectedView) (round : ℕ) (t : Tie)
         → Contains (ties_in m s share elected round) t ↔ ((w : ElectedView) × (slice_get elected round ≡ Some w)
         × ((place : ℕ) × (place < length s.costs)
@@ -112,9 +117,9 @@ pub fn ties_are_their_words()
     ensures added_rises { (s : SupportView) (c : CountedView) (winner : ℕ)
         → IsStrictlyIncreasing (map (λ (t : Tie). t.other) (ties_with_added s c winner)) }
     ensures runs { (x : CountedElectionView) → IsCountedElection x → let o = x.counted.outcome in
-        ((x.rule.options.completion ≡ Add1 → IsExhausted (support_of x.election) x.election.budget o.elected)
+        ((x.rule.options.completion ≡ Add1 → IsExhausted (support_in x.rule.options.grain x.election) x.election.budget o.elected)
         → runs_of x ≡ o.raised + 1)
-        × (x.rule.options.completion ≡ Add1 → (¬ IsExhausted (support_of x.election) x.election.budget o.elected)
+        × (x.rule.options.completion ≡ Add1 → (¬ IsExhausted (support_in x.rule.options.grain x.election) x.election.budget o.elected)
         → runs_of x ≡ o.raised + 2) }
 {}
 
@@ -176,8 +181,8 @@ pub fn rows_of_fairness_are_their_words()
         ↔ ((place < length e.projects) × (0 < votes_at (support_of e) place)
         × (is_taken (winners_of c) place ≡ false)) }
     ensures needed { (s : SupportView) (place : ℕ) → 0 < votes_at s place
-        → (cost_at s place ≤ votes_at s place * needed s place)
-        × ((less : ℕ) → less < needed s place → votes_at s place * less < cost_at s place) }
+        → (cost_in_parts s place ≤ votes_at s place * needed s place)
+        × ((less : ℕ) → less < needed s place → votes_at s place * less < cost_in_parts s place) }
     ensures most { (m : Measure) (s : SupportView) (o : OutcomeView) (place : ℕ)
         → let paid : ℕ → ℕ = paid_within m s o.share o.elected place (needed s place) in
         All (λ voter. paid voter ≤ spent m s o place) (supporters_at s place)
@@ -190,6 +195,6 @@ pub fn rows_of_fairness_are_their_words()
 pub fn rows_are_fair()
     ensures { (c : CountedElectionView) → IsCountedElection c
         → All (λ place. c.counted.outcome.share
-        < spent c.rule.options.measure (support_of c.election) c.counted.outcome place
-        + needed (support_of c.election) place) (losers c.election c.counted) }
+        < spent c.rule.options.measure (support_in c.rule.options.grain c.election) c.counted.outcome place
+        + needed (support_in c.rule.options.grain c.election) place) (losers c.election c.counted) }
 {}

@@ -3,7 +3,6 @@
 ghost use Rattle.std.specs.Prelude.{◌≡◌};
 
 use crate::payment::Payment;
-use pb_core::money::Money;
 use std::marker::Model;
 
 /// What the supporters of a project paid together for the elected.
@@ -12,8 +11,8 @@ pub struct MoneyPaid {
     /// What they paid for the five for which they paid most, the largest first; of equal ones the one that was
     /// elected earlier. There is none for which they paid nothing.
     pub most: Vec<Payment>,
-    /// What they paid for the others, in hundredths.
-    pub others: Money,
+    /// What they paid for the others, in the parts that are counted.
+    pub others: u128,
 }
 
 impl Model for MoneyPaid {

@@ -117,7 +117,7 @@ fn add_up(payments: &[Payment], sums: &mut Vec<u64>) -> Result<(), NoMemory>
     Ok(())
 }
 
-/// Two amounts together. Those of a count fit, and others are refused.
+/// Two amounts together. Those paid for one of the elected fit, and others are refused.
 fn together(one: u64, other: u64) -> Result<u64, NoMemory>
     ensures { IfOk result (λ both. both ≡ one + other) }
 {
@@ -133,11 +133,11 @@ fn largest(alloc: Global, sums: &[u64], elected: &[Elected]) -> Result<MoneyPaid
     ensures { IfOk result (λ money. money ≡ money_of (sums_for sums.now elected.now)) }
 {
     let mut most = Vec::new(alloc);
-    let mut all = 0;
+    let mut all: u128 = 0;
     for winner in elected {
         let amount = sums[winner.place as usize];
         if amount > 0 {
-            all = together(all, amount)?;
+            all += u128::from(amount);
             let payment = Payment {
                 place: winner.place,
                 amount: Money(amount),
@@ -150,14 +150,14 @@ fn largest(alloc: Global, sums: &[u64], elected: &[Elected]) -> Result<MoneyPaid
 }
 
 /// An amount less these payments.
-fn without(amount: u64, payments: &[Payment]) -> Money
+fn without(amount: u128, payments: &[Payment]) -> u128
     ensures { result ≡ amount - sum_by (λ p. p.amount) payments.now }
 {
     let mut left = amount;
     for payment in payments {
-        left = left.saturating_sub(payment.amount.0);
+        left = left.saturating_sub(u128::from(payment.amount.0));
     }
-    Money(left)
+    left
 }
 
 /// Takes a payment among the largest, if it is one of the first five then.

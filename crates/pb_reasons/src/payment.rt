@@ -7,6 +7,6 @@ use pb_core::money::Money;
 pub struct Payment {
     /// The project's place in the election, from 0.
     pub place: u32,
-    /// The amount, in hundredths.
+    /// The amount, in the parts that are counted.
     pub amount: Money,
 }

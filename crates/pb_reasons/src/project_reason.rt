@@ -1,15 +1,18 @@
 //! Why a project is elected or added, or is neither.
 
 use pb_core::money::Money;
+use pb_price::Price;
 
 /// How an elected project was paid.
 #[derive(Clone, Copy)]
 pub struct Won {
     /// The round that elected it, from 1.
     pub round: u32,
-    /// The most that a supporter paid, in hundredths.
+    /// The most that a supporter paid, rounded down, in the parts that are counted, as all of this.
     pub price: Money,
-    /// What the payments sum to, in hundredths.
+    /// The price as it is: in fine money it is not rounded.
+    pub exact: Price,
+    /// What the payments sum to.
     pub collected: Money,
     /// How many supporters paid the whole price.
     pub in_full: u32,
@@ -25,9 +28,9 @@ pub struct Added {
 /// What a project that is neither elected nor added lacked.
 #[derive(Clone, Copy)]
 pub struct Lost {
-    /// What its supporters have left together, in hundredths.
+    /// What its supporters have left together, in the parts that are counted.
     pub left: Money,
-    /// Its cost less that, in hundredths.
+    /// Its cost less that, in the same.
     pub missing: Money,
 }
 

@@ -21,7 +21,7 @@ use pb_core::election::Election;
 use pb_core::gate::Gate;
 use pb_core::money::Money;
 use pb_core::no_memory::NoMemory;
-use pb_rounds::count::equal_shares;
+use pb_rounds::count::{equal_shares, step_in_parts};
 use pb_rounds::count_fault::CountFault;
 use pb_rounds::options::{Completion, CountOptions};
 use pb_rounds::outcome::{Elected, Outcome};
@@ -31,7 +31,7 @@ use std::thread::Threads;
 /// What one raise more than those of an outcome would elect.
 #[derive(Drop)]
 pub struct NextRaise {
-    /// Everyone's share after that raise, in hundredths.
+    /// Everyone's share after that raise, in the parts that are counted.
     pub share: Money,
     /// What the projects that it elects cost together, in hundredths: more than the budget.
     pub cost: Money,
@@ -93,9 +93,8 @@ fn completed_end<R: Threads + Sync, G: Gate>(
     if is_exhausted(alloc, election, outcome)? {
         return Ok(RaiseEnd::Exhausted);
     }
-    let share = next_share(outcome, options.step);
-    let (workers, measure) = (options.workers, options.measure);
-    match equal_shares(rt, alloc, election, share, workers, measure, gate) {
+    let share = next_share(outcome, step_in_parts(election, options));
+    match equal_shares(rt, alloc, election, share, options, gate) {
         Ok(next) => {
             let raise = next_raise(alloc, election, outcome, &next);
             drop(next);

@@ -68,7 +68,7 @@ where
     'halving: for _halving in 0..=MOST_HALVINGS {
         let limit = match limit_by_strides(rt, election, options, gate, strides) {
             Ok(limit) => limit,
-            Err(CountFault::RaisesSpent) => return Ok(found),
+            Err(CountFault::RaisesSpent | CountFault::TooFine) => return Ok(found),
             Err(fault) => return Err(fault),
         };
         found = Some(limit);

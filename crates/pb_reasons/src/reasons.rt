@@ -11,6 +11,7 @@ use crate::replay::replay;
 use crate::rounds::rounds_of;
 use pb_core::election::Election;
 use pb_core::no_memory::NoMemory;
+use pb_price::Grain;
 use pb_price::supporters::Supporters;
 use pb_rounds::outcome::Outcome;
 use std::alloc::Global;
@@ -43,12 +44,13 @@ impl Reasons {
         alloc: Global,
         election: &Election,
         outcome: &Outcome,
+        grain: Grain,
     ) -> Result<Reasons, NoMemory>
-        requires { CanBeTold election.now outcome.now }
-        ensures { IfOk result (AreReasons election.now outcome.now) }
+        requires { CanBeTold grain election.now outcome.now }
+        ensures { IfOk result (AreReasons grain election.now outcome.now) }
     {
         let elected = outcome.elected.as_slice();
-        let supporters = Supporters::build(alloc, election)?;
+        let supporters = Supporters::build_in(alloc, election, grain)?;
         let rounds = rounds_of(alloc, elected, election.projects().len())?;
         let in_full = replay(alloc, &supporters, outcome.share, elected)?;
         Ok(Reasons {
@@ -79,10 +81,10 @@ impl Reasons {
         outcome: &Outcome,
         place: u32,
     ) -> ProjectReason
-        requires told { CanBeTold election.now outcome.now }
-        requires own { AreReasons election.now outcome.now self.now }
+        requires told { CanBeTold self.now.supporters.grain election.now outcome.now }
+        requires own { AreReasons self.now.supporters.grain election.now outcome.now self.now }
         requires known { place < length election.now.projects }
-        ensures { result ≡ outcome_reason election.now outcome.now place }
+        ensures { result ≡ outcome_reason self.now.supporters.grain election.now outcome.now place }
     {
         let supporters = self.supporters.of(place);
         let round = self.rounds[place as usize];
@@ -91,12 +93,12 @@ impl Reasons {
             Ending::Won(Won {
                 round: round + 1,
                 price: winner.price,
+                exact: winner.exact,
                 collected: winner.collected,
                 in_full: self.in_full[round as usize] as u32,
             })
         } else {
-            let project = &election.projects()[place as usize];
-            let cost = project.cost();
+            let cost = self.supporters.cost_in_parts(place);
             Ending::Lost(lost(supporters, cost, outcome.rests.as_slice()))
         };
         ProjectReason {

@@ -4,11 +4,11 @@ ghost use Rattle.std.specs.Prelude.{◌≡◌, ◌<◌, ◌≤◌, ◌++◌, ◌
 ghost use Rattle.std.specs.Prelude.{◌&&◌, ◌==◌, false, not, slice_index_or, take};
 ghost use Rattle.std.specs.List.{range_with_len};
 ghost use Rattle.pb_price.specs.Price.{largest_share};
-ghost use Rattle.pb_price.specs.Supporters.{cost_at, support_of};
+ghost use Rattle.pb_price.specs.Supporters.{cost_at, support_in};
 ghost use Rattle.pb_reasons.specs.AllTies.{AreTieRows, added_ties, all_ties, run_ties, runs_of};
 ghost use Rattle.pb_reasons.specs.Inner.AllTies.{IsTieOf, is_equal_to, ties_at_added, told_with, with_other};
 ghost use Rattle.pb_rounds.specs.Cheapest.{IsRun};
-ghost use Rattle.pb_rounds.specs.Count.{share_by};
+ghost use Rattle.pb_rounds.specs.Count.{share_by, step_of};
 ghost use Rattle.pb_rounds.specs.MostVotes.{is_taken, votes_at};
 
 use crate::changes::recounts::Recounts;
@@ -26,7 +26,7 @@ use pb_core::gate::Gate;
 use pb_core::money::Money;
 use pb_core::no_memory::NoMemory;
 use pb_price::supporters::Supporters;
-use pb_rounds::count::equal_shares;
+use pb_rounds::count::{equal_shares, step_in_parts};
 use pb_rounds::options::Completion;
 use pb_rounds::outcome::Outcome;
 use std::alloc::Global;
@@ -129,9 +129,8 @@ fn put_run<T: Threads + Sync, G: Gate>(
     }
     let (rt, alloc, options) = (recounts.rt, recounts.alloc, recounts.rule.options);
     let share = share_after(count, run);
-    let (workers, measure) = (options.workers, options.measure);
     let election = count.election();
-    match equal_shares(rt, alloc, election, share, workers, measure, recounts.gate) {
+    match equal_shares(rt, alloc, election, share, &options, recounts.gate) {
         Ok(outcome) => {
             let put = put_rounds(alloc, count, run, &outcome, told);
             drop(outcome);
@@ -145,10 +144,11 @@ fn put_run<T: Threads + Sync, G: Gate>(
 /// Everyone's share after so many raises.
 fn share_after(count: &CountedElection, run: u32) -> Money
     requires { run < runs_of count.now }
-    ensures { result ≡ share_by count.now.rule.options.completion count.now.election
-        count.now.rule.options.step run }
+    ensures { result ≡ share_by count.now.rule.options.completion count.now.rule.options.grain
+        count.now.election (step_of count.now.election count.now.rule.options) run }
 {
-    let (outcome, step) = (count.outcome(), count.rule().options.step.0);
+    let (outcome, options) = (count.outcome(), count.rule().options);
+    let step = step_in_parts(count.election(), &options).0;
     let opening = outcome.share.0 - u64::from(outcome.raised) * step;
     Money(opening + u64::from(run) * step)
 }
@@ -161,11 +161,11 @@ fn put_rounds(
     outcome: &Outcome,
     told: &mut Vec<ToldTie>,
 ) -> Result<(), NoMemory>
-    requires share { outcome.now.share ≡ share_by count.now.rule.options.completion count.now.election
-        count.now.rule.options.step run }
+    requires share { outcome.now.share ≡ share_by count.now.rule.options.completion count.now.rule.options.grain
+        count.now.election (step_of count.now.election count.now.rule.options) run }
     requires small { outcome.now.share ≤ largest_share }
-    requires is_run { IsRun count.now.rule.options.measure (support_of count.now.election) outcome.now.share
-        outcome.now.elected outcome.now.rests }
+    requires is_run { IsRun count.now.rule.options.measure
+        (support_in count.now.rule.options.grain count.now.election) outcome.now.share outcome.now.elected outcome.now.rests }
     requires few { length told.old.items ≤ 100001 }
     ensures { OnOk result (told.new.items ≡ take 100001 (told.old.items ++ run_ties count.now run)) }
 {

@@ -1,12 +1,15 @@
 //! The queue of the projects that may tie.
 
-ghost use Rattle.std.specs.Prelude.{◌≡◌, ◌<◌, ◌≤◌, IfOk, MatchOption, OnOk, Some, length, ◌∷◌};
+ghost use Rattle.std.specs.Prelude.{◌≡◌, ◌<◌, ◌≤◌, ◌*◌, ◌^◌, IfOk, IfSome, MatchOption, OnOk, Some, length, ◌∷◌};
+ghost use Rattle.pb_price.specs.Price.{HasPayers, PriceView};
+ghost use Rattle.pb_price.specs.Supporters.{IsSupport};
 ghost use Rattle.pb_reasons.specs.Inner.TieQueue.{PutsBound, TakesDue};
 ghost use Rattle.pb_rounds.specs.Inner.Queue.{IsDone, IsFull};
 ghost use Rattle.pb_rounds.specs.Run.{key_of, weight_of};
 
 use pb_core::money::Money;
 use pb_core::no_memory::NoMemory;
+use pb_price::Price;
 use pb_price::supporters::Supporters;
 use pb_rounds::key::Key;
 use pb_rounds::measure::Measure;
@@ -18,7 +21,11 @@ pub(crate) fn weight_of(measure: Measure, supporters: &Supporters, place: u32) -
     requires { place < length supporters.now.costs }
     ensures weight { result ≡ weight_of measure supporters.now place }
     ensures positive { 1 ≤ result }
+    ensures is_support { IsSupport supporters.now }
+    ensures fits { (price : PriceView) → HasPayers supporters.now price → price.payers * result < 2 ^ 64 }
 {
+    // What is true of all supporters holds of how many vote.
+    let _voters = supporters.voters();
     match measure {
         Measure::Votes => 1,
         Measure::Cost => supporters.cost(place).0,
@@ -26,8 +33,9 @@ pub(crate) fn weight_of(measure: Measure, supporters: &Supporters, place: u32) -
 }
 
 /// The key of the project at this place, of whose price this is a lower bound.
-fn key_of(measure: Measure, supporters: &Supporters, place: u32, bound: Money) -> Key
-    requires { place < length supporters.now.costs }
+fn key_of(measure: Measure, supporters: &Supporters, place: u32, bound: Price) -> Key
+    requires known { place < length supporters.now.costs }
+    requires payers { HasPayers supporters.now bound }
     ensures { result ≡ key_of measure supporters.now place bound }
 {
     let weight = weight_of(measure, supporters, place);
@@ -45,7 +53,7 @@ pub(crate) fn opening_queue(
 {
     let mut queue = BTreeSet::new(alloc);
     for place in 0..supporters.projects() {
-        let key = key_of(measure, supporters, place, Money(0));
+        let key = key_of(measure, supporters, place, Price::whole(Money(0)));
         queue.insert(key)?;
     }
     Ok(queue)
@@ -87,9 +95,10 @@ pub(crate) fn put_bound(
     measure: Measure,
     supporters: &Supporters,
     place: u32,
-    bound: Option<Money>,
+    bound: Option<Price>,
 ) -> Result<(), NoMemory>
-    requires { place < length supporters.now.costs }
+    requires known { place < length supporters.now.costs }
+    requires payers { IfSome bound (HasPayers supporters.now) }
     ensures { OnOk result
         (PutsBound measure supporters.now place bound queue.old.keys queue.new.keys) }
 {

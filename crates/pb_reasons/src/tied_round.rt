@@ -1,8 +1,9 @@
 //! The ties of one round.
 
-ghost use Rattle.std.specs.Prelude.{◌≡◌, ◌++◌, ◌∷◌, [], ◌<◌, ◌≤◌, All, IfOk, OnOk, Some, filter, length, nat_le, take};
+ghost use Rattle.std.specs.Prelude.{◌≡◌, ◌++◌, ◌∷◌, [], ◌*◌, ◌<◌, ◌≤◌, All, IfOk, OnOk, Some, filter, length, nat_le, take};
 ghost use Rattle.std.specs.List.{range_with_len};
-ghost use Rattle.pb_price.specs.Price.{AreRests};
+ghost use Rattle.pb_price.specs.Price.{AreRests, HasPayers};
+ghost use Rattle.pb_price.specs.Supporters.{IsSupport};
 ghost use Rattle.pb_reasons.specs.Inner.Rounds.{AreTieBounds, IsTieBound, is_as_good, scaled, target, ties_among};
 ghost use Rattle.pb_reasons.specs.Inner.Rounds.{ties_with};
 ghost use Rattle.pb_reasons.specs.Inner.TieQueue.{AreQueued, limit_of};
@@ -13,8 +14,8 @@ use crate::tie::Tie;
 use crate::tie_queue::{put_bound, take_due, weight_of};
 use pb_core::money::Money;
 use pb_core::no_memory::NoMemory;
-use pb_price::next_bound;
 use pb_price::supporters::Supporters;
+use pb_price::{Price, next_bound};
 use pb_rounds::key::Key;
 use pb_rounds::measure::Measure;
 use pb_rounds::outcome::Elected;
@@ -40,56 +41,58 @@ pub(crate) struct TiedRound<'a> {
 #[derive(Clone, Copy)]
 struct Look {
     is_tied: bool,
-    bound: Option<Money>,
+    bound: Option<Price>,
 }
 
 impl<'a> TiedRound<'a> {
     /// What a price counts for.
-    fn scaled(&self, price: Money) -> u128
-        requires { self.now.winner.place < length self.now.supporters.now.costs }
+    fn scaled(&self, price: Price) -> u128
+        requires winner { self.now.winner.place < length self.now.supporters.now.costs }
+        requires payers { HasPayers self.now.supporters.now self.now.winner.exact }
         ensures { result ≡ scaled self.now.measure self.now.supporters.now self.now.winner price }
     {
-        match self.measure {
-            Measure::Votes => u128::from(price.0),
-            Measure::Cost => u128::from(price.0)
-                * u128::from(self.supporters.cost(self.winner.place).0),
-        }
+        let weight = weight_of(self.measure, self.supporters, self.winner.place);
+        times(price.amount, u64::from(self.winner.exact.payers) * weight)
     }
 
-    /// What a price of the project at this place has to count for, to be as good as the winner's.
-    fn target(&self, place: u32) -> u128
-        requires { place < length self.now.supporters.now.costs }
-        ensures { result ≡ target self.now.measure self.now.supporters.now self.now.winner place }
+    /// What a price of the project at this place, of so many payers, has to count for, to be as good as the
+    /// winner's.
+    fn target(&self, place: u32, price: Price) -> u128
+        requires known { place < length self.now.supporters.now.costs }
+        requires payers { HasPayers self.now.supporters.now price }
+        ensures { result ≡ target self.now.measure self.now.supporters.now self.now.winner place price }
     {
-        let price = u128::from(self.winner.price.0);
-        match self.measure {
-            Measure::Votes => price,
-            Measure::Cost => price * u128::from(self.supporters.cost(place).0),
-        }
+        let weight = weight_of(self.measure, self.supporters, place);
+        times(self.winner.exact.amount, u64::from(price.payers) * weight)
     }
 
     /// Whether this price of the project at this place is as good as the winner's.
-    fn is_as_good(&self, place: u32, price: Money) -> bool
+    fn is_as_good(&self, place: u32, price: Price) -> bool
         requires winner { self.now.winner.place < length self.now.supporters.now.costs }
         requires known { place < length self.now.supporters.now.costs }
+        requires payers { HasPayers self.now.supporters.now self.now.winner.exact }
+        requires price { HasPayers self.now.supporters.now price }
         ensures { result ≡ is_as_good self.now.measure self.now.supporters.now self.now.winner place price }
     {
-        self.scaled(price) == self.target(place)
+        self.scaled(price) == self.target(place, price)
     }
 
     /// Whether a lower bound of the price of the project at this place is not above a tie.
-    fn may_tie(&self, place: u32, bound: Money) -> bool
+    fn may_tie(&self, place: u32, bound: Price) -> bool
         requires winner { self.now.winner.place < length self.now.supporters.now.costs }
         requires known { place < length self.now.supporters.now.costs }
+        requires payers { HasPayers self.now.supporters.now self.now.winner.exact }
+        requires bound { HasPayers self.now.supporters.now bound }
         ensures { result ≡ nat_le (scaled self.now.measure self.now.supporters.now self.now.winner bound)
-            (target self.now.measure self.now.supporters.now self.now.winner place) }
+            (target self.now.measure self.now.supporters.now self.now.winner place bound) }
     {
-        self.scaled(bound) <= self.target(place)
+        self.scaled(bound) <= self.target(place, bound)
     }
 
     /// Looks at the project at this place, of whose price this is a lower bound.
-    fn look(&self, rests: &[Money], place: u32, bound: Option<Money>) -> Look
+    fn look(&self, rests: &[Money], place: u32, bound: Option<Price>) -> Look
         requires winner { self.now.winner.place < length self.now.supporters.now.costs }
+        requires payers { HasPayers self.now.supporters.now self.now.winner.exact }
         requires known { place < length self.now.supporters.now.costs }
         requires rests { AreRests self.now.supporters.now.voters rests.now }
         requires bound { IsTieBound self.now.supporters.now self.now.elected.now rests.now place bound }
@@ -107,8 +110,9 @@ impl<'a> TiedRound<'a> {
     }
 
     /// Looks from a lower bound up, from bound to bound, as long as they leave room for a tie.
-    fn look_from(&self, rests: &[Money], place: u32, least: Money) -> Look
+    fn look_from(&self, rests: &[Money], place: u32, least: Price) -> Look
         requires winner { self.now.winner.place < length self.now.supporters.now.costs }
+        requires payers { HasPayers self.now.supporters.now self.now.winner.exact }
         requires known { place < length self.now.supporters.now.costs }
         requires rests { AreRests self.now.supporters.now.voters rests.now }
         requires bound { IsTieBound self.now.supporters.now self.now.elected.now rests.now place
@@ -117,6 +121,8 @@ impl<'a> TiedRound<'a> {
             rests.now self.now.winner place }
         ensures bound { IsTieBound self.now.supporters.now self.now.elected.now rests.now place result.bound }
     {
+        // What is true of all supporters holds of this project's.
+        let _projects = self.supporters.projects();
         let mut bound = least;
         while self.may_tie(place, bound) {
             match next_bound(self.supporters, rests, place, bound) {
@@ -156,12 +162,14 @@ impl<'a> TiedRound<'a> {
 
     /// What a lower bound that leaves room for a tie does not come after.
     fn limit(&self) -> Key
-        requires { self.now.winner.place < length self.now.supporters.now.costs }
+        requires winner { self.now.winner.place < length self.now.supporters.now.costs }
+        requires payers { HasPayers self.now.supporters.now self.now.winner.exact }
         ensures limit { result ≡ limit_of self.now.measure self.now.supporters.now self.now.winner }
         ensures positive { 1 ≤ weight_of self.now.measure self.now.supporters.now self.now.winner.place }
+        ensures is_support { IsSupport self.now.supporters.now }
     {
         let weight = weight_of(self.measure, self.supporters, self.winner.place);
-        Key::new(self.winner.price, weight, self.supporters.projects())
+        Key::new(self.winner.exact, weight, self.supporters.projects())
     }
 
     /// Puts the ties of this round behind those of the rounds before it, as far as so many are told, and
@@ -170,11 +178,12 @@ impl<'a> TiedRound<'a> {
         &self,
         alloc: Global,
         rests: &[Money],
-        bounds: &mut Vec<Option<Money>>,
+        bounds: &mut Vec<Option<Price>>,
         queue: &mut BTreeSet<Key>,
         ties: &mut Vec<Tie>,
     ) -> Result<(), NoMemory>
         requires winner { self.now.winner.place < length self.now.supporters.now.costs }
+        requires payers { HasPayers self.now.supporters.now self.now.winner.exact }
         requires rests { AreRests self.now.supporters.now.voters rests.now }
         requires bounds { AreTieBounds self.now.supporters.now self.now.elected.now rests.now
             bounds.old.items }
@@ -203,10 +212,11 @@ impl<'a> TiedRound<'a> {
         &self,
         alloc: Global,
         rests: &[Money],
-        bounds: &mut Vec<Option<Money>>,
+        bounds: &mut Vec<Option<Price>>,
         queue: &mut BTreeSet<Key>,
     ) -> Result<Vec<u32>, NoMemory>
         requires winner { self.now.winner.place < length self.now.supporters.now.costs }
+        requires payers { HasPayers self.now.supporters.now self.now.winner.exact }
         requires rests { AreRests self.now.supporters.now.voters rests.now }
         requires bounds { AreTieBounds self.now.supporters.now self.now.elected.now rests.now
             bounds.old.items }
@@ -232,10 +242,11 @@ impl<'a> TiedRound<'a> {
         alloc: Global,
         rests: &[Money],
         due: &[u32],
-        bounds: &mut Vec<Option<Money>>,
+        bounds: &mut Vec<Option<Price>>,
         queue: &mut BTreeSet<Key>,
     ) -> Result<Vec<u32>, NoMemory>
         requires winner { self.now.winner.place < length self.now.supporters.now.costs }
+        requires payers { HasPayers self.now.supporters.now self.now.winner.exact }
         requires rests { AreRests self.now.supporters.now.voters rests.now }
         requires known { All (λ place. place < length self.now.supporters.now.costs) due.now }
         requires bounds { AreTieBounds self.now.supporters.now self.now.elected.now rests.now
@@ -268,11 +279,12 @@ impl<'a> TiedRound<'a> {
         &self,
         rests: &[Money],
         due: &[u32],
-        bounds: &mut Vec<Option<Money>>,
+        bounds: &mut Vec<Option<Price>>,
         queue: &mut BTreeSet<Key>,
         ties: &mut Vec<Tie>,
     ) -> Result<(), NoMemory>
         requires winner { self.now.winner.place < length self.now.supporters.now.costs }
+        requires payers { HasPayers self.now.supporters.now self.now.winner.exact }
         requires rests { AreRests self.now.supporters.now.voters rests.now }
         requires known { All (λ place. place < length self.now.supporters.now.costs) due.now }
         requires bounds { AreTieBounds self.now.supporters.now self.now.elected.now rests.now
@@ -298,6 +310,13 @@ impl<'a> TiedRound<'a> {
         }
         Ok(())
     }
+}
+
+/// An amount, so many times.
+fn times(amount: Money, number: u64) -> u128
+    ensures { result ≡ amount * number }
+{
+    u128::from(amount.0) * u128::from(number)
 }
 
 /// Puts a tie behind the others, unless as many are told as are told at most.

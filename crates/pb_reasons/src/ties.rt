@@ -2,8 +2,8 @@
 
 ghost use Rattle.std.specs.Prelude.{◌≡◌, ◌<◌, ◌≤◌, ◌++◌, All, IfOk, OnOk, flat_map, length, replicate, take};
 ghost use Rattle.std.specs.List.{range_with_len};
-ghost use Rattle.pb_price.specs.Price.{largest_share};
-ghost use Rattle.pb_price.specs.Supporters.{support_of};
+ghost use Rattle.pb_price.specs.Price.{HasPayers, largest_share};
+ghost use Rattle.pb_price.specs.Supporters.{support_in, support_of};
 ghost use Rattle.pb_reasons.specs.Inner.Rounds.{AreOpeningBounds, HasLosers, is_tied_with_added, votes_and_cost};
 ghost use Rattle.pb_reasons.specs.Ties.{ties_in, ties_of, ties_with_added};
 
@@ -14,6 +14,7 @@ use crate::tie_queue::opening_queue;
 use crate::tied_round::{MOST_TIES, TiedRound, tell};
 use pb_core::money::Money;
 use pb_core::no_memory::NoMemory;
+use pb_price::Price;
 use pb_price::supporters::Supporters;
 use pb_rounds::measure::Measure;
 use pb_rounds::outcome::Elected;
@@ -30,7 +31,8 @@ use std::collections::BTreeSet;
 /// one that did not win has its votes and its cost: for a hundred of the added at most.
 pub fn ties_of(alloc: Global, count: &CountedElection) -> Result<Vec<Tie>, NoMemory>
     ensures { IfOk result (λ ties. ties.items
-        ≡ ties_of count.now.rule.options.measure count.now.election count.now.counted) }
+        ≡ ties_of count.now.rule.options.measure
+        (support_in count.now.rule.options.grain count.now.election) count.now.counted) }
 {
     let (rule, outcome) = (count.rule(), count.outcome());
     let elected = outcome.elected.as_slice();
@@ -153,6 +155,7 @@ fn replay_ties(
 ) -> Result<Vec<Tie>, NoMemory>
     requires known { All (λ w. w.place < length supporters.now.costs) elected.now }
     requires small { share ≤ largest_share }
+    requires payers { All (λ w. HasPayers supporters.now w.exact) elected.now }
     ensures { IfOk result (λ ties. ties.items ≡ take 100 (flat_map
         (ties_in measure supporters.now share elected.now) (range_with_len 0 (length elected.now)))) }
 {
@@ -191,11 +194,11 @@ pub(crate) fn opening_bounds(
     alloc: Global,
     elected: &[Elected],
     projects: usize,
-) -> Result<Vec<Option<Money>>, NoMemory>
+) -> Result<Vec<Option<Price>>, NoMemory>
     requires { All (λ w. w.place < projects) elected.now }
     ensures { IfOk result (λ bounds. AreOpeningBounds projects elected.now bounds.items) }
 {
-    let mut bounds = vec![in alloc; Some(Money(0)); projects]?;
+    let mut bounds = vec![in alloc; Some(Price::whole(Money(0))); projects]?;
     for winner in elected {
         bounds[winner.place as usize] = None;
     }

@@ -9,8 +9,8 @@ pub struct VoterReason {
     pub votes: u32,
     /// How many of these are elected, also where nothing was paid, or added.
     pub elected: u32,
-    /// What the voter paid, in hundredths.
+    /// What the voter paid, in the parts that are counted.
     pub paid: Money,
-    /// What is left of the voter's share, in hundredths.
+    /// What is left of the voter's share, in the same.
     pub left: Money,
 }

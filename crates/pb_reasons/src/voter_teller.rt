@@ -102,13 +102,13 @@ impl<'a> Model for Turns<'a> {
     ghost use Rattle.pb_core.specs.Election.{ElectionView};
     ghost use Rattle.pb_rounds.specs.Outcome.{OutcomeView};
     ghost use Rattle.pb_reasons.specs.Inner.Kept.{AreRounds};
-    ghost use Rattle.pb_reasons.specs.Inner.Told.{CanBeTold};
+    ghost use Rattle.pb_reasons.specs.Inner.Told.{IsTold};
 
     ghost Value = { ElectionView × OutcomeView };
 
     ghost view = { λ k. (k.election.now, k.outcome.now) };
 
-    ghost invariant = { λ k. CanBeTold k.election.now k.outcome.now
+    ghost invariant = { λ k. IsTold k.election.now k.outcome.now
         × AreRounds (length k.election.now.projects) k.outcome.now.elected k.rounds.now
         × (length k.purse ≡ length k.outcome.now.elected) };
 }

@@ -5,11 +5,10 @@ use crate::refusing::Refusing;
 use crate::walk::{Heap, MOST, goes_on, refused};
 use pb_core::gate::NoGate;
 use pb_core::{Election, Money, NoMemory};
-use pb_price::{PriceFault, Supporters, Tally, price_all};
+use pb_price::{Price, PriceFault, Supporters, Tally, price_all};
 use pb_read::read_pb;
 use pb_rounds::count::{count, equal_shares};
 use pb_rounds::count_fault::CountFault;
-use pb_rounds::measure::Measure;
 use pb_rounds::options::CountOptions;
 use pb_rounds::outcome::Outcome;
 use std::alloc::Global;
@@ -91,7 +90,7 @@ fn prices_of<'a, R: Threads + Sync + Abort>(
     supporters: &Supporters<Heap<'a>>,
     workers: u32,
     tally: &mut Tally,
-) -> Result<Vec<Option<Money>, Heap<'a>>, PriceFault> {
+) -> Result<Vec<Option<Price>, Heap<'a>>, PriceFault> {
     assert!(rt; supporters.voters() == 4 && supporters.projects() == 4);
     price_all(
         rt,
@@ -125,12 +124,15 @@ fn all_priced<R: Threads + Sync + Abort>(
 
 /// Whether these are both prices, and this many were counted.
 fn are_the_prices(
-    prices: &Result<Vec<Option<Money>, Heap<'_>>, PriceFault>,
+    prices: &Result<Vec<Option<Price>, Heap<'_>>, PriceFault>,
     counted: u64,
 ) -> Result<bool, NoMemory> {
     match prices {
         Ok(prices) => {
-            let wanted = [Some(Money(700)), Some(Money(990))];
+            let wanted = [
+                Some(Price::whole(Money(700))),
+                Some(Price::whole(Money(990))),
+            ];
             Ok(are(prices.as_slice(), &wanted) && counted == 2)
         }
         Err(fault) => refused(*fault == PriceFault::NoMemory && counted == 0),
@@ -143,7 +145,14 @@ fn run_of<'a, R: Threads + Sync>(
     heap: Heap<'a>,
     election: &Election,
 ) -> Result<Outcome<Heap<'a>>, CountFault> {
-    equal_shares(rt, heap, election, Money(1_000), 1, Measure::Votes, &NoGate)
+    equal_shares(
+        rt,
+        heap,
+        election,
+        Money(1_000),
+        &CountOptions::standard(),
+        &NoGate,
+    )
 }
 
 fn shared_equally<R: Threads + Sync>(

@@ -8,7 +8,7 @@ use Rattle.std.proofs.lemmas.List.Kept.{AllPairs-cons}
 use Rattle.std.proofs.lemmas.List.Sums.{sum_by-cons}
 use Rattle.pb_core.specs.Election.{ElectionView, IsElection}
 use Rattle.pb_price.specs.Supporters.{SupportView, cost_at, support_of}
-use Rattle.pb_price.proofs.SupporterLists.{support_form}
+use Rattle.pb_price.proofs.SupporterLists.{is_support_of, support_form}
 use Rattle.pb_rounds.specs.MostVotes.{IsMostVotesFirst, is_taken, most_votes_first, votes_at}
 use Rattle.pb_rounds.proofs.Computed.{computed_is_filled, fitting_is_paid}
 use Rattle.pb_rounds.proofs.Filled.{IsFilled, filled_from_rule, one_filled, rule_from_filled}
@@ -17,7 +17,7 @@ use Rattle.pb_rounds.proofs.Filled.{IsFilled, filled_from_rule, one_filled, rule
 pub election_is_filled : (e : ElectionView) (taken : List ℕ) (left : ℕ) → IsElection e
     → IsFilled (support_of e) taken left (most_votes_first (support_of e) taken left)
 election_is_filled e taken left h =
-    computed_is_filled (support_of e) (support_form (support_of e) (e, h, refl)) left taken left (omega arith)
+    computed_is_filled (support_of e) (support_form (support_of e) (is_support_of e h)) left taken left (omega arith)
 
 pub is_its_rule : (e : ElectionView) (taken : List ℕ) (left : ℕ) (added : List ℕ) → IsElection e
     → (added ≡ most_votes_first (support_of e) taken left) ↔ IsMostVotesFirst (support_of e) taken left added

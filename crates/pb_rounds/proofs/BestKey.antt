@@ -5,7 +5,7 @@ use Rattle.std.specs.List.{find, cons_option}
 use Rattle.std.proofs.lemmas.Option.{none-some, same_Some}
 use Rattle.std.proofs.lemmas.Bool.{true≢false, or_left, or_right, or_cases, eq-eqb, eqb-true}
 use Rattle.pb_price.specs.Supporters.{SupportView}
-use Rattle.pb_price.specs.Price.{price_at}
+use Rattle.pb_price.specs.Price.{PriceView, price_at}
 use Rattle.pb_rounds.specs.declared.measure.Measure.{Measure}
 use Rattle.pb_rounds.specs.Inner.Queue.{IsIn}
 use Rattle.pb_rounds.specs.Key.{KeyView}
@@ -21,7 +21,7 @@ pub record IsKey (m : Measure) (s : SupportView) (rests left : List ℕ) (b : Ke
 
 found_first : (m : Measure) (s : SupportView) (rests : List ℕ) (place : ℕ) (left : List ℕ) (test : KeyView → Bool) (b : KeyView)
     → (find test (keys_at m s rests left) ≡ Some b → IsKey m s rests left b)
-    → (o : Option ℕ) → price_at s rests place ≡ o
+    → (o : Option PriceView) → price_at s rests place ≡ o
     → find test (cons_option (option_map (key_of m s place) o) (keys_at m s rests left)) ≡ Some b
     → IsKey m s rests (place ∷ left) b
 found_first m s rests place left test b others None e f =
@@ -32,7 +32,7 @@ found_first m s rests place left test b others (Some price) e f =
   where
     found_or_later : (m : Measure) (s : SupportView) (rests : List ℕ) (place : ℕ) (left : List ℕ) (test : KeyView → Bool) (b : KeyView)
         → (find test (keys_at m s rests left) ≡ Some b → IsKey m s rests left b)
-        → (price : ℕ) → price_at s rests place ≡ Some price → (passes : Bool)
+        → (price : PriceView) → price_at s rests place ≡ Some price → (passes : Bool)
         → cond passes (Some (key_of m s place price)) (find test (keys_at m s rests left)) ≡ Some b
         → IsKey m s rests (place ∷ left) b
     found_or_later m s rests place left test b others price e true f =
@@ -54,7 +54,7 @@ best_is_key m s rests left b e = found_among m s rests left _ b e
 
 no_key_first : (m : Measure) (s : SupportView) (rests : List ℕ) (first : ℕ) (left : List ℕ)
     → (keys_at m s rests left ≡ [] → (place : ℕ) → is_listed left place ≡ true → price_at s rests place ≡ None)
-    → (o : Option ℕ) → price_at s rests first ≡ o
+    → (o : Option PriceView) → price_at s rests first ≡ o
     → cons_option (option_map (key_of m s first) o) (keys_at m s rests left) ≡ []
     → (place : ℕ) → is_listed (first ∷ left) place ≡ true → price_at s rests place ≡ None
 no_key_first m s rests first left others None e f place h = elim (or_cases (first == place) _ h) [
@@ -77,7 +77,7 @@ no_price_without_best m s rests left e = no_price_without_key m s rests left (no
 
 -- the keys of projects, as elements
 key_from_by : (m : Measure) (s : SupportView) (rests : List ℕ) (first : ℕ) (left : List ℕ) (b : KeyView) → (IsIn b (keys_at m s rests left) → IsKey m s rests left b)
-    → (o : Option ℕ) → price_at s rests first ≡ o → IsIn b (cons_option (option_map (key_of m s first) o) (keys_at m s rests left)) → IsKey m s rests (first ∷ left) b
+    → (o : Option PriceView) → price_at s rests first ≡ o → IsIn b (cons_option (option_map (key_of m s first) o) (keys_at m s rests left)) → IsKey m s rests (first ∷ left) b
 key_from_by m s rests first left b later None e i =
     let found = later i in
     record { is_left = or_right (first == b.place) _ found.is_left; is_price = found.is_price; is_key = found.is_key }
@@ -97,9 +97,9 @@ pub key_from : (m : Measure) (s : SupportView) (rests left : List ℕ) (b : KeyV
 key_from m s rests [] b i = absurd i
 key_from m s rests (first ∷ left) b i = key_from_by m s rests first left b (key_from m s rests left b) (price_at s rests first) refl i
 
-key_in_by : (m : Measure) (s : SupportView) (rests : List ℕ) (place price first : ℕ) (left : List ℕ)
+key_in_by : (m : Measure) (s : SupportView) (rests : List ℕ) (place : ℕ) (price : PriceView) (first : ℕ) (left : List ℕ)
     → (is_listed left place ≡ true → IsIn (key_of m s place price) (keys_at m s rests left)) → is_listed (first ∷ left) place ≡ true → price_at s rests place ≡ Some price
-    → (o : Option ℕ) → price_at s rests first ≡ o → IsIn (key_of m s place price) (cons_option (option_map (key_of m s first) o) (keys_at m s rests left))
+    → (o : Option PriceView) → price_at s rests first ≡ o → IsIn (key_of m s place price) (cons_option (option_map (key_of m s first) o) (keys_at m s rests left))
 key_in_by m s rests place price first left later listed priced None e = elim (or_cases (first == place) _ listed) [
   | inl here ↦ absurd (none-some price (sym e ∙ ap (price_at s rests) (eqb-true first place here) ∙ priced))
   | inr others ↦ later others
@@ -112,7 +112,7 @@ key_in_by m s rests place price first left later listed priced (Some p) e = elim
   | inr others ↦ inr (later others)
 ]
 
-pub key_in : (m : Measure) (s : SupportView) (rests : List ℕ) (place price : ℕ) (left : List ℕ) → is_listed left place ≡ true → price_at s rests place ≡ Some price
+pub key_in : (m : Measure) (s : SupportView) (rests : List ℕ) (place : ℕ) (price : PriceView) (left : List ℕ) → is_listed left place ≡ true → price_at s rests place ≡ Some price
     → IsIn (key_of m s place price) (keys_at m s rests left)
 key_in m s rests place price [] listed priced = absurd (true≢false (sym listed))
 key_in m s rests place price (first ∷ left) listed priced =

@@ -8,10 +8,10 @@ use Rattle.std.proofs.lemmas.Bool.{cases_eq, cases_lt}
 use Rattle.std.proofs.lemmas.List.{get_or-replicate, get_or_past, length-replicate}
 use Rattle.std.proofs.lemmas.List.Sums.{sum_by-cons}
 use Rattle.std.proofs.lemmas.Option.{none-some, same_Some}
-use Rattle.pb_price.specs.Price.{price_at}
+use Rattle.pb_price.specs.Price.{AtMost, PriceView, due, price_at}
 use Rattle.pb_price.specs.Inner.Lists.{NoRestRises}
 use Rattle.pb_price.specs.Supporters.{SupportView, cost_at, supporters_at}
-use Rattle.pb_price.proofs.RestsFall.{no_price_falls, no_price_stays}
+use Rattle.pb_price.proofs.Prices.{due_rises, none_stays, prices_rise}
 use Rattle.pb_rounds.specs.declared.measure.Measure.{Measure}
 use Rattle.pb_rounds.specs.Inner.Between.{KeepsElecting, KeepsUpTo, places_of_elected}
 use Rattle.pb_rounds.specs.Count.{could_be_added, is_exhausted, is_over, spent_on}
@@ -38,29 +38,29 @@ charged_between supporters p q low high falls less v =
     omega (arith, here, charged_at supporters p low v, charged_at supporters q high v)
 
 -- a price at lower rests is one at higher rests, and not below it
-record HasPrice (s : SupportView) (rests : List ℕ) (place most : ℕ) : Type 0 where
-  pub price : ℕ
+record HasPrice (s : SupportView) (rests : List ℕ) (place : ℕ) (most : PriceView) : Type 0 where
+  pub price : PriceView
   pub is_price : price_at s rests place ≡ Some price
-  pub at_most : price ≤ most
+  pub at_most : AtMost price most
 
-priced_above_by : (s : SupportView) (low high : List ℕ) (place p : ℕ) → NoRestRises high low → price_at s low place ≡ Some p
-    → (o : Option ℕ) → price_at s high place ≡ o → HasPrice s high place p
+priced_above_by : (s : SupportView) (low high : List ℕ) (place : ℕ) (p : PriceView) → NoRestRises high low → price_at s low place ≡ Some p
+    → (o : Option PriceView) → price_at s high place ≡ o → HasPrice s high place p
 priced_above_by s low high place p falls e None none =
-    absurd (none-some p (sym (no_price_stays (supporters_at s place) high low (cost_at s place) falls none) ∙ e))
+    absurd (none-some p (sym (none_stays s high low place falls none) ∙ e))
 priced_above_by s low high place p falls e (Some q) some =
-    record { price = q; is_price = some; at_most = no_price_falls (supporters_at s place) high low (cost_at s place) q p falls some e }
+    record { price = q; is_price = some; at_most = prices_rise s high low place falls q p some e }
 
-priced_above : (s : SupportView) (low high : List ℕ) (place p : ℕ) → NoRestRises high low → price_at s low place ≡ Some p → HasPrice s high place p
+priced_above : (s : SupportView) (low high : List ℕ) (place : ℕ) (p : PriceView) → NoRestRises high low → price_at s low place ≡ Some p → HasPrice s high place p
 priced_above s low high place p falls e = priced_above_by s low high place p falls e _ refl
 
 -- one round: low are the rests of the smaller share, here those of one in between, high those of the larger one
 module _ (m : Measure) (s : SupportView) (low here high left : List ℕ) (more : NoRestRises here low) (less : NoRestRises high here)
-    (b : KeyView) (best : best_of m s low left ≡ Some b) (others : (other p : ℕ) → is_listed (without b.place left) other ≡ true
+    (b : KeyView) (best : best_of m s low left ≡ Some b) (others : (other : ℕ) (p : PriceView) → is_listed (without b.place left) other ≡ true
     → price_at s high other ≡ Some p → is_before (key_of m s b.place b.price) (key_of m s other p) ≡ true) where
   winner_here : HasPrice s here b.place b.price
   winner_here = priced_above s low here b.place b.price more (best_is_key m s low left b best).is_price
 
-  none_before : (other p : ℕ) → is_listed left other ≡ true → price_at s here other ≡ Some p
+  none_before : (other : ℕ) (p : PriceView) → is_listed left other ≡ true → price_at s here other ≡ Some p
       → is_before (key_of m s other p) (key_of m s b.place winner_here.price) ≡ false
   none_before other p listed e = elim (cases_eq other b.place) [
     | inl same ↦
@@ -95,19 +95,18 @@ module _ (m : Measure) (s : SupportView) (n : ℕ) (later : Between m s n) (low 
       let unpaid : (place : ℕ) → is_listed left place ≡ true → price_at s high place ≡ None =
       subst (λ (ws : List ElectedView). KeepsElecting m s ws high left) ended keeps in
       let nobody : best_of m s here left ≡ None =
-      no_best m s here left (λ place listed. no_price_stays (supporters_at s place) high here (cost_at s place) less (unpaid place listed)) in
+      no_best m s here left (λ place listed. none_stays s high here place less (unpaid place listed)) in
       ap (λ (r : RunView). places_of_elected r.elected) (run_from-none m s here left nobody (suc n)) ∙ sym (ap places_of_elected ended)
   round_between (Some b) best keeps =
       let low_run = run_from-some m s low left b best n in
       let held = subst (λ (ws : List ElectedView). KeepsElecting m s ws high left) (ap (λ (r : RunView). r.elected) low_run) keeps in
       let mine = winner_here m s low here high left more less b best held.2 in
       let chosen = best_here m s low here high left more less b best held.2 in
-      let high_less : held.0 ≤ mine.price =
-      no_price_falls (supporters_at s b.place) high here (cost_at s b.place) held.0 mine.price less held.1 mine.is_price in
-      let rest = later (charged (supporters_at s b.place) b.price low) (charged (supporters_at s b.place) mine.price here)
-      (charged (supporters_at s b.place) held.0 high) (without b.place left)
-      (charged_between (supporters_at s b.place) b.price mine.price low here more mine.at_most)
-      (charged_between (supporters_at s b.place) mine.price held.0 here high less high_less)
+      let high_less : AtMost held.0 mine.price = prices_rise s high here b.place less held.0 mine.price held.1 mine.is_price in
+      let rest = later (charged (supporters_at s b.place) (due b.price) low) (charged (supporters_at s b.place) (due mine.price) here)
+      (charged (supporters_at s b.place) (due held.0) high) (without b.place left)
+      (charged_between (supporters_at s b.place) (due b.price) (due mine.price) low here more (due_rises mine.price b.price mine.at_most))
+      (charged_between (supporters_at s b.place) (due mine.price) (due held.0) here high less (due_rises held.0 mine.price high_less))
       held.3 in
       ap (λ (r : RunView). places_of_elected r.elected) (run_from-some m s here left (key_of m s b.place mine.price) chosen n)
       ∙ ap (λ places. b.place ∷ places) rest

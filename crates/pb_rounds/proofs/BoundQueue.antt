@@ -1,5 +1,5 @@
 -- The queue of a trial: what its head says, and what it is after the head was taken out or put back with a higher bound.
-use Rattle.std.proofs.Common.{◌≡◌, ◌≢◌, ℕ, ◌+◌, ◌-◌, ◌<◌, ◌≤◌, List, [], ◌∷◌, length, replicate, Option, Some, None, true, false, refl, sym, subst, ◌∙◌, ap, inl, inr, arith}
+use Rattle.std.proofs.Common.{◌≡◌, ◌≢◌, ℕ, ◌+◌, ◌-◌, ◌<◌, ◌≤◌, ◌^◌, List, [], ◌∷◌, length, replicate, Option, Some, None, true, false, refl, sym, subst, ◌∙◌, ap, inl, inr, arith}
 use Rattle.std.specs.Prelude.{◌⊎◌, All, sum_by}
 use Rattle.std.specs.List.{range_with_len}
 use Rattle.std.specs.List.Sorted.{IsStrictlySortedBy}
@@ -12,12 +12,11 @@ use Rattle.std.proofs.lemmas.List.{length-replicate}
 use Rattle.std.proofs.lemmas.List.Elements.{All-replicate}
 use Rattle.std.proofs.lemmas.List.Sums.{sum_by-cons}
 use Rattle.std.proofs.lemmas.Option.{none-some, same_Some}
-use Rattle.pb_core.specs.Money.{largest_money}
-use Rattle.pb_price.specs.Price.{AreRests, IsPrice, largest_share, price_at}
+use Rattle.pb_price.specs.Price.{AreRests, AtMost, HasPayers, IsPrice, PriceView, due, largest_share, price_at}
 use Rattle.pb_price.specs.Inner.Lists.{NoRestRises}
-use Rattle.pb_price.specs.Supporters.{SupportView, cost_at, supporters_at}
-use Rattle.pb_price.proofs.Payments.{price_from_is_price}
-use Rattle.pb_price.proofs.RestsFall.{no_price_falls, no_price_stays}
+use Rattle.pb_price.specs.Supporters.{SupportView, cost_in_parts, supporters_at}
+use Rattle.pb_price.proofs.Heights.{height, highest}
+use Rattle.pb_price.proofs.Prices.{at_most_trans, none_stays, price_from_is_price, prices_rise}
 use Rattle.pb_rounds.specs.declared.measure.Measure.{Measure}
 use Rattle.pb_rounds.specs.Inner.Bounds.{FindsBest, HasBounds, IsOpening}
 use Rattle.pb_rounds.specs.Inner.Queue.{IsDone, IsIn, Rises}
@@ -40,6 +39,7 @@ opening_skips m s share n queue h none = record {
   known = λ b i. (let below = h.known b i in omega arith);
   priced = h.priced;
   are_keys = h.are_keys;
+  payers = h.payers;
   whole = λ place p below e. elim (cases_eq place n) [
     | inl same ↦ absurd (none-some p (sym none ∙ ap (price_at s (replicate s.voters share)) (sym same) ∙ e))
     | inr other ↦ h.whole place p (omega arith) e
@@ -48,9 +48,9 @@ opening_skips m s share n queue h none = record {
 }
 
 pub opening_puts : (m : Measure) (s : SupportView) (share n : ℕ) (queue : List KeyView) → IsOpening m s share n queue
-    → (price : ℕ) → price_at s (replicate s.voters share) n ≡ Some price → (k : KeyView) → k ≡ key_of m s n price
+    → (price : PriceView) → HasPayers s price → price_at s (replicate s.voters share) n ≡ Some price → (k : KeyView) → k ≡ key_of m s n price
     → (new : List KeyView) → new ≡ insert_key key_cmp queue k → IsStrictlySortedBy key_cmp new → IsOpening m s share (n + 1) new
-opening_puts m s share n queue h price some k k_is new new_is sorted =
+opening_puts m s share n queue h price has some k k_is new new_is sorted =
     let at : k.place ≡ n = ap (λ (c : KeyView). c.place) k_is in
     let for : k.price ≡ price = ap (λ (c : KeyView). c.price) k_is in
     let itself : k ≡ key_of m s k.place k.price = k_is ∙ ap (λ p. key_of m s p price) (sym at) ∙ ap (key_of m s k.place) (sym for) in
@@ -67,6 +67,10 @@ opening_puts m s share n queue h price some k k_is new new_is sorted =
       are_keys = λ b i. elim (put_from k b queue (subst (IsIn b) new_is i)) [
         | inl old ↦ h.are_keys b old
         | inr same ↦ subst (λ (c : KeyView). c ≡ key_of m s c.place c.price) (sym same) itself
+      ];
+      payers = λ b i. elim (put_from k b queue (subst (IsIn b) new_is i)) [
+        | inl old ↦ h.payers b old
+        | inr same ↦ subst (HasPayers s) (sym (ap (λ (c : KeyView). c.price) same ∙ for)) has
       ];
       whole = λ place p below e. subst (IsIn (key_of m s place p)) (sym new_is) (elim (cases_eq place n) [
         | inl same ↦
@@ -85,11 +89,11 @@ opening_rests s share small = record {
 }
 
 -- a price where each rest is the share
-pub opening_price : (s : SupportView) (share place : ℕ) (answer : Option ℕ) → share ≤ largest_share
+pub opening_price : (s : SupportView) (share place : ℕ) → 0 < cost_in_parts s place → (answer : Option PriceView) → share ≤ largest_share
     → ((rests : List ℕ) → AreRests s.voters rests → All (λ rest. rest ≡ share) rests → IsPrice s rests place answer)
     → price_at s (replicate s.voters share) place ≡ answer
-opening_price s share place answer small says =
-    sym (price_from_is_price (supporters_at s place) (replicate s.voters share) (cost_at s place) answer
+opening_price s share place some answer small says =
+    sym (price_from_is_price s (replicate s.voters share) place some answer
     (says (replicate s.voters share) (opening_rests s share small) (All-replicate (λ rest. rest ≡ share) s.voters share refl)))
 
 -- all places have their bounds
@@ -100,7 +104,8 @@ opening_bounds m s share queue h = record {
       (RisesWithin-below _ 0 (length s.costs) (range_rises 0 (length s.costs) (length s.costs) (omega arith))) listed;
   are_left = λ b i. is_listed-range 0 (length s.costs) b.place (omega arith) (let below = h.known b i in omega (arith, below));
   are_keys = h.are_keys;
-  lower = λ b p i e. (let same = same_Some _ _ (sym (h.priced b i) ∙ e) in omega arith);
+  payers = h.payers;
+  lower = λ b p i e. inr (same_Some _ _ (sym (h.priced b i) ∙ e));
   one_each = λ b c i j same.
       let prices : b.price ≡ c.price = same_Some _ _ (sym (h.priced b i) ∙ ap (price_at s (replicate s.voters share)) same ∙ h.priced c j) in
       h.are_keys b i ∙ ap (λ n. key_of m s n b.price) same ∙ ap (key_of m s c.place) prices ∙ sym (h.are_keys c j);
@@ -119,7 +124,7 @@ module _ (m : Measure) (s : SupportView) (rests left : List ℕ) (head : KeyView
   pub head_known : head.place < length s.costs
   head_known = h.known head.place (h.are_left head (inl refl))
 
-  pub head_lower : (p : ℕ) → price_at s rests head.place ≡ Some p → head.price ≤ p
+  pub head_lower : (p : PriceView) → price_at s rests head.place ≡ Some p → AtMost head.price p
   head_lower p e = h.lower head p (inl refl) e
 
   -- nothing else in the queue is the head's project
@@ -137,6 +142,7 @@ module _ (m : Measure) (s : SupportView) (rests left : List ℕ) (head : KeyView
     known = h.known;
     are_left = λ b i. h.are_left b (inr i);
     are_keys = λ b i. h.are_keys b (inr i);
+    payers = λ b i. h.payers b (inr i);
     lower = λ b p i e. h.lower b p (inr i) e;
     one_each = λ b c i j same. h.one_each b c (inr i) (inr j) same;
     whole = λ place p listed e.
@@ -150,10 +156,13 @@ module _ (m : Measure) (s : SupportView) (rests left : List ℕ) (head : KeyView
   }
 
   -- it goes back with a higher bound
-  pub head_goes_back : (bound : ℕ) → ((p : ℕ) → price_at s rests head.place ≡ Some p → bound ≤ p)
+  pub head_payers : HasPayers s head.price
+  head_payers = h.payers head (inl refl)
+
+  pub head_goes_back : (bound : PriceView) → HasPayers s bound → ((p : PriceView) → price_at s rests head.place ≡ Some p → AtMost bound p)
       → (k : KeyView) → k ≡ key_of m s head.place bound → (new : List KeyView) → new ≡ insert_key key_cmp rest k → IsStrictlySortedBy key_cmp new
       → HasBounds m s rests left new
-  head_goes_back bound lower k k_is new new_is sorted =
+  head_goes_back bound has lower k k_is new new_is sorted =
       let at : k.place ≡ head.place = ap (λ (c : KeyView). c.place) k_is in
       let for : k.price ≡ bound = ap (λ (c : KeyView). c.price) k_is in
       let from : (b : KeyView) → IsIn b new → ◌⊎◌ (IsIn b rest) (b ≡ k) = λ b i. put_from k b rest (subst (IsIn b) new_is i) in
@@ -168,12 +177,16 @@ module _ (m : Measure) (s : SupportView) (rests left : List ℕ) (head : KeyView
           | inr same ↦ subst (λ (c : KeyView). c ≡ key_of m s c.place c.price) (sym same)
               (k_is ∙ ap (λ p. key_of m s p bound) (sym at) ∙ ap (key_of m s k.place) (sym for))
         ];
+        payers = λ b i. elim (from b i) [
+          | inl old ↦ h.payers b (inr old)
+          | inr same ↦ subst (HasPayers s) (sym (ap (λ (c : KeyView). c.price) same ∙ for)) has
+        ];
         lower = λ b p i e. elim (from b i) [
           | inl old ↦ h.lower b p (inr old) e
           | inr same ↦
               let here = lower p (ap (price_at s rests) (sym (ap (λ (c : KeyView). c.place) same ∙ at)) ∙ e) in
               let price : b.price ≡ bound = ap (λ (c : KeyView). c.price) same ∙ for in
-              omega (arith, here, price)
+              subst (λ (q : PriceView). AtMost q p) (sym price) here
         ];
         one_each = λ b c i j same. elim (from b i) [
           | inl one ↦ elim (from c j) [
@@ -205,7 +218,7 @@ module _ (m : Measure) (s : SupportView) (rests left : List ℕ) (head : KeyView
       is_best m s rests left head.place head.price (h.are_left head (inl refl)) priced
       (λ other p listed e.
       let found = h.whole other p listed e in
-      let low : found.0.price ≤ p = h.lower found.0 p found.1 (ap (price_at s rests) found.2 ∙ e) in
+      let low : AtMost found.0.price p = h.lower found.0 p found.1 (ap (price_at s rests) found.2 ∙ e) in
       let theirs : found.0 ≡ key_of m s other found.0.price = h.are_keys found.0 found.1 ∙ ap (λ n. key_of m s n found.0.price) found.2 in
       at_most_chain (key_of m s head.place head.price) (key_of m s other found.0.price) (key_of m s other p)
       (subst (λ (b : KeyView). is_before (key_of m s other found.0.price) b ≡ false) own
@@ -222,6 +235,7 @@ module _ (m : Measure) (s : SupportView) (rests left : List ℕ) (head : KeyView
     known = λ place listed. h.known place (listed_from_without left head.place place listed);
     are_left = λ b i. is_listed-without left head.place b.place (not_again b i) ∙ h.are_left b (inr i);
     are_keys = λ b i. h.are_keys b (inr i);
+    payers = λ b i. h.payers b (inr i);
     lower = λ b p i e. h.lower b p (inr i) e;
     one_each = λ b c i j same. h.one_each b c (inr i) (inr j) same;
     whole = λ place p listed e.
@@ -259,11 +273,11 @@ before_at_most a b c first second = elim (cases_Bool (is_before a c)) [
 ]
 
 beyond_by : (m : Measure) (s : SupportView) (rests left : List ℕ) (limit : KeyView) (queue : List KeyView) → HasBounds m s rests left queue
-    → IsDone (Some limit) queue → (place p : ℕ) → is_listed left place ≡ true → price_at s rests place ≡ Some p
+    → IsDone (Some limit) queue → (place : ℕ) (p : PriceView) → is_listed left place ≡ true → price_at s rests place ≡ Some p
     → is_before limit (key_of m s place p) ≡ true
 beyond_by m s rests left limit queue h done place p listed e =
     let found = h.whole place p listed e in
-    let low : found.0.price ≤ p = h.lower found.0 p found.1 (ap (price_at s rests) found.2 ∙ e) in
+    let low : AtMost found.0.price p = h.lower found.0 p found.1 (ap (price_at s rests) found.2 ∙ e) in
     let theirs : found.0 ≡ key_of m s place found.0.price = h.are_keys found.0 found.1 ∙ ap (λ n. key_of m s n found.0.price) found.2 in
     before_at_most limit (key_of m s place found.0.price) (key_of m s place p)
     (subst (λ (b : KeyView). is_before limit b ≡ true) theirs (after_limit queue h.rises done found.0 found.1))
@@ -286,7 +300,7 @@ pub nothing_found : (m : Measure) (s : SupportView) (rests left : List ℕ) (que
     → (place : ℕ) → is_listed left place ≡ true → price_at s rests place ≡ None
 nothing_found m s rests left queue h place listed = none_by (price_at s rests place) refl
   where
-    none_by : (o : Option ℕ) → price_at s rests place ≡ o → price_at s rests place ≡ None
+    none_by : (o : Option PriceView) → price_at s rests place ≡ o → price_at s rests place ≡ None
     none_by None e = e
     none_by (Some p) e = absurd (h.0 place p listed e)
 
@@ -298,24 +312,25 @@ bounds_fall m s before after left queue falls h = record {
   known = h.known;
   are_left = h.are_left;
   are_keys = h.are_keys;
+  payers = h.payers;
   lower = λ b p i e. lower_by b p i e (price_at s before b.place) refl;
   one_each = h.one_each;
   whole = λ place p listed e. whole_by place p listed e (price_at s before place) refl;
   rises = h.rises;
 }
   where
-    lower_by : (b : KeyView) (p : ℕ) → IsIn b queue → price_at s after b.place ≡ Some p → (o : Option ℕ) → price_at s before b.place ≡ o → b.price ≤ p
+    lower_by : (b : KeyView) (p : PriceView) → IsIn b queue → price_at s after b.place ≡ Some p → (o : Option PriceView) → price_at s before b.place ≡ o → AtMost b.price p
     lower_by b p i e None none =
-        absurd (none-some p (sym (no_price_stays (supporters_at s b.place) before after (cost_at s b.place) falls none) ∙ e))
+        absurd (none-some p (sym (none_stays s before after b.place falls none) ∙ e))
     lower_by b p i e (Some r) some =
         let one = h.lower b r i some in
-        let two = no_price_falls (supporters_at s b.place) before after (cost_at s b.place) r p falls some e in
-        omega arith
+        let two = prices_rise s before after b.place falls r p some e in
+        at_most_trans b.price r p one two
 
-    whole_by : (place p : ℕ) → is_listed left place ≡ true → price_at s after place ≡ Some p → (o : Option ℕ) → price_at s before place ≡ o
+    whole_by : (place : ℕ) (p : PriceView) → is_listed left place ≡ true → price_at s after place ≡ Some p → (o : Option PriceView) → price_at s before place ≡ o
         → (b : KeyView) × IsIn b queue × (b.place ≡ place)
     whole_by place p listed e None none =
-        absurd (none-some p (sym (no_price_stays (supporters_at s place) before after (cost_at s place) falls none) ∙ e))
+        absurd (none-some p (sym (none_stays s before after place falls none) ∙ e))
     whole_by place p listed e (Some r) some = h.whole place r listed some
 
 pub charged_falls : (supporters : List ℕ) (price : ℕ) (rests : List ℕ) → NoRestRises rests (charged supporters price rests)
@@ -324,24 +339,24 @@ charged_falls supporters price rests v = omega (arith, charged_at supporters pri
 -- ---- how long a search can go on: each look raises a bound or takes a key out
 
 abbrev pub looks_left : List KeyView → ℕ
-looks_left queue = sum_by (λ (b : KeyView). 1 + (largest_money - b.price)) queue
+looks_left queue = sum_by (λ (b : KeyView). 1 + (highest (2 ^ 64) - height b.price)) queue
 
-fewer_by : (o : Ordering) (k x : KeyView) (xs : List KeyView) → looks_left (insert_key key_cmp xs k) ≤ (1 + (largest_money - k.price)) + looks_left xs
-    → looks_left (match_ordering o (k ∷ x ∷ xs) (x ∷ xs) (x ∷ insert_key key_cmp xs k)) ≤ (1 + (largest_money - k.price)) + looks_left (x ∷ xs)
-fewer_by Less k x xs later = omega (arith, sum_by-cons (λ (b : KeyView). 1 + (largest_money - b.price)) k (x ∷ xs))
+fewer_by : (o : Ordering) (k x : KeyView) (xs : List KeyView) → looks_left (insert_key key_cmp xs k) ≤ (1 + (highest (2 ^ 64) - height k.price)) + looks_left xs
+    → looks_left (match_ordering o (k ∷ x ∷ xs) (x ∷ xs) (x ∷ insert_key key_cmp xs k)) ≤ (1 + (highest (2 ^ 64) - height k.price)) + looks_left (x ∷ xs)
+fewer_by Less k x xs later = omega (arith, sum_by-cons (λ (b : KeyView). 1 + (highest (2 ^ 64) - height b.price)) k (x ∷ xs))
 fewer_by Equal k x xs later = omega arith
 fewer_by Greater k x xs later =
-    let looks : KeyView → ℕ = λ b. 1 + (largest_money - b.price) in
+    let looks : KeyView → ℕ = λ b. 1 + (highest (2 ^ 64) - height b.price) in
     omega (arith, later, sum_by-cons looks x xs, sum_by-cons looks x (insert_key key_cmp xs k))
 
-looks_put : (k : KeyView) (xs : List KeyView) → looks_left (insert_key key_cmp xs k) ≤ (1 + (largest_money - k.price)) + looks_left xs
-looks_put k [] = omega (arith, sum_by-cons (λ (b : KeyView). 1 + (largest_money - b.price)) k [])
+looks_put : (k : KeyView) (xs : List KeyView) → looks_left (insert_key key_cmp xs k) ≤ (1 + (highest (2 ^ 64) - height k.price)) + looks_left xs
+looks_put k [] = omega (arith, sum_by-cons (λ (b : KeyView). 1 + (highest (2 ^ 64) - height b.price)) k [])
 looks_put k (x ∷ xs) = fewer_by (key_cmp k x) k x xs (looks_put k xs)
 
-pub fewer_with_higher : (head k : KeyView) (rest : List KeyView) → head.price < k.price → k.price ≤ largest_money
+pub fewer_with_higher : (head k : KeyView) (rest : List KeyView) → height head.price < height k.price → height k.price ≤ highest (2 ^ 64)
     → looks_left (insert_key key_cmp rest k) < looks_left (head ∷ rest)
 fewer_with_higher head k rest more small =
-    omega (arith, looks_put k rest, sum_by-cons (λ (b : KeyView). 1 + (largest_money - b.price)) head rest, more, small)
+    omega (arith, looks_put k rest, sum_by-cons (λ (b : KeyView). 1 + (highest (2 ^ 64) - height b.price)) head rest, more, small)
 
 -- ---- a search, as a caller has it: the rests that it was made at are these
 pub found_at : (m : Measure) (s : SupportView) (rests seen left : List ℕ) → seen ≡ rests → (limit : Option KeyView) (before after : List KeyView) (answer by : Option KeyView)

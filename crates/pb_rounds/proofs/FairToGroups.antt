@@ -1,19 +1,21 @@
 -- Every outcome is fair to groups.
-use Rattle.std.proofs.Common.{◌≡◌, ◌≢◌, ℕ, suc, ◌+◌, ◌*◌, ◌<◌, ◌≤◌, min, List, [], ◌∷◌, ◌++◌, length, Bool, true, false, cond, Option, Some, None, refl, sym, subst, ◌∙◌, ap, inl, inr, arith}
+use Rattle.std.proofs.Common.{◌≡◌, ◌≢◌, ℕ, suc, ◌+◌, ◌*◌, ◌/◌, ◌<◌, ◌≤◌, max, min, List, [], ◌∷◌, ◌++◌, length, Bool, true, false, cond, Option, Some, None, refl, sym, subst, ◌∙◌, ap, inl, inr, arith}
 use Rattle.std.specs.List.{list_any}
 use Rattle.std.specs.Prelude.{All, Any, ◌==◌, ◌⊎◌, filter, nat_le, replicate, slice_index, sum_by, zip, if◌then◌else◌}
-use Rattle.std.proofs.Math.Nat.{mul-le-mul_right}
+use Rattle.std.proofs.Math.Nat.{div-mul-le_self, le_of_mul-le-mul_left, mul-le-mul_right, mul-pos}
 use Rattle.std.proofs.lemmas.Bool.{cases_lt, le-leb, leb-true, cond-true}
 use Rattle.std.proofs.lemmas.List.{get_or-replicate, length-replicate}
 use Rattle.std.proofs.lemmas.List.Elements.{All-nil, All-cons, All-head, All-tail, All-filter, All-weaker}
 use Rattle.std.proofs.lemmas.List.Sums.{sum_by-cons}
-use Rattle.pb_price.specs.Price.{IsLeastPayment, paid_at, price_of, total_rest}
-use Rattle.pb_price.specs.Inner.Payment.{IsPriceFor}
-use Rattle.pb_price.specs.Supporters.{SupportView, IsSupport, supporters_at, cost_at}
-use Rattle.pb_price.proofs.Payments.{paid_at-le-total_rest, price_of_is_price}
-use Rattle.pb_price.proofs.SupporterLists.{known_voters, support_form}
+use Rattle.pb_price.specs.Price.{IsPrice, PriceView, due, paid_at, price_at, total_rest}
+use Rattle.pb_price.specs.Supporters.{SupportView, IsSupport, supporters_at, cost_in_parts}
+use Rattle.pb_price.proofs.Dues.{price_within as price_in_within}
+use Rattle.pb_price.proofs.Payments.{paid_at-le-total_rest}
+use Rattle.pb_price.proofs.Prices.{price_at_is_price, price_has_payers}
+use Rattle.pb_price.proofs.SupporterLists.{cost_positive, known_voters, support_form}
 use Rattle.pb_rounds.specs.declared.measure.Measure.{Measure}
 use Rattle.pb_rounds.specs.declared.measure.Measure.TheVariants.{Votes, Cost}
+use Rattle.pb_rounds.specs.Inner.Cheapest.{ComesFirst}
 use Rattle.pb_rounds.specs.Cheapest.{IsCheaper, IsLeft, IsRun, rests_after}
 use Rattle.pb_rounds.specs.Fairness.{paid_within}
 use Rattle.pb_rounds.specs.Inner.Fairness.{IsFairToGroups, GroupsHaveWinners}
@@ -58,42 +60,48 @@ group_pays is_member rests amount (v ∷ vs) enough =
     omega (arith, all, sum_by-cons (λ v. min (slice_index rests v) amount) v vs)
 
 -- where the supporters together cover the cost at an amount, there is a price of at most this amount
-price_found : (supporters rests : List ℕ) (cost amount : ℕ) → cost ≤ paid_at supporters rests amount
-    → (o : Option ℕ) → IsPriceFor supporters rests cost o
-    → (price : ℕ) × (price ≤ amount) × IsLeastPayment supporters rests cost price
-price_found supporters rests cost amount covered None short =
-    absurd (omega (arith, short, covered, paid_at-le-total_rest supporters rests amount))
-price_found supporters rests cost amount covered (Some price) least = elim (cases_lt amount price) [
-  | inl less ↦ absurd (omega (arith, least.least amount less, covered))
-  | inr within ↦ (price, omega (arith, within), least)
-]
+price_found : (s : SupportView) (place : ℕ) (rests : List ℕ) (amount : ℕ) → cost_in_parts s place ≤ paid_at (supporters_at s place) rests amount
+    → (o : Option PriceView) → IsPrice s rests place o
+    → (price : PriceView) × (price.amount ≤ amount * price.payers) × IsPrice s rests place (Some price)
+price_found s place rests amount covered None short =
+    absurd (omega (arith, short, covered, paid_at-le-total_rest (supporters_at s place) rests amount))
+price_found s place rests amount covered (Some price) is =
+    (price, price_in_within s.grain (supporters_at s place) rests (cost_in_parts s place) price amount covered is, is)
 
-price_within : (supporters rests : List ℕ) (cost amount : ℕ) → cost ≤ paid_at supporters rests amount
-    → (price : ℕ) × (price ≤ amount) × IsLeastPayment supporters rests cost price
-price_within supporters rests cost amount covered =
-    price_found supporters rests cost amount covered (price_of supporters rests cost) (price_of_is_price supporters rests cost)
+price_within : (s : SupportView) (place : ℕ) → 0 < cost_in_parts s place → (rests : List ℕ) (amount : ℕ) → cost_in_parts s place ≤ paid_at (supporters_at s place) rests amount
+    → (price : PriceView) × (price.amount ≤ amount * price.payers) × IsPrice s rests place (Some price)
+price_within s place some rests amount covered = price_found s place rests amount covered (price_at s rests place) (price_at_is_price s rests place some)
+
+-- in cross products: n over d is at most nc over dc, for as much weight
+takes_less : (n d nc dc amount paid weight own : ℕ) → 0 < d → 0 < dc → n * (dc * weight) ≤ nc * (d * own) → nc ≤ amount * dc → paid * d ≤ n
+    → paid * weight ≤ amount * own
+takes_less n d nc dc amount paid weight own some other cheaper small pays =
+    let one : paid * d * (dc * weight) ≤ n * (dc * weight) = mul-le-mul_right (dc * weight) pays in
+    let two : nc * (d * own) ≤ amount * dc * (d * own) = mul-le-mul_right (d * own) small in
+    let all : d * dc * (paid * weight) ≤ d * dc * (amount * own) = omega (arith, one, two, cheaper) in
+    le_of_mul-le-mul_left all (mul-pos some other)
+
+first_at_most : (number other place other_place : ℕ) → ComesFirst number other place other_place → number ≤ other
+first_at_most number other place other_place (inl less) = omega (arith, less)
+first_at_most number other place other_place (inr same) = omega (arith, same.0)
 
 -- what is cheaper than a project at a price takes at most this price
-cheaper_takes_less : (m : Measure) (s : SupportView) (place price amount : ℕ) (w : ElectedView) (paid : ℕ)
-    → IsCheaper m s w.place w.price place price → price ≤ amount → paid ≤ w.price
+cheaper_takes_less : (m : Measure) (s : SupportView) (place : ℕ) (price : PriceView) (amount : ℕ) (w : ElectedView) (paid : ℕ)
+    → IsCheaper m s w.place w.exact place price → 0 < price.payers → 0 < w.exact.payers → price.amount ≤ amount * price.payers → paid ≤ due w.exact
     → nat_le (paid * weight_of m s place) (amount * weight_of m s w.place) ≡ true
-cheaper_takes_less Votes s place price amount w paid cheaper within small = le-leb (paid * 1) (amount * 1) (elim cheaper [
-  | inl less ↦ omega (arith, less, within, small)
-  | inr same ↦ omega (arith, same.0, within, small)
-])
-cheaper_takes_less Cost s place price amount w paid cheaper within small =
-    let low = mul-le-mul_right (cost_at s place) small in
-    let high = mul-le-mul_right (cost_at s w.place) within in
-    le-leb (paid * cost_at s place) (amount * cost_at s w.place) (elim cheaper [
-      | inl less ↦ omega (arith, less, low, high)
-      | inr same ↦ omega (arith, same.0, low, high)
-    ])
+cheaper_takes_less m s place price amount w paid cheaper some other within small =
+    let divides : max 1 w.exact.payers ≡ w.exact.payers = omega (arith, other) in
+    let own : due w.exact * max 1 w.exact.payers ≤ w.exact.amount = div-mul-le_self w.exact.amount (max 1 w.exact.payers) in
+    let same : due w.exact * max 1 w.exact.payers ≡ due w.exact * w.exact.payers = ap (λ n. due w.exact * n) divides in
+    let pays : paid * w.exact.payers ≤ due w.exact * w.exact.payers = mul-le-mul_right w.exact.payers small in
+    le-leb _ _ (takes_less w.exact.amount w.exact.payers price.amount price.payers amount paid (weight_of m s place) (weight_of m s w.place) other some
+    (first_at_most _ _ w.place place cheaper) within (omega (arith, own, same, pays)))
 
 -- each of these, elected from these rests on, was cheaper than the project at this place
 abbrev pub WereCheaper : Measure → SupportView → (place : ℕ) → List ℕ → List ElectedView → Type 0
 WereCheaper m s place rests elected = (before : List ElectedView) (w : ElectedView) (later : List ElectedView) → elected ≡ before ++ w ∷ later
-    → (price : ℕ) → IsLeastPayment (supporters_at s place) (rests_after s rests before) (cost_at s place) price
-    → IsCheaper m s w.place w.price place price
+    → (w.price ≡ due w.exact) × (0 < w.exact.payers)
+    × ((price : PriceView) → IsPrice s (rests_after s rests before) place (Some price) → IsCheaper m s w.place w.exact place price)
 
 weigh_together : (a b weight amount x y all : ℕ) → all ≡ x + y → a * weight ≤ amount * x → b * weight ≤ amount * y → (a + b) * weight ≤ amount * all
 weigh_together a b weight amount x y all e one other = rw e (omega (arith, one, other))
@@ -152,7 +160,7 @@ module _ (m : Measure) (s : SupportView) (place amount : ℕ) where
       (within_weighs_step (is_listed supporters v) w (supported_by s v elected) paid (slice_index rests v) later
       (within_weighs elected (charged supporters w.price rests) v) refl)
 
-  module _ (is_member : ℕ → Bool) (covers : cost_at s place ≤ length (filter is_member (supporters_at s place)) * amount) where
+  module _ (is_member : ℕ → Bool) (some : 0 < cost_in_parts s place) (covers : cost_in_parts s place ≤ length (filter is_member (supporters_at s place)) * amount) where
     -- the members can pay at the end where none paid too much within the amount
     group_keeps : (elected : List ElectedView) (rests : List ℕ) → WereCheaper m s place rests elected
         → All (λ v. within_from rests elected v + amount ≤ slice_index rests v) (filter is_member (supporters_at s place))
@@ -162,10 +170,12 @@ module _ (m : Measure) (s : SupportView) (place amount : ℕ) where
         let supporters = supporters_at s w.place in
         let left : All (λ v. amount ≤ slice_index rests v) (filter is_member (supporters_at s place)) =
         λ k d below. let here = enough k d below in omega (arith, here) in
-        let covered : cost_at s place ≤ paid_at (supporters_at s place) rests amount =
+        let covered : cost_in_parts s place ≤ paid_at (supporters_at s place) rests amount =
         let pays = group_pays is_member rests amount (supporters_at s place) left in omega (arith, pays, covers) in
-        let found = price_within (supporters_at s place) rests (cost_at s place) amount covered in
-        let cheaper = were [] w elected refl found.0 found.2 in
+        let found = price_within s place some rests amount covered in
+        let was = were [] w elected refl in
+        let cheaper = was.2 found.0 found.2 in
+        let payers = price_has_payers s.grain (supporters_at s place) rests (cost_in_parts s place) found.0 found.2 in
         group_keeps elected (charged supporters w.price rests)
         (λ before v later e. were (w ∷ before) v later (ap (λ xs. w ∷ xs) e))
         (All-weaker
@@ -173,7 +183,7 @@ module _ (m : Measure) (s : SupportView) (place amount : ℕ) where
         (λ v. within_from (charged supporters w.price rests) elected v + amount ≤ slice_index (charged supporters w.price rests) v)
         (λ v here.
         let paid = payment_of supporters w.price rests v in
-        let took : within_of w paid ≡ paid = cond-true _ _ _ (cheaper_takes_less m s place found.0 amount w paid cheaper found.1 (payment-within_price supporters w.price rests v)) in
+        let took : within_of w paid ≡ paid = cond-true _ _ _ (cheaper_takes_less m s place found.0 amount w paid cheaper payers was.1 found.1 (let most = payment-within_price supporters w.price rests v in omega (arith, most, was.0))) in
         omega (arith, here, took, within_from-cons rests w elected v, charged_at supporters w.price rests v))
         (filter is_member (supporters_at s place)) enough)
 
@@ -187,9 +197,13 @@ left_before s place (x ∷ before) w later others =
 
 run_were_cheaper : (m : Measure) (s : SupportView) (share : ℕ) (elected : List ElectedView) (rests : List ℕ) → IsRun m s share elected rests
     → (place : ℕ) → IsLeft s elected place → WereCheaper m s place (replicate s.voters share) elected
-run_were_cheaper m s share elected rests run place left before w later e price least =
+run_were_cheaper m s share elected rests run place left before w later e =
     let others = left_before s place before w later (subst (All (λ v. v.place ≢ place)) e left.1) in
-    (run.cheapest before w later e).cheapest place price (left.0, others.0) (λ same. others.1 (sym same)) least
+    let was = run.cheapest before w later e in (
+      was.rounded,
+      price_has_payers s.grain (supporters_at s w.place) (rests_after s (replicate s.voters share) before) (cost_in_parts s w.place) w.exact was.priced,
+      λ price is. was.cheapest place price (left.0, others.0) (λ same. others.1 (sym same)) is,
+    )
 
 -- each voter has the share at first
 share_at : (voters share v n : ℕ) → v < length (replicate voters share) → n ≤ share → n ≤ slice_index (replicate voters share) v
@@ -209,10 +223,10 @@ run_is_fair_to_groups m s share elected rests run place amount is_member left co
       | inr none ↦
           let enough : All (λ v. paid_within m s share elected place amount v + amount ≤ slice_index opening v) (filter is_member supporters) =
           λ k d below. share_at s.voters share _ _ (known k d below) (none k d below) in
-          let kept = group_keeps m s place amount is_member covers elected opening (run_were_cheaper m s share elected rests run place left) enough in
+          let kept = group_keeps m s place amount is_member (cost_positive s run.is_support place left.0) covers elected opening (run_were_cheaper m s share elected rests run place left) enough in
           let pays = group_pays is_member (rests_after s opening elected) amount supporters kept in
           let short = run.none_left place left in
-          absurd (omega (arith, pays, covers, paid_at-le-total_rest supporters (rests_after s opening elected) amount, subst (λ r. total_rest supporters r < cost_at s place) run.rests_are short))
+          absurd (omega (arith, pays, covers, paid_at-le-total_rest supporters (rests_after s opening elected) amount, subst (λ r. total_rest supporters r < cost_in_parts s place) run.rests_are short))
     ]
 
 weight_positive : (m : Measure) (s : SupportView) → IsSupport s → (place : ℕ) → place < length s.costs → 0 < weight_of m s place

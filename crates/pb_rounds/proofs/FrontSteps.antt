@@ -1,22 +1,22 @@
 -- What the front's loops do: rests that are all raised, prices that all can pay, and a copy of the queue up to a share.
-use Rattle.std.proofs.Common.{◌≡◌, ℕ, ◌+◌, ◌-◌, ◌<◌, ◌≤◌, min, List, [], ◌∷◌, ◌++◌, length, map, replicate, take, drop, get_or, Option, Some, None, Bool, true, false, cond, refl, sym, subst, ◌∙◌, ap, inl, inr, arith}
+use Rattle.std.proofs.Common.{◌≡◌, ℕ, ◌+◌, ◌-◌, ◌*◌, ◌/◌, ◌<◌, ◌≤◌, max, min, List, [], ◌∷◌, ◌++◌, length, map, replicate, take, drop, get_or, Option, Some, None, Bool, true, false, cond, refl, sym, subst, ◌∙◌, ap, inl, inr, arith}
 use Rattle.std.specs.BTreeSet.{insert_key}
 use Rattle.std.specs.List.Sorted.{IsStrictlySortedBy}
-use Rattle.std.specs.Prelude.{◌==◌, ◌⊎◌, All, slice_index}
-use Rattle.std.specs.Cmp.{nat_cmp_total, tied_itself}
-use Rattle.std.specs.Ordering.{is_le, is_lt, nat_cmp}
-use Rattle.std.proofs.lemmas.Bool.{cases_eq, cases_lt, eq-eqb, or_left, or_right, true≢false}
+use Rattle.std.specs.Prelude.{◌==◌, ◌⊎◌, All, nat_le, slice_index}
+use Rattle.std.proofs.Math.Nat.{div-mul-le_self, le_of_mul-le-mul_left, lt_of_mul-lt-mul_left, mul-le-mul_left, mul-le-mul_right}
+use Rattle.std.specs.Ordering.{is_lt, nat_cmp}
+use Rattle.std.proofs.lemmas.Bool.{cases_lt, eq-eqb, leb-false, or_left, or_right}
 use Rattle.std.proofs.lemmas.Map.Keys.{ge_from_not_lt}
 use Rattle.std.proofs.lemmas.List.{ext_get_or, get_or-append_right, get_or-drop, get_or-map, get_or-replicate, get_or_default, get_or_past, length-map, length-replicate, length-take-le, take_all}
 use Rattle.std.proofs.lemmas.List.Elements.{All-contains, All-more}
 use Rattle.std.proofs.lemmas.List.Sums.{sum_by-cons, sum_by-le-sum_by}
-use Rattle.pb_price.specs.Price.{AreRests, largest_share, paid_at, price_at, price_of}
+use Rattle.pb_price.specs.Price.{AreRests, AtMost, HasPayers, PriceView, due, largest_share, paid_at, price_at, total_rest}
 use Rattle.pb_price.specs.Inner.Lists.{NoRestRises}
-use Rattle.pb_price.specs.Supporters.{SupportView, cost_at, supporters_at}
-use Rattle.pb_price.proofs.Payments.{least_from_price, paid_at-le-total_rest, short_from_no_price}
-use Rattle.pb_price.proofs.RestsFall.{no_price_falls}
+use Rattle.pb_price.specs.Supporters.{IsSupport, SupportView, cost_in_parts, supporters_at}
+use Rattle.pb_price.proofs.Dues.{price_stays as price_in_stays, price_within as price_in_within}
+use Rattle.pb_price.proofs.Prices.{is_price_from_at, price_covers, price_from_is_price}
+use Rattle.pb_price.proofs.SupporterLists.{cost_positive}
 use Rattle.pb_rounds.specs.declared.measure.Measure.{Measure}
-use Rattle.pb_rounds.specs.Inner.KeyOrder.{less_from}
 use Rattle.pb_rounds.specs.Inner.Bounds.{HasBounds}
 use Rattle.pb_rounds.specs.Inner.Front.{IsCopyUpTo}
 use Rattle.pb_rounds.specs.Inner.Queue.{IsIn, Rises}
@@ -29,19 +29,19 @@ use Rattle.pb_rounds.proofs.QueueLists.{put_from, put_is_in, put_keeps, rises_fr
 
 -- ---- tests and loops
 
-above_from_not_at_most : (a b : ℕ) → is_le (nat_cmp a b) ≡ false → b < a
-above_from_not_at_most a b e = elim (cases_lt b a) [
-  | inl less ↦ less
-  | inr most ↦ elim (cases_eq a b) [
-    | inl same ↦ absurd (true≢false (sym (ap (λ n. is_le (nat_cmp n b)) same ∙ ap is_le (tied_itself nat_cmp_total b)) ∙ e))
-    | inr other ↦ absurd (true≢false (sym (ap is_le (less_from a b (omega arith))) ∙ e))
-  ]
-]
+pub skipped_price : (price key : PriceView) (share : ℕ) (test : Bool) → test ≡ nat_le price.amount (share * price.payers) → test ≡ false → price ≡ key
+    → share * key.payers < key.amount
+skipped_price price key share test is e same =
+    subst (λ (p : PriceView). share * p.payers < p.amount) same (leb-false price.amount (share * price.payers) (sym is ∙ e))
 
-pub skipped_price : (price share key : ℕ) (test : Bool) → test ≡ is_le (nat_cmp price share) → test ≡ false → price ≡ key → share < key
-skipped_price price share key test is e same =
-    let above = above_from_not_at_most price share (sym is ∙ e) in
-    omega (arith, above, same)
+-- who can pay a price in full can pay what is due
+pub due_at_most : (p : PriceView) (rest : ℕ) → p.amount ≤ rest * p.payers → due p ≤ rest
+due_at_most p rest enough =
+    let some : 0 < max 1 p.payers = omega arith in
+    let own : due p * max 1 p.payers ≤ p.amount = div-mul-le_self p.amount (max 1 p.payers) in
+    let more : rest * p.payers ≤ rest * max 1 p.payers = mul-le-mul_left rest (omega arith) in
+    let within : max 1 p.payers * due p ≤ max 1 p.payers * rest = omega (arith, own, more, enough) in
+    le_of_mul-le-mul_left within some
 
 -- the element that a loop which writes over a list comes to is still the first list's
 pub over_here : (f : ℕ → ℕ) (xs : List ℕ) (i d : ℕ) → i < length xs → get_or (map f (take i xs) ++ drop i xs) i d ≡ get_or xs i d
@@ -89,10 +89,15 @@ raised_twice first more (x ∷ rests) =
     ap (λ n. n ∷ raised (first + more) rests) same ∙ ap (λ xs. (x + first + more) ∷ xs) (raised_twice first more rests)
 
 -- whoever could pay can
-pub raised_pays : (more price : ℕ) (rests : List ℕ) (v : ℕ) → price ≤ slice_index rests v → price ≤ slice_index (raised more rests) v
-raised_pays more price rests v h = elim (cases_lt v (length rests)) [
-  | inl below ↦ omega (arith, raised_at more rests v below)
-  | inr past ↦ omega (arith, get_or_past rests v 0 past)
+pub raised_pays : (more amount payers : ℕ) (rests : List ℕ) (v : ℕ) → amount ≤ slice_index rests v * payers → amount ≤ slice_index (raised more rests) v * payers
+raised_pays more amount payers rests v h = elim (cases_lt v (length rests)) [
+  | inl below ↦
+      let rises : slice_index rests v ≤ slice_index (raised more rests) v = omega (arith, raised_at more rests v below) in
+      let scaled : slice_index rests v * payers ≤ slice_index (raised more rests) v * payers = mul-le-mul_right payers rises in
+      omega (arith, scaled, h)
+  | inr past ↦
+      let none : slice_index rests v * payers ≡ 0 * payers = ap (λ n. n * payers) (get_or_past rests v 0 past) in
+      omega (arith, none, h)
 ]
 
 left_raised : (listed : Bool) (rest more price : ℕ) → (listed ≡ true → price ≤ rest)
@@ -131,47 +136,40 @@ paid_alike (v ∷ vs) one other price h g =
     omega (arith, mine, theirs, later, sum_by-cons (λ w. min (slice_index one w) price) v vs, sum_by-cons (λ w. min (slice_index other w) price) v vs)
 
 -- a price that all supporters can pay stays the price where the rests are lower
-price_stays_by : (supporters big here : List ℕ) (cost p : ℕ) → NoRestRises big here → ((v : ℕ) → is_listed supporters v ≡ true → p ≤ slice_index here v)
-    → price_of supporters big cost ≡ Some p → (o : Option ℕ) → price_of supporters here cost ≡ o → o ≡ Some p
-price_stays_by supporters big here cost p falls full e None none =
-    let covers = (least_from_price supporters big cost p e).covers in
-    let same = paid_alike supporters big here p (λ v listed. (let mine = full v listed in omega (arith, falls v, mine))) full in
-    absurd (omega (arith, covers, same, paid_at-le-total_rest supporters here p, short_from_no_price supporters here cost none))
-price_stays_by supporters big here cost p falls full e (Some q) some =
-    let covers = (least_from_price supporters big cost p e).covers in
-    let same = paid_alike supporters big here p (λ v listed. (let mine = full v listed in omega (arith, falls v, mine))) full in
-    let least = least_from_price supporters here cost q some in
-    let above = no_price_falls supporters big here cost p q falls e some in
-    elim (cases_lt p q) [
-      | inl less ↦ absurd (omega (arith, least.least p less, covers, same))
-      | inr most ↦ (let equal : q ≡ p = omega arith in ap (λ n. Some n) equal)
-    ]
-
-pub price_stays : (supporters big here : List ℕ) (cost p : ℕ) → NoRestRises big here → ((v : ℕ) → is_listed supporters v ≡ true → p ≤ slice_index here v)
-    → price_of supporters big cost ≡ Some p → price_of supporters here cost ≡ Some p
-price_stays supporters big here cost p falls full e = price_stays_by supporters big here cost p falls full e _ refl
+pub price_stays : (s : SupportView) (place : ℕ) → 0 < cost_in_parts s place → (big here : List ℕ) (p : PriceView) → NoRestRises big here
+    → All (λ v. p.amount ≤ slice_index here v * p.payers) (supporters_at s place) → price_at s big place ≡ Some p → price_at s here place ≡ Some p
+price_stays s place some big here p falls full e =
+    sym (price_from_is_price s here place some (Some p)
+    (price_in_stays s.grain (supporters_at s place) big here (cost_in_parts s place) p falls (λ k d below. (let mine = full k d below in omega (arith, mine)))
+    (is_price_from_at s big place some (Some p) (sym e))))
 
 -- no price is above all rests
-pub price_within : (supporters rests : List ℕ) (voters share cost p : ℕ) → NoRestRises (replicate voters share) rests
-    → price_of supporters rests cost ≡ Some p → p ≤ share
-price_within supporters rests voters share cost p within e =
-    let least = least_from_price supporters rests cost p e in
-    elim (cases_lt share p) [
-      | inl less ↦ absurd (omega (
-        arith,
-        least.least share less,
-        least.covers,
-        sum_by-le-sum_by (λ v. min (slice_index rests v) p) (λ v. min (slice_index rests v) share) supporters
-            (λ v. (let low = at_most voters share v in omega (arith, within v, low))),
-      ))
-      | inr most ↦ most
-    ]
+pub price_within : (s : SupportView) (place : ℕ) → 0 < cost_in_parts s place → (rests : List ℕ) (voters share : ℕ) (p : PriceView) → NoRestRises (replicate voters share) rests
+    → price_at s rests place ≡ Some p → p.amount ≤ share * p.payers
+price_within s place some rests voters share p within e =
+    let price = is_price_from_at s rests place some (Some p) (sym e) in
+    let all : total_rest (supporters_at s place) rests ≤ paid_at (supporters_at s place) rests share =
+    sum_by-le-sum_by (λ v. slice_index rests v) (λ v. min (slice_index rests v) share) (supporters_at s place)
+    (λ v. (let low = at_most voters share v in omega (arith, within v, low))) in
+    price_in_within s.grain (supporters_at s place) rests (cost_in_parts s place) p share
+    (omega (arith, all, price_covers s.grain (supporters_at s place) rests (cost_in_parts s place) p price)) price
   where
     at_most : (voters share v : ℕ) → slice_index (replicate voters share) v ≤ share
     at_most voters share v = elim (cases_lt v voters) [
       | inl below ↦ omega (arith, get_or-replicate voters v share 0 below)
       | inr past ↦ omega (arith, get_or_past (replicate voters share) v 0 (let len = length-replicate voters share in omega arith))
     ]
+
+-- what is at most a price within a share is within it
+pub at_most_within : (q p : PriceView) (share : ℕ) → 1 ≤ q.payers → AtMost q p → p.amount ≤ share * p.payers → q.amount ≤ share * q.payers
+at_most_within q p share some (inr same) within = subst (λ (r : PriceView). r.amount ≤ share * r.payers) (sym same) within
+at_most_within q p share some (inl less) within =
+    let payers : max 1 q.payers ≡ q.payers = omega (arith, some) in
+    let right : p.amount * max 1 q.payers ≡ p.amount * q.payers = ap (λ n. p.amount * n) payers in
+    let scaled : p.amount * q.payers ≤ share * p.payers * q.payers = mul-le-mul_right q.payers within in
+    let more : share * q.payers * p.payers ≤ share * q.payers * max 1 p.payers = mul-le-mul_left (share * q.payers) (omega arith) in
+    let below : max 1 p.payers * q.amount < max 1 p.payers * (share * q.payers) = omega (arith, less, right, scaled, more) in
+    let strict = lt_of_mul-lt-mul_left (max 1 p.payers) below in omega (arith, strict)
 
 -- rests are never above the largest share
 pub below_largest : (voters : ℕ) (rests : List ℕ) → AreRests voters rests → NoRestRises (replicate voters largest_share) rests
@@ -180,17 +178,18 @@ below_largest voters rests h v = elim (cases_lt v voters) [
   | inr past ↦ (let none = get_or_past rests v 0 (omega (arith, h.one_each)) in omega (arith, none))
 ]
 
--- all of a list of supporters can pay, by number
-pub pays_listed : (supporters rests : List ℕ) (price : ℕ) → All (λ v. price ≤ slice_index rests v) supporters
-    → (v : ℕ) → is_listed supporters v ≡ true → price ≤ slice_index rests v
-pays_listed supporters rests price h v e = All-contains (λ w. price ≤ slice_index rests w) supporters v h (contains_from_listed supporters v e)
+-- all of a list of supporters can pay what is due, by number
+pub pays_listed : (supporters rests : List ℕ) (p : PriceView) → All (λ v. p.amount ≤ slice_index rests v * p.payers) supporters
+    → (v : ℕ) → is_listed supporters v ≡ true → due p ≤ slice_index rests v
+pays_listed supporters rests p h v e =
+    due_at_most p (slice_index rests v) (All-contains (λ w. p.amount ≤ slice_index rests w * p.payers) supporters v h (contains_from_listed supporters v e))
 
 -- ---- a copy of the queue up to a share, so far
 
 pub record Copying (share : ℕ) (queue copy later : List KeyView) : Type 0 where
   pub sound : (b : KeyView) → IsIn b copy → IsIn b queue
   pub known : (b : KeyView) → IsIn b later → IsIn b queue
-  pub whole : (b : KeyView) → IsIn b queue → b.price ≤ share → IsIn b copy ⊎ IsIn b later
+  pub whole : (b : KeyView) → IsIn b queue → b.price.amount ≤ share * b.price.payers → IsIn b copy ⊎ IsIn b later
   pub rises : Rises copy
 
 pub copying_open : (share : ℕ) (queue copy later : List KeyView) → copy ≡ [] → later ≡ queue → Copying share queue copy later
@@ -223,7 +222,7 @@ module _ (share : ℕ) (queue copy later : List KeyView) (h : Copying share queu
       put_or_later b (inl same) = inl (subst (IsIn b) (sym new_is) (subst (λ (c : KeyView). IsIn c (insert_key key_cmp copy k)) (sym same) (put_is_in k copy)))
       put_or_later b (inr i) = inr i
 
-  pub copying_skips : share < k.price → Copying share queue copy rest
+  pub copying_skips : share * k.price.payers < k.price.amount → Copying share queue copy rest
   copying_skips high = record {
     sound = h.sound;
     known = known_later;
@@ -234,8 +233,8 @@ module _ (share : ℕ) (queue copy later : List KeyView) (h : Copying share queu
     rises = h.rises;
   }
     where
-      skipped : (b : KeyView) → b.price ≤ share → IsIn b (k ∷ rest) → IsIn b copy ⊎ IsIn b rest
-      skipped b low (inl same) = (let price = ap (λ (c : KeyView). c.price) same in absurd (omega (arith, low, high, price)))
+      skipped : (b : KeyView) → b.price.amount ≤ share * b.price.payers → IsIn b (k ∷ rest) → IsIn b copy ⊎ IsIn b rest
+      skipped b low (inl same) = (let here = subst (λ (c : KeyView). c.price.amount ≤ share * c.price.payers) same low in absurd (omega (arith, here, high)))
       skipped b low (inr i) = inr i
 
 pub copying_ends : (share : ℕ) (queue copy later : List KeyView) → Copying share queue copy later → later ≡ [] → IsCopyUpTo share queue copy
@@ -249,20 +248,21 @@ copying_ends share queue copy later h none = record {
 }
 
 -- what the copy leaves out has no price where no rest is above the share
-pub bounds_up_to : (m : Measure) (s : SupportView) (share : ℕ) (rests left : List ℕ) (queue copy : List KeyView) → NoRestRises (replicate s.voters share) rests
+pub bounds_up_to : (m : Measure) (s : SupportView) → IsSupport s → (share : ℕ) (rests left : List ℕ) (queue copy : List KeyView) → NoRestRises (replicate s.voters share) rests
     → HasBounds m s rests left queue → IsCopyUpTo share queue copy → HasBounds m s rests left copy
-bounds_up_to m s share rests left queue copy within h kept = record {
+bounds_up_to m s is share rests left queue copy within h kept = record {
   known = h.known;
   are_left = λ b i. h.are_left b (kept.sound b i);
   are_keys = λ b i. h.are_keys b (kept.sound b i);
+  payers = λ b i. h.payers b (kept.sound b i);
   lower = λ b p i e. h.lower b p (kept.sound b i) e;
   one_each = λ b c i j same. h.one_each b c (kept.sound b i) (kept.sound c j) same;
   whole = λ place p listed e.
       let found = h.whole place p listed e in
-      let low : found.0.price ≤ p = h.lower found.0 p found.1 (ap (price_at s rests) found.2 ∙ e) in
-      let most = price_within (supporters_at s place) rests s.voters share (cost_at s place) p within e in (
+      let low : AtMost found.0.price p = h.lower found.0 p found.1 (ap (price_at s rests) found.2 ∙ e) in
+      let most = price_within s place (cost_positive s is place (h.known place listed)) rests s.voters share p within e in (
         found.0,
-        kept.whole found.0 found.1 (omega arith),
+        kept.whole found.0 found.1 (at_most_within found.0.price p share (h.payers found.0 found.1).some low most),
         found.2,
       );
   rises = kept.rises;

@@ -1,12 +1,14 @@
 -- The front: its rounds are the same at every larger share, and so is one round more where all who support its project can pay.
-use Rattle.std.proofs.Common.{◌≡◌, ℕ, zero, suc, ◌+◌, ◌-◌, ◌<◌, ◌≤◌, ◌^◌, List, [], ◌∷◌, ◌++◌, length, replicate, set, Option, Some, None, Bool, true, refl, sym, subst, ◌∙◌, ap, inl, inr, arith}
+use Rattle.std.proofs.Common.{◌≡◌, ℕ, zero, suc, ◌+◌, ◌-◌, ◌*◌, ◌/◌, ◌%◌, ◌<◌, ◌≤◌, ◌^◌, min, get_or, List, [], ◌∷◌, ◌++◌, length, replicate, set, Option, Some, None, Bool, true, refl, sym, subst, ◌∙◌, ap, inl, inr, arith}
 use Rattle.std.specs.Prelude.{All, IfNone, IfSome, MatchOption, slice_get, slice_index}
 use Rattle.std.specs.List.{range_with_len}
+use Rattle.std.proofs.Math.Nat.{mul-le-mul_right}
+use Rattle.std.proofs.lemmas.Grind.{div_ceil_times}
 use Rattle.std.proofs.lemmas.List.{get_or-map, get_or_default, length-map}
 use Rattle.std.proofs.lemmas.List.Sums.{sum_by-append, sum_by_push}
 use Rattle.std.proofs.lemmas.Option.{none-some, same_Some}
-use Rattle.pb_price.proofs.SupporterLists.{support_form}
-use Rattle.pb_price.specs.Price.{AreRests, largest_share, price_at}
+use Rattle.pb_price.proofs.SupporterLists.{cost_positive, support_form}
+use Rattle.pb_price.specs.Price.{AreRests, PriceView, due, largest_share, price_at}
 use Rattle.pb_price.specs.Inner.Lists.{NoRestRises}
 use Rattle.pb_price.specs.Supporters.{IsSupport, SupportView, cost_at, supporters_at}
 use Rattle.pb_rounds.specs.Count.{spent_on}
@@ -88,7 +90,7 @@ module _ (f : FrontView) (h : IsFront f) where
 
   -- one round more, whose project all supporters can pay
   module _ (head : KeyView) (others : List KeyView) (is_first : f.queue ≡ head ∷ others) (can_pay : CanAllPay f.support f.outcome.rests head) where
-    full : (v : ℕ) → is_listed (supporters_at f.support head.place) v ≡ true → head.price ≤ slice_index f.outcome.rests v
+    full : (v : ℕ) → is_listed (supporters_at f.support head.place) v ≡ true → due head.price ≤ slice_index f.outcome.rests v
     full = pays_listed (supporters_at f.support head.place) f.outcome.rests head.price can_pay
 
     first_bounds : HasBounds f.measure f.support (replicate f.support.voters largest_share) h.left (head ∷ others)
@@ -105,9 +107,15 @@ module _ (f : FrontView) (h : IsFront f) where
       rests_fall : NoRestRises (replicate f.support.voters largest_share) (raised more f.outcome.rests)
       rests_fall = below_largest f.support.voters (raised more f.outcome.rests) (h.shared more fits).rests_are
 
+      can_pay_there : CanAllPay f.support (raised more f.outcome.rests) head
+      can_pay_there k d below = raised_pays more head.price.amount head.price.payers f.outcome.rests (get_or (supporters_at f.support head.place) k d) (can_pay k d below)
+
+      full_there : (v : ℕ) → is_listed (supporters_at f.support head.place) v ≡ true → due head.price ≤ slice_index (raised more f.outcome.rests) v
+      full_there = pays_listed (supporters_at f.support head.place) (raised more f.outcome.rests) head.price can_pay_there
+
       price_there : price_at f.support (raised more f.outcome.rests) head.place ≡ Some head.price
-      price_there = price_stays (supporters_at f.support head.place) (replicate f.support.voters largest_share) (raised more f.outcome.rests)
-          (cost_at f.support head.place) head.price rests_fall (λ v listed. raised_pays more head.price f.outcome.rests v (full v listed)) (h.priced head is_queued)
+      price_there = price_stays f.support head.place (cost_positive f.support h.is_support head.place next_known) (replicate f.support.voters largest_share) (raised more f.outcome.rests)
+          head.price rests_fall can_pay_there (h.priced head is_queued)
 
       best_there : best_of f.measure f.support (raised more f.outcome.rests) h.left ≡ Some head
       best_there = head_is_best f.measure f.support (raised more f.outcome.rests) h.left head others
@@ -119,26 +127,25 @@ module _ (f : FrontView) (h : IsFront f) where
             share = f.outcome.share + more;
             raised = f.outcome.raised;
             elected = f.outcome.elected ++ elected_by f.support (raised more f.outcome.rests) head ∷ [];
-            rests = charged (supporters_at f.support head.place) head.price (raised more f.outcome.rests);
+            rests = charged (supporters_at f.support head.place) (due head.price) (raised more f.outcome.rests);
             priced = f.outcome.priced;
           })
           (record {
             share = f.outcome.share + more;
             raised = f.outcome.raised;
             elected = f.outcome.elected ++ elected_by f.support f.outcome.rests head ∷ [];
-            rests = raised more (charged (supporters_at f.support head.place) head.price f.outcome.rests);
+            rests = raised more (charged (supporters_at f.support head.place) (due head.price) f.outcome.rests);
             priced = f.outcome.priced;
           })
       same_round =
           ap (λ n. record {
             share = f.outcome.share + more;
             raised = f.outcome.raised;
-            elected = f.outcome.elected ++ record { place = head.place; price = head.price; collected = n } ∷ [];
-            rests = charged (supporters_at f.support head.place) head.price (raised more f.outcome.rests);
+            elected = f.outcome.elected ++ record { place = head.place; price = due head.price; exact = head.price; collected = n } ∷ [];
+            rests = charged (supporters_at f.support head.place) (due head.price) (raised more f.outcome.rests);
             priced = f.outcome.priced;
           })
-          (paid_alike (supporters_at f.support head.place) (raised more f.outcome.rests) f.outcome.rests head.price
-          (λ v listed. raised_pays more head.price f.outcome.rests v (full v listed)) full)
+          (paid_alike (supporters_at f.support head.place) (raised more f.outcome.rests) f.outcome.rests (due head.price) full_there full)
           ∙ ap (λ rests. record {
             share = f.outcome.share + more;
             raised = f.outcome.raised;
@@ -146,7 +153,7 @@ module _ (f : FrontView) (h : IsFront f) where
             rests = rests;
             priced = f.outcome.priced;
           })
-          (charged_raised (supporters_at f.support head.place) head.price more f.outcome.rests full)
+          (charged_raised (supporters_at f.support head.place) (due head.price) more f.outcome.rests full)
 
     pub price_here : price_at f.support f.outcome.rests head.place ≡ Some head.price
     price_here =
@@ -159,7 +166,7 @@ module _ (f : FrontView) (h : IsFront f) where
           share = f.outcome.share;
           raised = f.outcome.raised;
           elected = f.outcome.elected ++ elected_by f.support f.outcome.rests head ∷ [];
-          rests = charged (supporters_at f.support head.place) head.price f.outcome.rests;
+          rests = charged (supporters_at f.support head.place) (due head.price) f.outcome.rests;
           priced = f.outcome.priced;
         }
         → IsFront (record { measure = f.measure; support = f.support; queue = others; marks = marks; spent = spent; outcome = outcome })
@@ -176,7 +183,7 @@ module _ (f : FrontView) (h : IsFront f) where
           spent_is = spent_is ∙ ap (λ n. n + cost_at f.support head.place) h.spent_is
               ∙ sym (sum_by_push (λ w. cost_at f.support w.place) f.outcome.elected (elected_by f.support f.outcome.rests head));
           small = h.small;
-          within = λ v. (let less = charged_falls (supporters_at f.support head.place) head.price f.outcome.rests v in omega (arith, less, h.within v));
+          within = λ v. (let less = charged_falls (supporters_at f.support head.place) (due head.price) f.outcome.rests v in omega (arith, less, h.within v));
         })
 
     -- what the front spends fits its type
@@ -210,12 +217,20 @@ raised_small f h more fits = λ k d below.
 
 -- ---- taking the next project
 
-pub pays_by : (s : SupportView) (list seen rests : List ℕ) (price place : ℕ) (b : KeyView) → list ≡ supporters_at s place → place ≡ b.place → seen ≡ rests → price ≡ b.price
-    → All (λ v. price ≤ slice_index seen v) list → CanAllPay s rests b
-pays_by s list seen rests price place b list_is place_is rests_is price_is h =
-    subst (λ n. All (λ v. n ≤ slice_index rests v) (supporters_at s b.place)) price_is
-    (subst (λ (rs : List ℕ). All (λ v. price ≤ slice_index rs v) (supporters_at s b.place)) rests_is
-    (subst (λ (xs : List ℕ). All (λ v. price ≤ slice_index seen v) xs) (list_is ∙ ap (supporters_at s) place_is) h))
+pub pays_by : (s : SupportView) (list seen rests : List ℕ) (least place : ℕ) (price : PriceView) (b : KeyView) → list ≡ supporters_at s place → place ≡ b.place → seen ≡ rests → price ≡ b.price
+    → 1 ≤ price.payers → least ≡ price.amount / price.payers + min 1 (price.amount % price.payers) → All (λ v. least ≤ slice_index seen v) list → CanAllPay s rests b
+pays_by s list seen rests least place price b list_is place_is rests_is price_is some least_is h =
+    subst (λ (p : PriceView). All (λ v. p.amount ≤ slice_index rests v * p.payers) (supporters_at s b.place)) price_is
+    (subst (λ (rs : List ℕ). All (λ v. price.amount ≤ slice_index rs v * price.payers) (supporters_at s b.place)) rests_is
+    (subst (λ (xs : List ℕ). All (λ v. price.amount ≤ slice_index seen v * price.payers) xs) (list_is ∙ ap (supporters_at s) place_is)
+    (λ k d below. pays_rounded_up price (slice_index seen (get_or list k d)) some (let enough = h k d below in omega (arith, enough, least_is)))))
+  where
+    -- who has it rounded up can pay it in full
+    pays_rounded_up : (p : PriceView) (rest : ℕ) → 1 ≤ p.payers → p.amount / p.payers + min 1 (p.amount % p.payers) ≤ rest → p.amount ≤ rest * p.payers
+    pays_rounded_up p rest some enough =
+        let bounds = div_ceil_times p.amount p.payers some in
+        let most : (p.amount / p.payers + min 1 (p.amount % p.payers)) * p.payers ≤ rest * p.payers = mul-le-mul_right p.payers enough in
+        omega (arith, bounds.0, most)
 
 pub taken_is : (o : Option KeyView) (old new : List KeyView) (first : KeyView) (s : SupportView) (rests : List ℕ) → slice_get old 0 ≡ Some first
     → IfSome o (λ k. old ≡ k ∷ new) → IfNone o (new ≡ old) → CanAllPay s rests first
@@ -246,7 +261,7 @@ module _ (f : FrontView) (h : IsFront f) (share : ℕ) (from : f.outcome.share �
         bounded = record {
           left = h.left;
           progress = progress_there;
-          bounds = bounds_up_to f.measure f.support share (raised (share - f.outcome.share) f.outcome.rests) h.left f.queue queue within_there
+          bounds = bounds_up_to f.measure f.support h.is_support share (raised (share - f.outcome.share) f.outcome.rests) h.left f.queue queue within_there
               (bounds_fall f.measure f.support (replicate f.support.voters largest_share) (raised (share - f.outcome.share) f.outcome.rests) h.left f.queue
               (below_largest f.support.voters (raised (share - f.outcome.share) f.outcome.rests) progress_there.rests_are) h.bounds) kept;
         };

@@ -12,6 +12,8 @@ pub mod FileOrder
 pub mod TieOrders
 pub mod OneOrder
 pub mod Trials
+pub mod Collecting
+pub mod Divisors
 pub mod Exhausted
 mod ThreeVoters
 pub mod Best
@@ -28,6 +30,7 @@ pub mod Fronts
 pub mod Listed
 pub mod NamesApart
 pub mod NoShares
+pub mod Payers
 pub mod BestKey
 pub mod BestIs
 pub mod CheapestRounds

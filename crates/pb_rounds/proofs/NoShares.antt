@@ -1,27 +1,30 @@
 -- A run in which nobody has a share elects nothing.
-use Rattle.std.proofs.Common.{◌≡◌, ℕ, ◌*◌, ◌<◌, ◌≤◌, List, [], ◌∷◌, refl, sym, subst, arith}
-use Rattle.std.proofs.lemmas.List.Sums.{sum_by-cons}
-use Rattle.pb_price.proofs.SupporterLists.{support_form}
-use Rattle.pb_price.specs.Supporters.{SupportView, cost_at}
+use Rattle.std.proofs.Common.{◌≡◌, ℕ, ◌*◌, ◌<◌, ◌≤◌, List, [], ◌∷◌, get_or, length, replicate, refl, inl, inr, arith}
+use Rattle.std.specs.Prelude.{slice_index}
+use Rattle.std.proofs.lemmas.Bool.{cases_lt}
+use Rattle.std.proofs.lemmas.List.{get_or-replicate, get_or_past, length-replicate}
+use Rattle.std.proofs.lemmas.List.Sums.{sum_by-le}
+use Rattle.pb_price.proofs.Prices.{price_covers}
+use Rattle.pb_price.proofs.SupporterLists.{cost_positive}
+use Rattle.pb_price.specs.Price.{total_rest}
+use Rattle.pb_price.specs.Supporters.{SupportView, cost_in_parts, supporters_at}
 use Rattle.pb_rounds.specs.Cheapest.{IsRun}
-use Rattle.pb_rounds.specs.Count.{spent_on}
-use Rattle.pb_rounds.specs.Run.{ElectedView, RunView}
+use Rattle.pb_rounds.specs.Run.{ElectedView}
 use Rattle.pb_rounds.specs.declared.measure.Measure.{Measure}
-use Rattle.pb_rounds.proofs.Explained.{run_within_shares}
-use Rattle.pb_rounds.proofs.RunIs.{only_run}
 
--- each project costs something, so what costs nothing is no project
-none_for_nothing : (m : Measure) (s : SupportView) (elected : List ElectedView) (rests : List ℕ) → IsRun m s 0 elected rests
-    → spent_on s elected ≤ 0 → elected ≡ []
-none_for_nothing m s [] rests run free = refl
-none_for_nothing m s (w ∷ elected) rests run free =
-    let known = (run.cheapest [] w elected refl).was_left.0 in
-    let costs : 0 < cost_at s w.place = (support_form s run.is_support).costs_positive w.place 0 known in
-    absurd (omega (arith, costs, free, sum_by-cons (λ (v : ElectedView). cost_at s v.place) w elected))
+nothing_at : (voters v : ℕ) → slice_index (replicate voters 0) v ≤ 0
+nothing_at voters v = elim (cases_lt v voters) [
+  | inl below ↦ let zeros : slice_index (replicate voters 0) v ≡ 0 = get_or-replicate {A = ℕ} voters v 0 0 below in omega (arith, zeros)
+  | inr past ↦ omega (arith, get_or_past (replicate {A = ℕ} voters 0) v 0 (let len = length-replicate {A = ℕ} voters 0 in omega (arith, len, past)))
+]
 
+-- each project costs something, so nobody can pay for it
 pub no_share_elects_none : (m : Measure) (s : SupportView) (elected : List ElectedView) (rests : List ℕ) → IsRun m s 0 elected rests → elected ≡ []
-no_share_elects_none m s elected rests run =
-    let same = only_run m s 0 (record { elected = elected; rests = rests }) run in
-    let within : spent_on s elected ≤ s.voters * 0 =
-    subst (λ (r : RunView). spent_on s r.elected ≤ s.voters * 0) (sym same) (run_within_shares m s run.is_support 0) in
-    none_for_nothing m s elected rests run (omega (arith, within))
+no_share_elects_none m s [] rests run = refl
+no_share_elects_none m s (w ∷ elected) rests run =
+    let was = run.cheapest [] w elected refl in
+    let costs = cost_positive s run.is_support w.place was.was_left.0 in
+    let covers = price_covers s.grain (supporters_at s w.place) (replicate s.voters 0) (cost_in_parts s w.place) w.exact was.priced in
+    let nothing : total_rest (supporters_at s w.place) (replicate s.voters 0) ≤ length (supporters_at s w.place) * 0 =
+    sum_by-le (λ v. slice_index (replicate s.voters 0) v) 0 (supporters_at s w.place) (λ k d below. nothing_at s.voters (get_or (supporters_at s w.place) k d)) in
+    absurd (omega (arith, costs, covers, nothing))

@@ -20,7 +20,8 @@ use Rattle.pb_price.specs.Supporters.{SupportView, cost_at, support_of}
 use Rattle.pb_rounds.proofs.FileOrder.{in_file_order}
 use Rattle.pb_rounds.proofs.TieOrders.{file_is_tie_order}
 use Rattle.pb_rounds.specs.MostVotes.{votes_at}
-use Rattle.pb_rounds.specs.TieOrder.{IsTieOrder, by_file, keys_cmp, lot_cmp, tie_cmp}
+use Rattle.pb_rounds.specs.Inner.TieOrder.{keys_cmp, tie_cmp}
+use Rattle.pb_rounds.specs.TieOrder.{IsTieOrder, by_file, lot_cmp}
 use Rattle.pb_rounds.specs.declared.tie_rule.TieKeys.{TieKeys}
 use Rattle.pb_rounds.specs.declared.tie_rule.TieKeys.TheVariants as tie
 use Rattle.pb_rounds.specs.declared.tie_rule.TieRule.{TieRule}

@@ -5,6 +5,8 @@ use Rattle.std.specs.List.{range_with_len}
 use Rattle.std.proofs.lemmas.List.{length-map}
 use Rattle.std.proofs.lemmas.List.FromFn.{length-range_with_len}
 use Rattle.pb_price.specs.Supporters.{SupportView, supporters_at}
+use Rattle.pb_price.specs.Price.{PriceView, due}
+use Rattle.pb_price.specs.Inner.Payment.{nothing}
 use Rattle.pb_rounds.specs.declared.measure.Measure.{Measure}
 use Rattle.pb_rounds.specs.Key.{KeyView}
 use Rattle.pb_rounds.specs.Outcome.{OutcomeView, Settled, settled, settled_by}
@@ -15,13 +17,13 @@ use Rattle.pb_rounds.proofs.Listed.{length-without}
 use Rattle.pb_rounds.proofs.Progress.{run_from-none, run_from-some}
 
 -- one round, where the rounds after it have one more than the run after it elects
-module _ (m : Measure) (s : SupportView) (workers : ℕ) (rests left : List ℕ) (known : ℕ → Option ℕ) (priced : List ℕ) (later : List (List ℕ))
-    (others : (n : ℕ) (rests left : List ℕ) (known : ℕ → Option ℕ) → length left ≤ n → KeyRecord m s workers rests left known later
+module _ (m : Measure) (s : SupportView) (workers : ℕ) (rests left : List ℕ) (known : ℕ → Option PriceView) (priced : List ℕ) (later : List (List ℕ))
+    (others : (n : ℕ) (rests left : List ℕ) (known : ℕ → Option PriceView) → length left ≤ n → KeyRecord m s workers rests left known later
     → length later ≡ length (run_from m s n rests left).elected + 1) where
   round_counts : (n : ℕ) → length left ≤ n → (o : Option KeyView) → best_of m s rests left ≡ o
       → MatchOption o (IsKeyEnd s rests left known priced × (later ≡ []))
       (λ winner. IsKeyRound m s workers rests left known winner priced
-      × KeyRecord m s workers (charged (supporters_at s winner.place) winner.price rests) (without winner.place left) (known_after s rests priced known) later)
+      × KeyRecord m s workers (charged (supporters_at s winner.place) (due winner.price) rests) (without winner.place left) (known_after s rests priced known) later)
       → length (priced ∷ later) ≡ length (run_from m s n rests left).elected + 1
   round_counts n short None e h =
       let ended : length (run_from m s n rests left).elected ≡ 0 = ap (λ (r : RunView). length r.elected) (run_from-none m s rests left e n) in
@@ -32,11 +34,11 @@ module _ (m : Measure) (s : SupportView) (workers : ℕ) (rests left : List ℕ)
       absurd (omega (arith, less, short))
   round_counts (suc n) short (Some b) e h =
       let less = length-without left b.place (best_is_key m s rests left b e).is_left in
-      let after = others n (charged (supporters_at s b.place) b.price rests) (without b.place left) (known_after s rests priced known) (omega (arith, less, short)) h.1 in
+      let after = others n (charged (supporters_at s b.place) (due b.price) rests) (without b.place left) (known_after s rests priced known) (omega (arith, less, short)) h.1 in
       let here = ap (λ (r : RunView). length r.elected) (run_from-some m s rests left b e n) in
       omega (arith, after, here)
 
-rounds_count : (m : Measure) (s : SupportView) (workers : ℕ) (rounds : List (List ℕ)) (n : ℕ) (rests left : List ℕ) (known : ℕ → Option ℕ) → length left ≤ n
+rounds_count : (m : Measure) (s : SupportView) (workers : ℕ) (rounds : List (List ℕ)) (n : ℕ) (rests left : List ℕ) (known : ℕ → Option PriceView) → length left ≤ n
     → KeyRecord m s workers rests left known rounds → length rounds ≡ length (run_from m s n rests left).elected + 1
 rounds_count m s workers [] n rests left known short h = absurd h
 rounds_count m s workers (priced ∷ later) n rests left known short h =
@@ -46,7 +48,7 @@ all_rounds_count : (m : Measure) (s : SupportView) (workers share : ℕ) (priced
     → length priced ≡ length (run_of m s share).elected + 1
 unfolding run_of
 all_rounds_count m s workers share priced (rounds, h, is) =
-    let counted = rounds_count m s workers rounds (length s.costs) (replicate s.voters share) (range_with_len 0 (length s.costs)) (λ _. Some 0)
+    let counted = rounds_count m s workers rounds (length s.costs) (replicate s.voters share) (range_with_len 0 (length s.costs)) (λ _. Some nothing)
     (let long = length-range_with_len 0 (length s.costs) in omega (arith, long)) h in
     ap length is ∙ length-map rounds length ∙ counted
 

@@ -6,7 +6,7 @@ use Rattle.std.proofs.lemmas.List.{append-nil, append_assoc, length_push, length
 use Rattle.std.proofs.lemmas.List.Elements.{All-from_get_or, All-replicate}
 use Rattle.std.proofs.lemmas.List.FromFn.{length-range_with_len}
 use Rattle.pb_price.specs.Supporters.{SupportView, supporters_at}
-use Rattle.pb_price.specs.Price.{AreRests, largest_share}
+use Rattle.pb_price.specs.Price.{AreRests, due, largest_share}
 use Rattle.pb_rounds.specs.declared.measure.Measure.{Measure}
 use Rattle.pb_rounds.specs.Key.{KeyView}
 pub use Rattle.pb_rounds.specs.Inner.Progress.{Progress, after}
@@ -18,17 +18,17 @@ use Rattle.pb_rounds.proofs.Listed.{range_rises, RisesWithin-without, length-wit
 
 -- a round that elects, and a round that does not
 pub run_from-some : (m : Measure) (s : SupportView) (rests left : List ℕ) (b : KeyView) → best_of m s rests left ≡ Some b → (n : ℕ)
-    → run_from m s (suc n) rests left ≡ then_run (elected_by s rests b) (run_from m s n (charged (supporters_at s b.place) b.price rests) (without b.place left))
+    → run_from m s (suc n) rests left ≡ then_run (elected_by s rests b) (run_from m s n (charged (supporters_at s b.place) (due b.price) rests) (without b.place left))
 unfolding run_from
 run_from-some m s rests left b e n =
-    ap (λ best. option_map_or (λ b. then_run (elected_by s rests b) (run_from m s n (charged (supporters_at s b.place) b.price rests) (without b.place left)))
+    ap (λ best. option_map_or (λ b. then_run (elected_by s rests b) (run_from m s n (charged (supporters_at s b.place) (due b.price) rests) (without b.place left)))
     best (record { elected = []; rests = rests })) e
 
 pub run_from-none : (m : Measure) (s : SupportView) (rests left : List ℕ) → best_of m s rests left ≡ None → (n : ℕ) → run_from m s n rests left ≡ record { elected = []; rests = rests }
 unfolding run_from
 run_from-none m s rests left e zero = refl
 run_from-none m s rests left e (suc n) =
-    ap (λ best. option_map_or (λ b. then_run (elected_by s rests b) (run_from m s n (charged (supporters_at s b.place) b.price rests) (without b.place left)))
+    ap (λ best. option_map_or (λ b. then_run (elected_by s rests b) (run_from m s n (charged (supporters_at s b.place) (due b.price) rests) (without b.place left)))
     best (record { elected = []; rests = rests })) e
 
 -- rests do not rise
@@ -66,7 +66,7 @@ pub progress_more : (m : Measure) (s : SupportView) (share raised : ℕ) (left :
       share = o.share;
       raised = o.raised;
       elected = o.elected ++ elected_by s o.rests b ∷ [];
-      rests = charged (supporters_at s b.place) b.price o.rests;
+      rests = charged (supporters_at s b.place) (due b.price) o.rests;
       priced = o.priced;
     })
 progress_more m s share raised left o h b e =
@@ -79,8 +79,8 @@ progress_more m s share raised left o h b e =
       raised_is = h.raised_is;
       whole = h.whole ∙ ap (λ n. after o.elected (run_from m s n o.rests left)) rounds
           ∙ ap (after o.elected) (run_from-some m s o.rests left b e (length (without b.place left)))
-          ∙ after-then o.elected (elected_by s o.rests b) (run_from m s (length (without b.place left)) (charged (supporters_at s b.place) b.price o.rests) (without b.place left));
-      rests_are = AreRests-charged s.voters (supporters_at s b.place) b.price o.rests h.rests_are;
+          ∙ after-then o.elected (elected_by s o.rests b) (run_from m s (length (without b.place left)) (charged (supporters_at s b.place) (due b.price) o.rests) (without b.place left));
+      rests_are = AreRests-charged s.voters (supporters_at s b.place) (due b.price) o.rests h.rests_are;
       rises = RisesWithin-without left 0 (length s.costs) b.place h.rises;
       counted = omega (arith, h.counted, one_less, one_more);
     }

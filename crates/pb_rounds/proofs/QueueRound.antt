@@ -10,17 +10,18 @@ use Rattle.std.specs.declared.cmp.Ordering.TheVariants.{Less, Equal, Greater}
 use Rattle.std.proofs.lemmas.Bool.{true≢false, cases_Bool, cases_eq, cond-true, cond-false, false_from_ne_true, not_from_false}
 use Rattle.std.proofs.lemmas.List.{append-nil, append_assoc, map-append}
 use Rattle.std.proofs.lemmas.Option.{none-some, same_Some}
-use Rattle.std.proofs.Math.Nat.{mul-lt-mul_of_pos_right}
-use Rattle.pb_price.proofs.Payments.{least_from_price, paid_at-zero}
-use Rattle.pb_price.proofs.RestsFall.{no_price_falls, no_price_stays}
-use Rattle.pb_price.specs.Price.{price_at}
+use Rattle.std.proofs.Math.Nat.{mul-lt-mul_of_pos_right, mul-pos}
+use Rattle.pb_price.proofs.Prices.{at_most_trans, none_stays, prices_rise, some_amount_at}
+use Rattle.pb_price.proofs.SupporterLists.{parts_positive}
+use Rattle.pb_price.specs.Inner.Payment.{nothing}
+use Rattle.pb_price.specs.Price.{AtMost, PriceView, due, price_at}
 use Rattle.pb_price.specs.Inner.Lists.{NoRestRises}
 use Rattle.pb_price.specs.Supporters.{SupportView, cost_at, supporters_at}
 use Rattle.pb_rounds.specs.declared.measure.Measure.{Measure}
-use Rattle.pb_rounds.specs.Inner.KeyOrder.{greater_from, key_cmp-total}
+use Rattle.pb_rounds.specs.Inner.KeyOrder.{divisor_positive, greater_from, key_cmp-total}
 use Rattle.pb_rounds.specs.Inner.KeyRecord.{AreInTime, AreSomeOf, IsKeyEnd, IsKeyRound, is_in_time, known_after}
 use Rattle.pb_rounds.specs.Inner.Queue.{IsDone, IsIn, IsTaken, PricesHeads, PutsBack, Rises, places_of}
-use Rattle.pb_rounds.specs.Key.{KeyView, first_least, is_before, key_cmp}
+use Rattle.pb_rounds.specs.Key.{KeyView, divisor, first_least, is_before, key_cmp}
 use Rattle.pb_rounds.specs.Inner.Listed.{is_listed}
 use Rattle.pb_rounds.specs.Run.{best_of, charged, key_of, keys_at, weight_of, without}
 use Rattle.pb_rounds.proofs.BestKey.{IsKey, best_is_key, key_from, key_in, no_price_without_best}
@@ -57,49 +58,49 @@ first_greater : (o p : Ordering) → o ≡ Greater → is_lt (ordering_then o p)
 first_greater o p e = ap (λ r. is_lt (ordering_then r p)) e
 
 -- a project's key at a smaller price is at most its key at a larger one
-pub at_most_by_price : (m : Measure) (s : SupportView) (place p q : ℕ) → q ≤ p → is_before (key_of m s place p) (key_of m s place q) ≡ false
-at_most_by_price m s place p q h = elim (cases_eq q p) [
-  | inl same ↦ ap (λ n. is_before (key_of m s place p) (key_of m s place n)) same ∙ not_before_itself (key_of m s place p)
-  | inr other ↦
-      let less : q < p = omega arith in
-      first_greater _ _
-      (greater_from (p * max 1 (weight_of m s place)) (q * max 1 (weight_of m s place)) (mul-lt-mul_of_pos_right less (omega arith)))
-]
+pub at_most_by_price : (m : Measure) (s : SupportView) (place : ℕ) (p q : PriceView) → AtMost q p → is_before (key_of m s place p) (key_of m s place q) ≡ false
+at_most_by_price m s place p q (inr same) =
+    ap (λ n. is_before (key_of m s place p) (key_of m s place n)) same ∙ not_before_itself (key_of m s place p)
+at_most_by_price m s place p q (inl less) =
+    let scaled = mul-lt-mul_of_pos_right {k = max 1 (weight_of m s place)} less (omega arith) in
+    first_greater _ _
+    (greater_from (p.amount * divisor (key_of m s place q)) (q.amount * divisor (key_of m s place p)) (omega (arith, scaled)))
 
--- the key of a project at price 0 is at most any key at a price above 0
-at_most_at_zero : (m : Measure) (s : SupportView) (place other p : ℕ) → 0 < p → is_before (key_of m s other p) (key_of m s place 0) ≡ false
+-- the key of a project at a price of nothing is at most any key at one above
+at_most_at_zero : (m : Measure) (s : SupportView) (place other : ℕ) (p : PriceView) → 0 < p.amount → is_before (key_of m s other p) (key_of m s place nothing) ≡ false
 at_most_at_zero m s place other p h =
     first_greater _ _
-    (greater_from (p * max 1 (weight_of m s place)) (0 * max 1 (weight_of m s other)) (let some = mul-lt-mul_of_pos_right {m = 0} {n = p} {k = max 1 (weight_of m s place)} h (omega arith) in omega (arith, some)))
+    (greater_from (p.amount * divisor (key_of m s place nothing)) (0 * divisor (key_of m s other p))
+    (let some = mul-pos h (divisor_positive (key_of m s place nothing)) in omega (arith, some)))
 
 pub best_of_is : (m : Measure) (s : SupportView) (rests left : List ℕ) → best_of m s rests left ≡ first_least is_before (keys_at m s rests left)
 unfolding best_of
 best_of_is m s rests left = refl
 
 -- known prices are lower bounds of the prices at these rests, and what is known to have none has none
-pub record IsLower (s : SupportView) (rests left : List ℕ) (known : ℕ → Option ℕ) : Type 0 where
-  pub rises : (place q p : ℕ) → is_listed left place ≡ true → known place ≡ Some q → price_at s rests place ≡ Some p → q ≤ p
+pub record IsLower (s : SupportView) (rests left : List ℕ) (known : ℕ → Option PriceView) : Type 0 where
+  pub rises : (place : ℕ) (q p : PriceView) → is_listed left place ≡ true → known place ≡ Some q → price_at s rests place ≡ Some p → AtMost q p
   pub none : (place : ℕ) → is_listed left place ≡ true → known place ≡ None → price_at s rests place ≡ None
 
 -- the queue has a key for each project left that is known to have a price, and no others
-pub record IsQueue (m : Measure) (s : SupportView) (left : List ℕ) (known : ℕ → Option ℕ) (queue : List KeyView) : Type 0 where
+pub record IsQueue (m : Measure) (s : SupportView) (left : List ℕ) (known : ℕ → Option PriceView) (queue : List KeyView) : Type 0 where
   pub are_left : (b : KeyView) → IsIn b queue → is_listed left b.place ≡ true
   pub are_known : (b : KeyView) → IsIn b queue → known b.place ≡ Some b.price
   pub are_keys : (b : KeyView) → IsIn b queue → b ≡ key_of m s b.place b.price
-  pub whole : (place price : ℕ) → is_listed left place ≡ true → known place ≡ Some price → IsIn (key_of m s place price) queue
+  pub whole : (place : ℕ) (price : PriceView) → is_listed left place ≡ true → known place ≡ Some price → IsIn (key_of m s place price) queue
   pub rises : Rises queue
 
-pub one_a_place : (m : Measure) (s : SupportView) (left : List ℕ) (known : ℕ → Option ℕ) (queue : List KeyView) → IsQueue m s left known queue
+pub one_a_place : (m : Measure) (s : SupportView) (left : List ℕ) (known : ℕ → Option PriceView) (queue : List KeyView) → IsQueue m s left known queue
     → (b c : KeyView) → IsIn b queue → IsIn c queue → b.place ≡ c.place → b ≡ c
 one_a_place m s left known queue q b c i j same =
     let price : b.price ≡ c.price = same_Some _ _ (sym (q.are_known b i) ∙ ap known same ∙ q.are_known c j) in
     q.are_keys b i ∙ ap (λ n. key_of m s n b.price) same ∙ ap (key_of m s c.place) price ∙ sym (q.are_keys c j)
 
-pub queue_distinct : (m : Measure) (s : SupportView) (left : List ℕ) (known : ℕ → Option ℕ) (queue : List KeyView) → IsQueue m s left known queue
+pub queue_distinct : (m : Measure) (s : SupportView) (left : List ℕ) (known : ℕ → Option PriceView) (queue : List KeyView) → IsQueue m s left known queue
     → IsDistinct nat_eq (places_of queue)
 queue_distinct m s left known queue q = distinct_places queue q.rises (one_a_place m s left known queue q)
 
-pub queue_few : (m : Measure) (s : SupportView) (left : List ℕ) (known : ℕ → Option ℕ) (queue : List KeyView) → IsQueue m s left known queue
+pub queue_few : (m : Measure) (s : SupportView) (left : List ℕ) (known : ℕ → Option PriceView) (queue : List KeyView) → IsQueue m s left known queue
     → length queue ≤ length left
 queue_few m s left known queue q =
     let few = no_more_than_left (places_of queue) left (queue_distinct m s left known queue q) (λ n listed.
@@ -126,7 +127,7 @@ nothing_left : (rest : List KeyView) → IsDone None rest → (b : KeyView) → 
 nothing_left [] done b i = i
 nothing_left (head ∷ rest) done b i = done
 
-module _ (m : Measure) (s : SupportView) (rests left : List ℕ) (known : ℕ → Option ℕ) (lower : IsLower s rests left known)
+module _ (m : Measure) (s : SupportView) (rests left : List ℕ) (known : ℕ → Option PriceView) (lower : IsLower s rests left known)
     (queue : List KeyView) (q : IsQueue m s left known queue) (most : ℕ) (rest : List KeyView) (places : List ℕ) (fresh : List KeyView) (best : Option KeyView)
     (h : PricesHeads m s rests most queue rest places fresh best) (done : IsDone best rest) where
   from_queue : (b : KeyView) → IsIn b (h.early ++ h.batch) → IsIn b queue
@@ -159,7 +160,7 @@ module _ (m : Measure) (s : SupportView) (rests left : List ℕ) (known : ℕ �
   }
 
   -- what was not priced and is known to have a price is still in the queue
-  still_queued : (place price : ℕ) → is_listed left place ≡ true → known place ≡ Some price → is_listed places place ≡ false → IsIn (key_of m s place price) rest
+  still_queued : (place : ℕ) (price : PriceView) → is_listed left place ≡ true → known place ≡ Some price → is_listed places place ≡ false → IsIn (key_of m s place price) rest
   still_queued place price listed known_is other =
       elim (in_either (key_of m s place price) (h.early ++ h.batch) rest (subst (IsIn (key_of m s place price)) h.cut (q.whole place price listed known_is))) [
         | inl priced ↦ absurd (true≢false (sym (subst (λ (xs : List ℕ). is_listed xs place ≡ true) (sym h.placed) (listed_from_in (key_of m s place price) (h.early ++ h.batch) priced)) ∙ other))
@@ -189,7 +190,7 @@ module _ (m : Measure) (s : SupportView) (rests left : List ℕ) (known : ℕ �
     nothing_queued : (b : KeyView) → IsIn b rest → ⊥
     nothing_queued = nothing_left rest (subst (λ (o : Option KeyView). IsDone o rest) none done)
 
-    known_none_by : (place : ℕ) → is_listed left place ≡ true → is_listed places place ≡ false → (o : Option ℕ) → known place ≡ o → o ≡ None
+    known_none_by : (place : ℕ) → is_listed left place ≡ true → is_listed places place ≡ false → (o : Option PriceView) → known place ≡ o → o ≡ None
     known_none_by place listed other None e = refl
     known_none_by place listed other (Some p) e = absurd (nothing_queued (key_of m s place p) (still_queued place p listed e other))
 
@@ -232,14 +233,14 @@ module _ (m : Measure) (s : SupportView) (rests left : List ℕ) (known : ℕ �
     w_is = (best_is_key m s rests places w w_best).is_key
 
     -- no known price comes before the winner's
-    pub none_known_before : (place price : ℕ) → is_listed left place ≡ true → known_after s rests places known place ≡ Some price
+    pub none_known_before : (place : ℕ) (price : PriceView) → is_listed left place ≡ true → known_after s rests places known place ≡ Some price
         → is_before (key_of m s place price) w ≡ false
     none_known_before place price listed e = elim (cases_Bool (is_listed places place)) [
       | inl priced ↦ none_before_best m s rests places w w_best place price priced (sym (known_priced place priced) ∙ e)
       | inr other ↦ at_most_from_before w (key_of m s place price) (rest_after (key_of m s place price) (still_queued place price listed (sym (known_other place other) ∙ e) other))
     ]
 
-    least_of_left : (other p : ℕ) → is_listed left other ≡ true → price_at s rests other ≡ Some p → (o : Option ℕ) → known other ≡ o
+    least_of_left : (other : ℕ) (p : PriceView) → is_listed left other ≡ true → price_at s rests other ≡ Some p → (o : Option PriceView) → known other ≡ o
         → is_listed places other ≡ false → is_before (key_of m s other p) w ≡ false
     least_of_left other p listed priced None e out = absurd (none-some p (sym (lower.none other listed e) ∙ priced))
     least_of_left other p listed priced (Some k) e out =
@@ -277,7 +278,7 @@ module _ (m : Measure) (s : SupportView) (rests left : List ℕ) (known : ℕ �
     head_by_batch head others batch_is found =
         let here = in_right found.found h.early h.batch found.here in
         let k = found.found in
-        let lower_price : k.price ≤ w.price =
+        let lower_price : AtMost k.price w.price =
         lower.rises w.place k.price w.price (priced_left w.place winner_priced) (ap known (sym found.place_is) ∙ q.are_known k (from_queue k here)) w_price in
         let k_is : k ≡ key_of m s w.place k.price = q.are_keys k (from_queue k here) ∙ ap (λ n. key_of m s n k.price) found.place_is in
         let own : is_before w k ≡ false =
@@ -335,15 +336,10 @@ module _ (m : Measure) (s : SupportView) (rests left : List ℕ) (known : ℕ �
         absurd (none_priced found.found h.early h.batch (h.begun e) e found.here)
     in_time_by workers within (head ∷ others) e = there_in_time head others e workers within
 
-    price_positive : 0 < cost_at s w.place → 0 < w.price
-    price_positive positive = elim (cases_eq w.price 0) [
-      | inl none ↦
-          let least = least_from_price (supporters_at s w.place) rests (cost_at s w.place) 0 (w_price ∙ ap (λ n. Some n) none) in
-          absurd (omega (arith, paid_at-zero (supporters_at s w.place) rests, least.covers, positive))
-      | inr some ↦ omega arith
-    ]
+    price_positive : 0 < cost_at s w.place → 0 < w.price.amount
+    price_positive positive = some_amount_at s rests w.place (parts_positive s.grain s.voters (cost_at s w.place) positive) w.price w_price
 
-    in_time_at_first : (workers : ℕ) → 0 < cost_at s w.place → ((place : ℕ) → known place ≡ Some 0) → AreInTime m s workers known w places
+    in_time_at_first : (workers : ℕ) → 0 < cost_at s w.place → ((place : ℕ) → known place ≡ Some nothing) → AreInTime m s workers known w places
     in_time_at_first workers positive first = record {
       needed = places;
       spare = [];
@@ -351,15 +347,15 @@ module _ (m : Measure) (s : SupportView) (rests left : List ℕ) (known : ℕ �
       few = omega arith;
       in_time = λ n listed.
           ap (λ o. option_map_or (λ price. not (is_before w (key_of m s n price))) o false) (first n)
-          ∙ not_from_false _ (ap (λ b. is_before b (key_of m s n 0)) w_is ∙ at_most_at_zero m s n w.place w.price (price_positive positive));
+          ∙ not_from_false _ (ap (λ b. is_before b (key_of m s n nothing)) w_is ∙ at_most_at_zero m s n w.place w.price (price_positive positive));
     }
 
-    in_time_either : (workers : ℕ) → 0 < cost_at s w.place → (most ≤ workers) ⊎ ((place : ℕ) → known place ≡ Some 0)
+    in_time_either : (workers : ℕ) → 0 < cost_at s w.place → (most ≤ workers) ⊎ ((place : ℕ) → known place ≡ Some nothing)
         → AreInTime m s workers known w places
     in_time_either workers positive (inl within) = in_time_by workers within h.batch refl
     in_time_either workers positive (inr first) = in_time_at_first workers positive first
 
-    pub priced_round : (workers : ℕ) → 0 < cost_at s w.place → (most ≤ workers) ⊎ ((place : ℕ) → known place ≡ Some 0)
+    pub priced_round : (workers : ℕ) → 0 < cost_at s w.place → (most ≤ workers) ⊎ ((place : ℕ) → known place ≡ Some nothing)
         → IsKeyRound m s workers rests left known w places
     priced_round workers positive either = record {
       are_priced = are_priced;
@@ -403,30 +399,29 @@ module _ (m : Measure) (s : SupportView) (rests left : List ℕ) (known : ℕ �
       rises = back.rises;
     }
 
-    no_rest_rises : NoRestRises rests (charged (supporters_at s w.place) w.price rests)
-    no_rest_rises v = omega (arith, charged_at (supporters_at s w.place) w.price rests v)
+    no_rest_rises : NoRestRises rests (charged (supporters_at s w.place) (due w.price) rests)
+    no_rest_rises v = omega (arith, charged_at (supporters_at s w.place) (due w.price) rests v)
 
-    still_lower : (place k p : ℕ) → is_listed left place ≡ true → known place ≡ Some k → (o : Option ℕ) → price_at s rests place ≡ o
-        → price_at s (charged (supporters_at s w.place) w.price rests) place ≡ Some p → k ≤ p
+    still_lower : (place : ℕ) (k p : PriceView) → is_listed left place ≡ true → known place ≡ Some k → (o : Option PriceView) → price_at s rests place ≡ o
+        → price_at s (charged (supporters_at s w.place) (due w.price) rests) place ≡ Some p → AtMost k p
     still_lower place k p listed known_is None e priced =
-        absurd (none-some p (sym (no_price_stays (supporters_at s place) rests (charged (supporters_at s w.place) w.price rests) (cost_at s place) no_rest_rises e) ∙ priced))
+        absurd (none-some p (sym (none_stays s rests (charged (supporters_at s w.place) (due w.price) rests) place no_rest_rises e) ∙ priced))
     still_lower place k p listed known_is (Some r) e priced =
         let one = lower.rises place k r listed known_is e in
-        let two = no_price_falls (supporters_at s place) rests (charged (supporters_at s w.place) w.price rests) (cost_at s place) r p no_rest_rises e priced in
-        omega arith
+        at_most_trans k r p one (prices_rise s rests (charged (supporters_at s w.place) (due w.price) rests) place no_rest_rises r p e priced)
 
     -- its known prices are lower bounds again
-    pub next_lower : IsLower s (charged (supporters_at s w.place) w.price rests) (without w.place left) (known_after s rests places known)
+    pub next_lower : IsLower s (charged (supporters_at s w.place) (due w.price) rests) (without w.place left) (known_after s rests places known)
     next_lower = record {
       rises = λ place k p listed known_is priced. elim (cases_Bool (is_listed places place)) [
-        | inl here ↦ no_price_falls (supporters_at s place) rests (charged (supporters_at s w.place) w.price rests) (cost_at s place) k p no_rest_rises
+        | inl here ↦ prices_rise s rests (charged (supporters_at s w.place) (due w.price) rests) place no_rest_rises k p
             (sym (known_priced place here) ∙ known_is) priced
         | inr other ↦ still_lower place k p (listed_from_without left w.place place listed) (sym (known_other place other) ∙ known_is) (price_at s rests place) refl priced
       ];
       none = λ place listed known_is. elim (cases_Bool (is_listed places place)) [
-        | inl here ↦ no_price_stays (supporters_at s place) rests (charged (supporters_at s w.place) w.price rests) (cost_at s place) no_rest_rises
+        | inl here ↦ none_stays s rests (charged (supporters_at s w.place) (due w.price) rests) place no_rest_rises
             (sym (known_priced place here) ∙ known_is)
-        | inr other ↦ no_price_stays (supporters_at s place) rests (charged (supporters_at s w.place) w.price rests) (cost_at s place) no_rest_rises
+        | inr other ↦ none_stays s rests (charged (supporters_at s w.place) (due w.price) rests) place no_rest_rises
             (lower.none place (listed_from_without left w.place place listed) (sym (known_other place other) ∙ known_is))
       ];
     }

@@ -9,7 +9,8 @@ use Rattle.std.proofs.lemmas.List.{append_assoc, append-nil, get_or-map, map-app
 use Rattle.std.proofs.lemmas.List.Elements.{All-cons, All-nil, filter_map-append}
 use Rattle.std.specs.Io.Iter.{u64_saturate}
 use Rattle.pb_core.specs.Election.{most_projects}
-use Rattle.pb_price.specs.Price.{price_at}
+use Rattle.pb_price.specs.Inner.Payment.{nothing}
+use Rattle.pb_price.specs.Price.{PriceView, price_at}
 use Rattle.pb_price.specs.Supporters.{SupportView}
 use Rattle.pb_rounds.specs.declared.measure.Measure.{Measure}
 use Rattle.pb_rounds.specs.Inner.Key.{better_of}
@@ -20,19 +21,19 @@ use Rattle.pb_rounds.proofs.Best.{first_least-push}
 use Rattle.pb_rounds.proofs.QueueLists.{in_either, in_left, in_right, put_from, put_is_in, put_keeps, rises_from_sorted}
 
 -- the queue of one project more
-pub full_more : (m : Measure) (s : SupportView) (n : ℕ) (queue : List KeyView) → IsFull m s n queue → (k : KeyView) → k ≡ key_of m s n 0
+pub full_more : (m : Measure) (s : SupportView) (n : ℕ) (queue : List KeyView) → IsFull m s n queue → (k : KeyView) → k ≡ key_of m s n nothing
     → (new : List KeyView) → new ≡ insert_key key_cmp queue k → IsStrictlySortedBy key_cmp new → IsFull m s (n + 1) new
 full_more m s n queue h k k_is new new_is sorted = record {
   sound = λ b i. elim (put_from k b queue (subst (IsIn b) new_is i)) [
     | inl old ↦ let found = h.sound b old in (omega (arith, found.0), found.1)
     | inr same ↦
-        let b_is : b ≡ key_of m s n 0 = same ∙ k_is in
+        let b_is : b ≡ key_of m s n nothing = same ∙ k_is in
         let at : b.place ≡ n = ap (λ (c : KeyView). c.place) b_is in
-        (omega (arith, at), b_is ∙ ap (λ p. key_of m s p 0) (sym at))
+        (omega (arith, at), b_is ∙ ap (λ p. key_of m s p nothing) (sym at))
   ];
-  whole = λ place below. subst (IsIn (key_of m s place 0)) (sym new_is) (elim (cases_eq place n) [
-    | inl same ↦ subst (λ (b : KeyView). IsIn b (insert_key key_cmp queue k)) (k_is ∙ ap (λ p. key_of m s p 0) (sym same)) (put_is_in k queue)
-    | inr other ↦ put_keeps k (key_of m s place 0) queue (h.whole place (omega arith))
+  whole = λ place below. subst (IsIn (key_of m s place nothing)) (sym new_is) (elim (cases_eq place n) [
+    | inl same ↦ subst (λ (b : KeyView). IsIn b (insert_key key_cmp queue k)) (k_is ∙ ap (λ p. key_of m s p nothing) (sym same)) (put_is_in k queue)
+    | inr other ↦ put_keeps k (key_of m s place nothing) queue (h.whole place (omega arith))
   ]);
   rises = rises_from_sorted new sorted;
 }
@@ -248,19 +249,19 @@ module _ (m : Measure) (s : SupportView) (rests : List ℕ) (most : ℕ) (queue 
       omega (arith, n_is, count, next_is, few, placed_all, places_within)
 
 -- one project priced: its answer is among the answers for all heads
-pub answer_at : (f : ℕ → Option ℕ) (heads : List ℕ) (i : ℕ) → i < length heads → (answers : List (Option ℕ)) → answers ≡ map f heads
-    → (answer : Option ℕ) → answer ≡ get_or answers i answer → answer ≡ f (get_or heads i 0)
+pub answer_at : (f : ℕ → Option PriceView) (heads : List ℕ) (i : ℕ) → i < length heads → (answers : List (Option PriceView)) → answers ≡ map f heads
+    → (answer : Option PriceView) → answer ≡ get_or answers i answer → answer ≡ f (get_or heads i 0)
 answer_at f heads i below answers answers_are answer is =
-    is ∙ ap (λ (xs : List (Option ℕ)). get_or xs i answer) answers_are ∙ get_or-map f heads i 0 answer below
+    is ∙ ap (λ (xs : List (Option PriceView)). get_or xs i answer) answers_are ∙ get_or-map f heads i 0 answer below
 
 module _ (m : Measure) (s : SupportView) (rests heads : List ℕ) (i : ℕ) (below : i < length heads) (before fresh : List KeyView)
-    (fresh_are : fresh ≡ before ++ keys_at m s rests (take i heads)) (answer : Option ℕ) (answer_is : answer ≡ price_at s rests (get_or heads i 0)) where
+    (fresh_are : fresh ≡ before ++ keys_at m s rests (take i heads)) (answer : Option PriceView) (answer_is : answer ≡ price_at s rests (get_or heads i 0)) where
   keys_more : keys_at m s rests (take (i + 1) heads) ≡ keys_at m s rests (take i heads) ++ cons_option (option_map (key_of m s (get_or heads i 0)) answer) []
   keys_more =
       ap (keys_at m s rests) (take_more heads i 0 below) ∙ filter_map-append (key_at m s rests) (take i heads) (get_or heads i 0 ∷ [])
       ∙ ap (λ o. keys_at m s rests (take i heads) ++ cons_option (option_map (key_of m s (get_or heads i 0)) o) []) (sym answer_is)
 
-  pub fresh_some : (price : ℕ) → answer ≡ Some price → (key : KeyView) → key ≡ key_of m s (get_or heads i 0) price
+  pub fresh_some : (price : PriceView) → answer ≡ Some price → (key : KeyView) → key ≡ key_of m s (get_or heads i 0) price
       → fresh ++ key ∷ [] ≡ before ++ keys_at m s rests (take (i + 1) heads)
   fresh_some price some key key_is =
       ap (λ xs. xs ++ key ∷ []) fresh_are ∙ append_assoc before (keys_at m s rests (take i heads)) (key ∷ [])

@@ -8,7 +8,8 @@ use Rattle.std.proofs.lemmas.List.FromFn.{get_or-range_with_len, length-range_wi
 use Rattle.std.proofs.lemmas.Option.{none-some, same_Some}
 use Rattle.pb_core.specs.Election.{ElectionView}
 use Rattle.pb_price.proofs.FirstInRange.{IsFirstInRange, NoneInRange, find-range_with_len}
-use Rattle.pb_price.specs.Supporters.{SupportView, IsSupport, support_of, supporters_at, cost_at}
+use Rattle.pb_price.specs.Supporters.{SupportView, IsSupport, support_in, supporters_at, cost_at}
+use Rattle.pb_price.specs.declared.grain.Grain.{Grain}
 use Rattle.pb_rounds.specs.declared.measure.Measure.{Measure}
 use Rattle.pb_rounds.specs.Completed.{After, IsExhausted, IsCompleted, GoesOn, AreSpent}
 use Rattle.pb_rounds.specs.Count.{spent_on, is_over, is_exhausted, could_be_added, is_over_after, is_exhausted_after, is_decisive, first_decisive, add1_of, elected_after, share_after}
@@ -68,49 +69,49 @@ module _ (s : SupportView) (budget : ℕ) (elected : List ElectedView) where
       ap (could_be_added s budget elected) at ∙ false_from_ne_true _ (could_none h k within))))
 
 -- what the computed run elects, in the words of the rule, and back
-from_computed : (m : Measure) (e : ElectionView) → IsSupport (support_of e) → (step raises : ℕ) (IsSuch : List ElectedView → Type 0)
-    → IsSuch (elected_after m e step raises) → After m e step raises IsSuch
-from_computed m e h step raises IsSuch such =
-    (elected_after m e step raises, (outcome_of m e (share_after e step raises)).rests, words_of_run m (support_of e) (share_after e step raises) h, such)
+from_computed : (m : Measure) (grain : Grain) (e : ElectionView) → IsSupport (support_in grain e) → (step raises : ℕ) (IsSuch : List ElectedView → Type 0)
+    → IsSuch (elected_after m grain e step raises) → After m grain e step raises IsSuch
+from_computed m grain e h step raises IsSuch such =
+    (elected_after m grain e step raises, (outcome_of m grain e (share_after grain e step raises)).rests, words_of_run m (support_in grain e) (share_after grain e step raises) h, such)
 
-computed_from : (m : Measure) (e : ElectionView) (step raises : ℕ) (IsSuch : List ElectedView → Type 0)
-    → After m e step raises IsSuch → IsSuch (elected_after m e step raises)
-computed_from m e step raises IsSuch (elected, rests, words, such) =
-    subst IsSuch (ap (λ (r : RunView). r.elected) (only_run m (support_of e) (share_after e step raises) (record { elected = elected; rests = rests }) words)) such
+computed_from : (m : Measure) (grain : Grain) (e : ElectionView) (step raises : ℕ) (IsSuch : List ElectedView → Type 0)
+    → After m grain e step raises IsSuch → IsSuch (elected_after m grain e step raises)
+computed_from m grain e step raises IsSuch (elected, rests, words, such) =
+    subst IsSuch (ap (λ (r : RunView). r.elected) (only_run m (support_in grain e) (share_after grain e step raises) (record { elected = elected; rests = rests }) words)) such
 
-no_end : (m : Measure) (e : ElectionView) → IsSupport (support_of e) → (step raises : ℕ) → is_decisive m e step raises ≡ false
-    → GoesOn m e step raises
-no_end m e support step raises h =
+no_end : (m : Measure) (grain : Grain) (e : ElectionView) → IsSupport (support_in grain e) → (step raises : ℕ) → is_decisive m grain e step raises ≡ false
+    → GoesOn m grain e step raises
+no_end m grain e support step raises h =
     let parts = or_parts _ _ h in
-    from_computed m e support step raises (λ elected. (¬ (e.budget < spent_on (support_of e) elected)) × (¬ IsExhausted (support_of e) e.budget elected)) (
-      (λ over. true≢false (sym (over_from_more (support_of e) e.budget (elected_after m e step raises) over) ∙ parts.0)),
-      (λ exhausted. true≢false (sym (test_from_exhausted (support_of e) e.budget (elected_after m e step raises) exhausted) ∙ parts.1)),
+    from_computed m grain e support step raises (λ elected. (¬ (e.budget < spent_on (support_in grain e) elected)) × (¬ IsExhausted (support_in grain e) e.budget elected)) (
+      (λ over. true≢false (sym (over_from_more (support_in grain e) e.budget (elected_after m grain e step raises) over) ∙ parts.0)),
+      (λ exhausted. true≢false (sym (test_from_exhausted (support_in grain e) e.budget (elected_after m grain e step raises) exhausted) ∙ parts.1)),
     )
 
 more_from_over : (s : SupportView) (budget : ℕ) (elected : List ElectedView) → is_over s budget elected ≡ true → budget < spent_on s elected
 unfolding is_over
 more_from_over s budget elected e = ltb-true budget (spent_on s elected) e
 
-decided_completed : (m : Measure) (e : ElectionView) → IsSupport (support_of e) → (step limit : ℕ) → (o : Option ℕ)
-    → MatchOption o (NoneInRange (is_decisive m e step) 0 (limit + 1)) (IsFirstInRange (is_decisive m e step) 0 (limit + 1)) → (raises : ℕ)
-    → option_map (λ n. if is_over_after m e step n then n - 1 else n) o ≡ Some raises → IsCompleted m e step limit raises
-decided_completed m e h step limit None found raises is = absurd (none-some raises is)
-decided_completed m e h step limit (Some n) found raises is = elim (cases_Bool (is_over_after m e step n)) [
+decided_completed : (m : Measure) (grain : Grain) (e : ElectionView) → IsSupport (support_in grain e) → (step limit : ℕ) → (o : Option ℕ)
+    → MatchOption o (NoneInRange (is_decisive m grain e step) 0 (limit + 1)) (IsFirstInRange (is_decisive m grain e step) 0 (limit + 1)) → (raises : ℕ)
+    → option_map (λ n. if is_over_after m grain e step n then n - 1 else n) o ≡ Some raises → IsCompleted m grain e step limit raises
+decided_completed m grain e h step limit None found raises is = absurd (none-some raises is)
+decided_completed m grain e h step limit (Some n) found raises is = elim (cases_Bool (is_over_after m grain e step n)) [
   | inl over ↦
       let before : raises ≡ n - 1 = same_Some _ _ (sym is ∙ ap (λ k. Some k) (cond-true _ _ _ over)) in
       elim (cases_eq n 0) [
-        | inl none ↦ absurd (true≢false (sym over ∙ rw none (opening_not_over m e h step)))
+        | inl none ↦ absurd (true≢false (sym over ∙ rw none (opening_not_over m grain e h step)))
         | inr some ↦
             let next : raises + 1 ≡ n = omega arith in
             let below = found.below in
             record {
               within_limit = omega arith;
-              fewer_go_on = λ fewer few. no_end m e h step fewer (found.first fewer (omega arith) (omega arith));
+              fewer_go_on = λ fewer few. no_end m grain e h step fewer (found.first fewer (omega arith) (omega arith));
               ends = inr (
-                no_end m e h step raises (found.first raises (omega arith) (omega arith)),
+                no_end m grain e h step raises (found.first raises (omega arith) (omega arith)),
                 omega arith,
-                from_computed m e h step (raises + 1) (λ elected. e.budget < spent_on (support_of e) elected)
-                    (more_from_over (support_of e) e.budget (elected_after m e step (raises + 1)) (ap (is_over_after m e step) next ∙ over)),
+                from_computed m grain e h step (raises + 1) (λ elected. e.budget < spent_on (support_in grain e) elected)
+                    (more_from_over (support_in grain e) e.budget (elected_after m grain e step (raises + 1)) (ap (is_over_after m grain e step) next ∙ over)),
               );
             }
       ]
@@ -119,62 +120,62 @@ decided_completed m e h step limit (Some n) found raises is = elim (cases_Bool (
       let below = found.below in
       record {
         within_limit = omega arith;
-        fewer_go_on = λ fewer few. no_end m e h step fewer (found.first fewer (omega arith) (omega arith));
-        ends = inl (from_computed m e h step raises (IsExhausted (support_of e) e.budget) (exhausted_from_test (support_of e) e.budget (elected_after m e step raises)
-            (ap (is_exhausted_after m e step) here ∙ exhausted_at m e step n not_over found.passes)));
+        fewer_go_on = λ fewer few. no_end m grain e h step fewer (found.first fewer (omega arith) (omega arith));
+        ends = inl (from_computed m grain e h step raises (IsExhausted (support_in grain e) e.budget) (exhausted_from_test (support_in grain e) e.budget (elected_after m grain e step raises)
+            (ap (is_exhausted_after m grain e step) here ∙ exhausted_at m grain e step n not_over found.passes)));
       }
 ]
   where
-    exhausted_at : (m : Measure) (e : ElectionView) (step n : ℕ) → is_over_after m e step n ≡ false → is_decisive m e step n ≡ true → is_exhausted_after m e step n ≡ true
-    exhausted_at m e step n not_over ends = elim (or_cases _ _ ends) [
+    exhausted_at : (m : Measure) (grain : Grain) (e : ElectionView) (step n : ℕ) → is_over_after m grain e step n ≡ false → is_decisive m grain e step n ≡ true → is_exhausted_after m grain e step n ≡ true
+    exhausted_at m grain e step n not_over ends = elim (or_cases _ _ ends) [
       | inl over ↦ absurd (true≢false (sym over ∙ not_over))
       | inr exhausted ↦ exhausted
     ]
 
 -- what the completion decides on
-pub add1_completed : (m : Measure) (e : ElectionView) → IsSupport (support_of e) → (step limit raises : ℕ) → add1_of m e step limit ≡ Some raises → IsCompleted m e step limit raises
+pub add1_completed : (m : Measure) (grain : Grain) (e : ElectionView) → IsSupport (support_in grain e) → (step limit raises : ℕ) → add1_of m grain e step limit ≡ Some raises → IsCompleted m grain e step limit raises
 unfolding first_decisive
-add1_completed m e h step limit raises is =
-    decided_completed m e h step limit _ (find-range_with_len (is_decisive m e step) (limit + 1) 0 (limit + 1) (omega arith)) raises is
+add1_completed m grain e h step limit raises is =
+    decided_completed m grain e h step limit _ (find-range_with_len (is_decisive m grain e step) (limit + 1) 0 (limit + 1) (omega arith)) raises is
 
 -- raises that go on do not decide
-goes_on_test : (m : Measure) (e : ElectionView) (step raises : ℕ) → GoesOn m e step raises → is_decisive m e step raises ≡ false
-goes_on_test m e step raises goes_on =
-    let h = computed_from m e step raises (λ elected. (¬ (e.budget < spent_on (support_of e) elected)) × (¬ IsExhausted (support_of e) e.budget elected)) goes_on in
-    or_from _ _ (false_from_ne_true _ (λ over. h.0 (more_from_over (support_of e) e.budget (elected_after m e step raises) over)))
-    (false_from_ne_true _ (λ exhausted. h.1 (exhausted_from_test (support_of e) e.budget (elected_after m e step raises) exhausted)))
+goes_on_test : (m : Measure) (grain : Grain) (e : ElectionView) (step raises : ℕ) → GoesOn m grain e step raises → is_decisive m grain e step raises ≡ false
+goes_on_test m grain e step raises goes_on =
+    let h = computed_from m grain e step raises (λ elected. (¬ (e.budget < spent_on (support_in grain e) elected)) × (¬ IsExhausted (support_in grain e) e.budget elected)) goes_on in
+    or_from _ _ (false_from_ne_true _ (λ over. h.0 (more_from_over (support_in grain e) e.budget (elected_after m grain e step raises) over)))
+    (false_from_ne_true _ (λ exhausted. h.1 (exhausted_from_test (support_in grain e) e.budget (elected_after m grain e step raises) exhausted)))
 
-module _ (m : Measure) (e : ElectionView) (step limit : ℕ) where
+module _ (m : Measure) (grain : Grain) (e : ElectionView) (step limit : ℕ) where
   -- a number of raises of which the rule's words hold is what the completion decides on
-  pub completed_is_decided : (raises : ℕ) → IsCompleted m e step limit raises → add1_of m e step limit ≡ Some raises
+  pub completed_is_decided : (raises : ℕ) → IsCompleted m grain e step limit raises → add1_of m grain e step limit ≡ Some raises
   completed_is_decided raises h = elim h.ends [
     | inl ended ↦
-        let exhausted = computed_from m e step raises (IsExhausted (support_of e) e.budget) ended in
-        decided_here m e step limit raises h.within_limit (λ j below. goes_on_test m e step j (h.fewer_go_on j below))
-        (over_from_within (support_of e) e.budget (elected_after m e step raises) exhausted.within)
-        (test_from_exhausted (support_of e) e.budget (elected_after m e step raises) exhausted)
+        let exhausted = computed_from m grain e step raises (IsExhausted (support_in grain e) e.budget) ended in
+        decided_here m grain e step limit raises h.within_limit (λ j below. goes_on_test m grain e step j (h.fewer_go_on j below))
+        (over_from_within (support_in grain e) e.budget (elected_after m grain e step raises) exhausted.within)
+        (test_from_exhausted (support_in grain e) e.budget (elected_after m grain e step raises) exhausted)
     | inr over ↦
         let less = over.1 in
-        let more : (j : ℕ) → j < raises + 1 → is_decisive m e step j ≡ false =
+        let more : (j : ℕ) → j < raises + 1 → is_decisive m grain e step j ≡ false =
         λ j below. elim (cases_eq j raises) [
-          | inl same ↦ ap (is_decisive m e step) same ∙ goes_on_test m e step raises over.0
-          | inr other ↦ goes_on_test m e step j (h.fewer_go_on j (omega arith))
+          | inl same ↦ ap (is_decisive m grain e step) same ∙ goes_on_test m grain e step raises over.0
+          | inr other ↦ goes_on_test m grain e step j (h.fewer_go_on j (omega arith))
         ] in
         let back : raises + 1 - 1 ≡ raises = omega arith in
-        decided_before m e step limit (raises + 1) (omega arith) more (over_from_more (support_of e) e.budget (elected_after m e step (raises + 1)) (computed_from m e step (raises + 1) (λ elected. e.budget < spent_on (support_of e) elected) over.2))
+        decided_before m grain e step limit (raises + 1) (omega arith) more (over_from_more (support_in grain e) e.budget (elected_after m grain e step (raises + 1)) (computed_from m grain e step (raises + 1) (λ elected. e.budget < spent_on (support_in grain e) elected) over.2))
         ∙ ap (λ n. Some n) back
   ]
 
   -- the completion decides on none where none up to the limit decides
-  pub spent_is_undecided : AreSpent m e step limit → add1_of m e step limit ≡ None
+  pub spent_is_undecided : AreSpent m grain e step limit → add1_of m grain e step limit ≡ None
   spent_is_undecided h =
-      raises_spent m e step limit (limit + 1) (omega arith) (λ j below. goes_on_test m e step j (h j (omega arith)))
+      raises_spent m grain e step limit (limit + 1) (omega arith) (λ j below. goes_on_test m grain e step j (h j (omega arith)))
 
-  undecided : IsSupport (support_of e) → (o : Option ℕ) → MatchOption o (NoneInRange (is_decisive m e step) 0 (limit + 1)) (IsFirstInRange (is_decisive m e step) 0 (limit + 1))
-      → option_map (λ n. if is_over_after m e step n then n - 1 else n) o ≡ None → AreSpent m e step limit
-  undecided support None found is raises within = no_end m e support step raises (found raises (omega arith) (omega arith))
+  undecided : IsSupport (support_in grain e) → (o : Option ℕ) → MatchOption o (NoneInRange (is_decisive m grain e step) 0 (limit + 1)) (IsFirstInRange (is_decisive m grain e step) 0 (limit + 1))
+      → option_map (λ n. if is_over_after m grain e step n then n - 1 else n) o ≡ None → AreSpent m grain e step limit
+  undecided support None found is raises within = no_end m grain e support step raises (found raises (omega arith) (omega arith))
   undecided support (Some n) found is raises within = absurd (none-some _ (sym is))
 
-  pub undecided_is_spent : IsSupport (support_of e) → add1_of m e step limit ≡ None → AreSpent m e step limit
+  pub undecided_is_spent : IsSupport (support_in grain e) → add1_of m grain e step limit ≡ None → AreSpent m grain e step limit
   unfolding first_decisive
-  undecided_is_spent support is = undecided support _ (find-range_with_len (is_decisive m e step) (limit + 1) 0 (limit + 1) (omega arith)) is
+  undecided_is_spent support is = undecided support _ (find-range_with_len (is_decisive m grain e step) (limit + 1) 0 (limit + 1) (omega arith)) is

@@ -5,14 +5,16 @@ use Rattle.std.specs.List.{range_with_len}
 use Rattle.std.specs.Option.{option_map_or}
 use Rattle.std.proofs.lemmas.Bool.{true≢false, cases_Bool, cases_eq, cases_lt, cond-true, cond-false, eq-eqb, ne_eqb, le-leb, lt-leb, leb-true, or_from, false_from_ne_true}
 use Rattle.std.proofs.Math.Nat.{mul-le-mul_left, mul-le-mul_right}
+use Rattle.std.proofs.lemmas.Option.{none-some}
 use Rattle.std.proofs.lemmas.List.{get_or-replicate, get_or_past, length-replicate}
 use Rattle.std.proofs.lemmas.List.Elements.{All-nil, All-cons}
 use Rattle.std.proofs.lemmas.List.Sums.{sum_by-cons, sum_by_push, sum_by-le-sum_by}
 use Rattle.pb_core.specs.Election.{ElectionView}
 use Rattle.pb_core.specs.Money.{largest_money}
-use Rattle.pb_price.specs.Price.{price_at, total_rest}
-use Rattle.pb_price.specs.Supporters.{SupportView, cost_at, supporters_at, support_of}
-use Rattle.pb_price.proofs.Payments.{least_from_price, total_rest_covers}
+use Rattle.pb_price.specs.Price.{PriceView, due, largest_share, price_at, total_rest}
+use Rattle.pb_price.specs.Supporters.{SupportView, cost_at, cost_in_parts, supporters_at, support_in}
+use Rattle.pb_price.specs.declared.grain.Grain.{Grain}
+use Rattle.pb_price.proofs.Prices.{no_price_at_from_short}
 use Rattle.pb_rounds.specs.declared.measure.Measure.{Measure}
 use Rattle.pb_rounds.specs.Completed.{IsExhausted}
 use Rattle.pb_rounds.specs.Count.{elected_after, is_decisive, opening_share, share_after, spent_on}
@@ -41,13 +43,14 @@ total_within (v ∷ vs) rests share h =
     omega (arith, sum_by-cons (λ v. slice_index rests v) v vs, others, here)
 
 -- what has a price is within reach
-priced_within_reach : (s : SupportView) (rests : List ℕ) (share place price : ℕ) → AtMost share rests → price_at s rests place ≡ Some price
+priced_within_reach : (s : SupportView) (rests : List ℕ) (share place : ℕ) (price : PriceView) → AtMost share rests → price_at s rests place ≡ Some price
     → is_within_reach s share place ≡ true
-priced_within_reach s rests share place price h e =
-    let supporters = supporters_at s place in
-    let covers = total_rest_covers supporters rests (cost_at s place) price (least_from_price supporters rests (cost_at s place) price e) in
-    let most = total_within supporters rests share h in
-    le-leb (cost_at s place) (length supporters * share) (omega arith)
+priced_within_reach s rests share place price h e = elim (cases_lt (total_rest (supporters_at s place) rests) (cost_in_parts s place)) [
+  | inl short ↦ absurd (none-some price (sym (no_price_at_from_short s rests place short) ∙ e))
+  | inr covers ↦
+      let most = total_within (supporters_at s place) rests share h in
+      le-leb (cost_in_parts s place) (length (supporters_at s place) * share) (omega (arith, covers, most))
+]
 
 sum_without : (f : ℕ → ℕ) (xs : List ℕ) (m : ℕ) → sum_by f (without m xs) ≤ sum_by f xs
 sum_without f [] m = omega arith
@@ -77,21 +80,21 @@ reached_step : (m : Measure) (s : SupportView) (share n : ℕ) (rests left : Lis
     → ((rests left : List ℕ) → AtMost share rests → IsReached s share left (run_from m s n rests left).elected)
     → (o : Option KeyView) → best_of m s rests left ≡ o
     → IsReached s share left
-    (option_map_or (λ b. then_run (elected_by s rests b) (run_from m s n (charged (supporters_at s b.place) b.price rests) (without b.place left)))
+    (option_map_or (λ b. then_run (elected_by s rests b) (run_from m s n (charged (supporters_at s b.place) (due b.price) rests) (without b.place left)))
     o (record { elected = []; rests = rests })).elected
 reached_step m s share n rests left h later None e = reached_none s share left
 reached_step m s share n rests left h later (Some b) e =
     let found = best_is_key m s rests left b e in
     let near = priced_within_reach s rests share b.place b.price h found.is_price in
-    let after = later (charged (supporters_at s b.place) b.price rests) (without b.place left)
-    (λ v. let r = h v in let c = charged_at (supporters_at s b.place) b.price rests v in omega (arith, r, c)) in
+    let after = later (charged (supporters_at s b.place) (due b.price) rests) (without b.place left)
+    (λ v. let r = h v in let c = charged_at (supporters_at s b.place) (due b.price) rests v in omega (arith, r, c)) in
     let counts : reach_cost s share b.place ≡ cost_at s b.place = cond-true _ _ _ near in
     let all = sum_with (reach_cost s share) left b.place found.is_left in
     record {
       spent = omega (
         arith,
         sum_by-cons (λ w. cost_at s w.place) (elected_by s rests b)
-            (run_from m s n (charged (supporters_at s b.place) b.price rests) (without b.place left)).elected,
+            (run_from m s n (charged (supporters_at s b.place) (due b.price) rests) (without b.place left)).elected,
         after.spent,
         counts,
         all,
@@ -128,31 +131,31 @@ module _ (m : Measure) (s : SupportView) (budget share : ℕ) (h : LeavesRoom s 
       omega (arith, more, all, room)
 
 -- the law
-pub room_decides_nothing : (m : Measure) (e : ElectionView) (share : ℕ) → LeavesRoom (support_of e) e.budget share
-    → (¬ (e.budget < spent_on (support_of e) (outcome_of m e share).elected)) × (¬ IsExhausted (support_of e) e.budget (outcome_of m e share).elected)
-room_decides_nothing m e share h = (
-  (λ over. let within = room_not_over m (support_of e) e.budget share h in omega (arith, over, within)),
-  room_not_exhausted m (support_of e) e.budget share h,
+pub room_decides_nothing : (m : Measure) (grain : Grain) (e : ElectionView) (share : ℕ) → LeavesRoom (support_in grain e) e.budget share
+    → (¬ (e.budget < spent_on (support_in grain e) (outcome_of m grain e share).elected)) × (¬ IsExhausted (support_in grain e) e.budget (outcome_of m grain e share).elected)
+room_decides_nothing m grain e share h = (
+  (λ over. let within = room_not_over m (support_in grain e) e.budget share h in omega (arith, over, within)),
+  room_not_exhausted m (support_in grain e) e.budget share h,
 )
 
 -- the same as the code has it
-pub room_goes_on : (m : Measure) (e : ElectionView) (step raises : ℕ) (s : SupportView) → s ≡ support_of e → (budget : ℕ) → budget ≡ e.budget
-    → (opening : ℕ) → opening ≡ opening_share e → LeavesRoom s budget (opening + raises * step) → is_decisive m e step raises ≡ false
-room_goes_on m e step raises s same budget budget_is opening opening_is h =
-    let here : LeavesRoom (support_of e) e.budget (share_after e step raises) =
-    subst (λ (t : SupportView). LeavesRoom t e.budget (share_after e step raises)) same
-    (subst (λ n. LeavesRoom s n (share_after e step raises)) budget_is
+pub room_goes_on : (m : Measure) (grain : Grain) (e : ElectionView) (step raises : ℕ) (s : SupportView) → s ≡ support_in grain e → (budget : ℕ) → budget ≡ e.budget
+    → (opening : ℕ) → opening ≡ opening_share grain e → LeavesRoom s budget (opening + raises * step) → is_decisive m grain e step raises ≡ false
+room_goes_on m grain e step raises s same budget budget_is opening opening_is h =
+    let here : LeavesRoom (support_in grain e) e.budget (share_after grain e step raises) =
+    subst (λ (t : SupportView). LeavesRoom t e.budget (share_after grain e step raises)) same
+    (subst (λ n. LeavesRoom s n (share_after grain e step raises)) budget_is
     (subst (λ n. LeavesRoom s budget (n + raises * step)) opening_is h)) in
-    or_from _ _ (over_from_within (support_of e) e.budget (elected_after m e step raises) (room_not_over m (support_of e) e.budget (share_after e step raises) here))
-    (false_from_ne_true _ (λ ends. room_not_exhausted m (support_of e) e.budget (share_after e step raises) here
-    (exhausted_from_test (support_of e) e.budget (elected_after m e step raises) ends)))
+    or_from _ _ (over_from_within (support_in grain e) e.budget (elected_after m grain e step raises) (room_not_over m (support_in grain e) e.budget (share_after grain e step raises) here))
+    (false_from_ne_true _ (λ ends. room_not_exhausted m (support_in grain e) e.budget (share_after grain e step raises) here
+    (exhausted_from_test (support_in grain e) e.budget (elected_after m grain e step raises) ends)))
 
 -- as the share grows, what is within reach stays so
 reach_stays : (s : SupportView) (low high place : ℕ) → low ≤ high → is_within_reach s low place ≡ true → is_within_reach s high place ≡ true
 reach_stays s low high place h e =
-    let covered = leb-true (cost_at s place) (length (supporters_at s place) * low) e in
+    let covered = leb-true (cost_in_parts s place) (length (supporters_at s place) * low) e in
     let more = mul-le-mul_left (length (supporters_at s place)) h in
-    le-leb (cost_at s place) (length (supporters_at s place) * high) (omega (arith, covered, more))
+    le-leb (cost_in_parts s place) (length (supporters_at s place) * high) (omega (arith, covered, more))
 
 reach_more : (s : SupportView) (low high place : ℕ) → low ≤ high → reach_cost s low place ≤ reach_cost s high place
 reach_more s low high place h = elim (cases_Bool (is_within_reach s low place)) [
@@ -174,6 +177,10 @@ lower_leaves_room s budget low high less h = record {
       let room = h.room in
       omega (arith, all, room);
 }
+
+-- fewer raises make no larger share
+pub raised_within : (opening step most middle : ℕ) → middle ≤ most → opening + most * step ≤ largest_share → opening + middle * step ≤ largest_share
+raised_within opening step most middle few small = let fewer = mul-le-mul_right step few in omega (arith, fewer, small)
 
 -- the search for the first raise that does not leave room
 pub room_so_far : (s : SupportView) (budget opening step middle share : ℕ) → share ≡ opening + middle * step → LeavesRoom s budget share
@@ -201,13 +208,13 @@ later_beyond s share seen None h = tt
 later_beyond s share seen (Some cost) h = record { place = h.place; known = (let below = h.known in omega arith); supported = h.supported; beyond = h.beyond; costs = h.costs }
 
 module _ (s : SupportView) (share seen within : ℕ) (least : Option ℕ) (h : AreSeen s share seen within least) (cost : ℕ) (cost_is : cost ≡ cost_at s seen)
-    (count : ℕ) (count_is : count ≡ length (supporters_at s seen)) where
+    (parts : ℕ) (parts_is : parts ≡ cost_in_parts s seen) (count : ℕ) (count_is : count ≡ length (supporters_at s seen)) where
   one_more : sum_by (reach_cost s share) (range_with_len 0 (seen + 1)) ≡ sum_by (reach_cost s share) (range_with_len 0 seen) + reach_cost s share seen
   one_more = ap (sum_by (reach_cost s share)) (range-push seen) ∙ sum_by_push (reach_cost s share) (range_with_len 0 seen) seen
 
-  pub near_more : cost ≤ count * share → cost ≤ largest_money → AreSeen s share (seen + 1) (within + cost) least
+  pub near_more : parts ≤ count * share → cost ≤ largest_money → AreSeen s share (seen + 1) (within + cost) least
   near_more near bound =
-      let test : is_within_reach s share seen ≡ true = le-leb _ _ (rw (cost_is, count_is) at near) in
+      let test : is_within_reach s share seen ≡ true = le-leb _ _ (rw (parts_is, count_is) at near) in
       let counts = cond-true (is_within_reach s share seen) (cost_at s seen) 0 test in
       record {
         sum_is = omega (arith, one_more, counts, h.sum_is, cost_is);
@@ -215,9 +222,9 @@ module _ (s : SupportView) (share seen within : ℕ) (least : Option ℕ) (h : A
         found = later_beyond s share seen least h.found;
       }
 
-  module _ (far : count * share < cost) where
+  module _ (far : count * share < parts) where
     far_test : is_within_reach s share seen ≡ false
-    far_test = lt-leb _ _ (rw (cost_is, count_is) at far)
+    far_test = lt-leb _ _ (rw (parts_is, count_is) at far)
 
     pub far_more : (next : Option ℕ) → (next ≡ least) ⊎ ((0 < count) × (next ≡ Some cost)) → AreSeen s share (seen + 1) within next
     far_more next is =

@@ -6,9 +6,11 @@ use Rattle.std.proofs.lemmas.Bool.{leb-true, and_parts}
 use Rattle.std.proofs.lemmas.List.{append_assoc}
 use Rattle.std.proofs.lemmas.Option.{none-some, same_Some}
 use Rattle.pb_core.specs.Election.{most_projects}
-use Rattle.pb_price.proofs.SupporterLists.{support_form}
-use Rattle.pb_price.specs.Price.{largest_share, price_at}
+use Rattle.pb_price.proofs.Prices.{some_amount_at}
+use Rattle.pb_price.proofs.SupporterLists.{cost_positive, support_form}
+use Rattle.pb_price.specs.Price.{AtMost, PriceView, due, largest_share, price_at}
 use Rattle.pb_price.specs.Supporters.{IsSupport, SupportView, supporters_at}
+use Rattle.pb_price.specs.Inner.Payment.{nothing}
 use Rattle.pb_rounds.specs.declared.measure.Measure.{Measure}
 use Rattle.pb_rounds.specs.Key.{KeyView}
 use Rattle.pb_price.specs.PriceFault.{is_worker_count}
@@ -18,6 +20,7 @@ use Rattle.pb_rounds.specs.Inner.Queue.{IsDone, IsFull, IsIn, PricesHeads, PutsB
 use Rattle.pb_rounds.specs.Inner.RaiseEnds.{IsOutcomeAt}
 use Rattle.pb_rounds.specs.Run.{best_of, charged, elected_by, key_of, without}
 use Rattle.pb_rounds.proofs.BestKey.{best_is_key}
+use Rattle.pb_rounds.proofs.CheapestRounds.{known_place}
 use Rattle.pb_rounds.proofs.Listed.{RisesWithin-below, is_listed-range, length-without_one, listed-below, range_rises}
 use Rattle.pb_rounds.proofs.Progress.{Progress, progress_end, progress_more, progress_open}
 use Rattle.pb_rounds.proofs.QueueLists.{rises_suffix}
@@ -25,18 +28,18 @@ use Rattle.pb_rounds.proofs.QueueRound.{IsLower, IsQueue, next_lower, next_queue
 
 pub record Queued (m : Measure) (s : SupportView) (workers share raised most : ℕ) (queue : List KeyView) (o : OutcomeView) : Type 0 where
   pub left : List ℕ
-  pub known : ℕ → Option ℕ
+  pub known : ℕ → Option PriceView
   pub progress : Progress m s share raised left o
   pub lower : IsLower s o.rests left known
   pub queued : IsQueue m s left known queue
-  pub first : (most ≤ workers) ⊎ ((place : ℕ) → known place ≡ Some 0)
+  pub first : (most ≤ workers) ⊎ ((place : ℕ) → known place ≡ Some nothing)
   -- what is a record from here on is one of the whole run
   pub continues : (later : List (List ℕ)) → KeyRecord m s workers o.rests left known later → HasKeyRecord m s workers share (o.priced ++ map length later)
   pub some : 0 < most
 
 -- the opening of a run
 full_queue : (m : Measure) (s : SupportView) (queue : List KeyView) → IsFull m s (length s.costs) queue
-    → IsQueue m s (range_with_len 0 (length s.costs)) (λ _. Some 0) queue
+    → IsQueue m s (range_with_len 0 (length s.costs)) (λ _. Some nothing) queue
 full_queue m s queue full = record {
   are_left = λ b i. is_listed-range 0 (length s.costs) b.place (omega arith) (let found = full.sound b i in omega (arith, found.0));
   are_known = λ b i. ap (λ n. Some n) (sym (ap (λ (c : KeyView). c.price) (full.sound b i).1));
@@ -48,17 +51,20 @@ full_queue m s queue full = record {
   rises = full.rises;
 }
 
-pub queued_open : (m : Measure) (s : SupportView) (workers share raised : ℕ) → share ≤ largest_share → (queue : List KeyView) → IsFull m s (length s.costs) queue
+pub queued_open : (m : Measure) (s : SupportView) → IsSupport s → (workers share raised : ℕ) → share ≤ largest_share → (queue : List KeyView) → IsFull m s (length s.costs) queue
     → (o : OutcomeView) → o ≡ record { share = share; raised = raised; elected = []; rests = replicate s.voters share; priced = [] }
     → (most : ℕ) → 0 < most → Queued m s workers share raised most queue o
-queued_open m s workers share raised small queue full o o_is most some =
+queued_open m s is workers share raised small queue full o o_is most some =
     subst (λ (x : OutcomeView). Queued m s workers share raised most queue x) (sym o_is) (record {
       left = range_with_len 0 (length s.costs);
-      known = λ _. Some 0;
+      known = λ _. Some nothing;
       progress = progress_open m s share raised small;
       lower = record {
-        rises = λ place q p listed known_is priced. omega (arith, same_Some 0 q known_is);
-        none = λ place listed e. absurd (none-some 0 (sym e));
+        rises = λ place q p listed known_is priced.
+            let known = known_place s place listed in
+            let some = some_amount_at s (replicate s.voters share) place (cost_positive s is place known) p priced in
+            subst (λ (k : PriceView). AtMost k p) (same_Some nothing q known_is) (inl (omega (arith, some)));
+        none = λ place listed e. absurd (none-some nothing (sym e));
       };
       queued = full_queue m s queue full;
       first = inr (λ place. refl);
@@ -93,7 +99,7 @@ module _ (m : Measure) (s : SupportView) (workers share raised most : ℕ) (queu
           priced = st.continues (places ∷ []) (subst (λ (b : Option KeyView). MatchOption b
               (IsKeyEnd s o.rests st.left st.known places × (◌≡◌ {A = List (List ℕ)} [] []))
               (λ winner. IsKeyRound m s workers o.rests st.left st.known winner places
-              × KeyRecord m s workers (charged (supporters_at s winner.place) winner.price o.rests) (without winner.place st.left) (known_after s o.rests places st.known) []))
+              × KeyRecord m s workers (charged (supporters_at s winner.place) (due winner.price) o.rests) (without winner.place st.left) (known_after s o.rests places st.known) []))
               (sym ends) (priced_end m s o.rests st.left st.known st.lower queue st.queued most rest places fresh best h done none, refl));
           is_support = is;
         })
@@ -111,19 +117,19 @@ module _ (m : Measure) (s : SupportView) (workers share raised most : ℕ) (queu
 
       -- after the winner paid
       module _ (paid : OutcomeView)
-          (paid_is : paid ≡ record priced { elected = priced.elected ++ elected_by s priced.rests w ∷ []; rests = charged (supporters_at s w.place) w.price priced.rests }) where
+          (paid_is : paid ≡ record priced { elected = priced.elected ++ elected_by s priced.rests w ∷ []; rests = charged (supporters_at s w.place) (due w.price) priced.rests }) where
         paid_all : paid ≡ record {
           share = o.share;
           raised = o.raised;
           elected = o.elected ++ elected_by s o.rests w ∷ [];
-          rests = charged (supporters_at s w.place) w.price o.rests;
+          rests = charged (supporters_at s w.place) (due w.price) o.rests;
           priced = o.priced ++ length places ∷ [];
         }
         paid_all = paid_is ∙ ap (λ (x : OutcomeView). record {
           share = x.share;
           raised = x.raised;
           elected = x.elected ++ elected_by s x.rests w ∷ [];
-          rests = charged (supporters_at s w.place) w.price x.rests;
+          rests = charged (supporters_at s w.place) (due w.price) x.rests;
           priced = x.priced;
         }) priced_is
 
@@ -140,14 +146,14 @@ module _ (m : Measure) (s : SupportView) (workers share raised most : ℕ) (queu
             })
 
         record_more : (later : List (List ℕ))
-            → KeyRecord m s workers (charged (supporters_at s w.place) w.price o.rests) (without w.place st.left) (known_after s o.rests places st.known) later
+            → KeyRecord m s workers (charged (supporters_at s w.place) (due w.price) o.rests) (without w.place st.left) (known_after s o.rests places st.known) later
             → HasKeyRecord m s workers share (paid.priced ++ map length later)
         record_more later from_here =
             subst (HasKeyRecord m s workers share) (sym (ap (λ (x : OutcomeView). x.priced ++ map length later) paid_all ∙ append_assoc o.priced (length places ∷ []) (map length later)))
             (st.continues (places ∷ later) (subst (λ (b : Option KeyView). MatchOption b
             (IsKeyEnd s o.rests st.left st.known places × (later ≡ []))
             (λ winner. IsKeyRound m s workers o.rests st.left st.known winner places
-            × KeyRecord m s workers (charged (supporters_at s winner.place) winner.price o.rests) (without winner.place st.left) (known_after s o.rests places st.known) later))
+            × KeyRecord m s workers (charged (supporters_at s winner.place) (due winner.price) o.rests) (without winner.place st.left) (known_after s o.rests places st.known) later))
             (sym found_best)
             (priced_round m s o.rests st.left st.known st.lower queue st.queued most rest places fresh best h done w found workers ((support_form s is).costs_positive w.place 0 winner_known) st.first, from_here)))
 

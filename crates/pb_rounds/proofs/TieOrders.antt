@@ -19,7 +19,8 @@ use Rattle.pb_price.specs.Supporters.{SupportView, cost_at, support_of}
 use Rattle.pb_rounds.proofs.FileOrder.{in_file_order}
 use Rattle.pb_rounds.specs.Inner.Tied.{drawn, keyed, tied_of}
 use Rattle.pb_rounds.specs.MostVotes.{votes_at}
-use Rattle.pb_rounds.specs.TieOrder.{IsTieOrder, keys_cmp, lot_cmp, tie_cmp}
+use Rattle.pb_rounds.specs.Inner.TieOrder.{keys_cmp, tie_cmp}
+use Rattle.pb_rounds.specs.TieOrder.{IsTieOrder, lot_cmp}
 use Rattle.pb_rounds.specs.declared.tie_order.Tied.{Tied}
 use Rattle.pb_rounds.specs.declared.tie_rule.TieKeys.{TieKeys}
 use Rattle.pb_rounds.specs.declared.tie_rule.TieKeys.TheVariants as tie

@@ -8,7 +8,7 @@ use Rattle.std.proofs.lemmas.List.Folds.{list_any-append}
 use Rattle.std.proofs.lemmas.List.Sums.{sum_by_push, sum_by-append, sum_by-cons}
 use Rattle.pb_core.specs.Money.{largest_money}
 use Rattle.pb_price.proofs.SupporterLists.{support_form}
-use Rattle.pb_price.specs.Price.{largest_share, price_at}
+use Rattle.pb_price.specs.Price.{PriceView, due, largest_share, price_at}
 use Rattle.pb_price.specs.Supporters.{IsSupport, SupportView, cost_at, supporters_at}
 use Rattle.pb_rounds.specs.declared.measure.Measure.{Measure}
 use Rattle.pb_rounds.specs.declared.raise_end.RaiseEnd.TheVariants.{GoesOn, Exhausted, Over}
@@ -75,7 +75,7 @@ module _ (m : Measure) (s : SupportView) (share : ℕ) (left : List ℕ) (o : Ou
   best_price = (best_is_key m s o.rests left w best).is_price
 
   module _ (queue : List KeyView) (bounds : HasBounds m s o.rests (without w.place left) queue) (paid : OutcomeView)
-      (paid_is : paid ≡ record o { elected = o.elected ++ elected_by s o.rests w ∷ []; rests = charged (supporters_at s w.place) w.price o.rests }) where
+      (paid_is : paid ≡ record o { elected = o.elected ++ elected_by s o.rests w ∷ []; rests = charged (supporters_at s w.place) (due w.price) o.rests }) where
     pub goes_on : Progress m s share 0 (without w.place left) paid
     goes_on =
         subst (Progress m s share 0 (without w.place left)) (sym paid_is) (progress_more m s share 0 left o pr w best)
@@ -83,8 +83,8 @@ module _ (m : Measure) (s : SupportView) (share : ℕ) (left : List ℕ) (o : Ou
     pub bounded_more : HasBounds m s paid.rests (without w.place left) queue
     bounded_more =
         subst (λ (x : OutcomeView). HasBounds m s x.rests (without w.place left) queue) (sym paid_is)
-        (bounds_fall m s o.rests (charged (supporters_at s w.place) w.price o.rests) (without w.place left) queue
-        (charged_falls (supporters_at s w.place) w.price o.rests) bounds)
+        (bounds_fall m s o.rests (charged (supporters_at s w.place) (due w.price) o.rests) (without w.place left) queue
+        (charged_falls (supporters_at s w.place) (due w.price) o.rests) bounds)
 
     pub fewer_rounds : length s.costs - length paid.elected < length s.costs - length o.elected
     fewer_rounds =
@@ -124,7 +124,7 @@ module _ (m : Measure) (s : SupportView) (is : IsSupport s) (share : ℕ) (queue
       omega (arith, t.spent_is, spent_small s is o.elected, cost_small s is w.place, t.bounded.progress.counted, (support_form s is).few_projects)
 
   module _ (paid : OutcomeView)
-      (paid_is : paid ≡ record o { elected = o.elected ++ elected_by s o.rests w ∷ []; rests = charged (supporters_at s w.place) w.price o.rests })
+      (paid_is : paid ≡ record o { elected = o.elected ++ elected_by s o.rests w ∷ []; rests = charged (supporters_at s w.place) (due w.price) o.rests })
       (sum : ℕ) (sum_is : sum ≡ spent + cost_at s w.place) where
     spent_more : sum ≡ spent_on s paid.elected
     spent_more = sum_is ∙ ap (λ n. n + cost_at s w.place) t.spent_is ∙ sym (ap (λ (x : OutcomeView). spent_on s x.elected) paid_is
@@ -212,9 +212,9 @@ module _ (m : Measure) (s : SupportView) (share : ℕ) (last : List ElectedView)
   keeps_from later =
       subst (λ (ws : List ElectedView). KeepsElecting m s ws o.rests f.bounded.left)
       (sym (drop_one last i w below ∙ ap (λ (v : ElectedView). v ∷ drop (i + 1) last) (sym w_is)))
-      (subst (λ n. (price : ℕ) × (price_at s o.rests n ≡ Some price)
-      × ((other p : ℕ) → is_listed (without n f.bounded.left) other ≡ true → price_at s o.rests other ≡ Some p → is_before (key_of m s n w.price) (key_of m s other p) ≡ true)
-      × KeepsElecting m s (drop (i + 1) last) (charged (supporters_at s n) price o.rests) (without n f.bounded.left)) h.same (
+      (subst (λ n. (price : PriceView) × (price_at s o.rests n ≡ Some price)
+      × ((other : ℕ) (p : PriceView) → is_listed (without n f.bounded.left) other ≡ true → price_at s o.rests other ≡ Some p → is_before (key_of m s n w.exact) (key_of m s other p) ≡ true)
+      × KeepsElecting m s (drop (i + 1) last) (charged (supporters_at s n) (due price) o.rests) (without n f.bounded.left)) h.same (
         h.best.price,
         best_price m s share f.bounded.left o f.bounded.progress h.best h.is_best,
         h.others,

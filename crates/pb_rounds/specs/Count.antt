@@ -1,13 +1,15 @@
 -- The count: the opening share, the raises, and where they end.
-use Rattle.std.specs.Prelude.{ℕ, Bool, true, false, Option, Some, List, ◌+◌, ◌-◌, ◌*◌, ◌/◌, ◌&&◌, ◌||◌, ◌==◌, not, nat_lt}
+use Rattle.std.specs.Prelude.{ℕ, Bool, true, false, Option, Some, List, ◌+◌, ◌-◌, ◌*◌, ◌/◌, ◌^◌, ◌&&◌, ◌||◌, ◌==◌, not, nat_lt}
 use Rattle.std.specs.Prelude.{nat_le, find, length, option_map, sum_by, if◌then◌else◌}
 use Rattle.std.specs.List.{list_any, range_with_len}
 use Rattle.pb_core.specs.Election.{ElectionView}
-use Rattle.pb_price.specs.Supporters.{SupportView, support_of, supporters_at, cost_at}
+use Rattle.pb_price.specs.Grain.{in_parts}
+use Rattle.pb_price.specs.Supporters.{SupportView, support_in, supporters_at, cost_at}
+use Rattle.pb_price.specs.declared.grain.Grain.{Grain}
 use Rattle.pb_rounds.specs.Outcome.{Settled, settled_by}
 use Rattle.pb_rounds.specs.Run.{ElectedView, is_elected, outcome_of}
 use Rattle.pb_rounds.specs.declared.options.Completion.{Completion}
-use Rattle.pb_rounds.specs.declared.options.Completion.TheVariants.{Add1, NoShares}
+use Rattle.pb_rounds.specs.declared.options.Completion.TheVariants.{Add1, NoShares, Plain}
 use Rattle.pb_rounds.specs.declared.options.CountOptions.{CountOptions}
 use Rattle.pb_rounds.specs.declared.measure.Measure.{Measure}
 
@@ -31,32 +33,35 @@ is_exhausted s budget elected =
     not (is_over s budget elected)
     && not (list_any (could_be_added s budget elected) (range_with_len 0 (length s.costs)))
 
--- the voters share the budget, down to whole hundredths
-abbrev pub opening_share : ElectionView → ℕ
-opening_share e = if length e.voters == 0 then 0 else e.budget / length e.voters
+-- the voters share the budget, down to whole hundredths, or in fine money exactly
+abbrev pub opening_share : Grain → ElectionView → ℕ
+opening_share grain e =
+    if length e.voters == 0 then 0 else in_parts grain (length e.voters) e.budget / length e.voters
 
--- the share after this many raises by a step
-abbrev pub share_after : ElectionView → ℕ → ℕ → ℕ
-share_after e step raises = opening_share e + raises * step
+-- the share after this many raises by a step, which is in the parts that are counted
+abbrev pub share_after : Grain → ElectionView → ℕ → ℕ → ℕ
+share_after grain e step raises = opening_share grain e + raises * step
 
 -- nobody has a share
 abbrev pub no_shares : Completion → Bool
 no_shares NoShares = true
 no_shares completion = false
 
--- the share by this completion: none at all, or the opening share raised by so many steps
-abbrev pub share_by : Completion → ElectionView → ℕ → ℕ → ℕ
-share_by c e step raises = if no_shares c then 0 else opening_share e + raises * step
+-- the share by this completion: none at all, the opening share, or that raised by so many steps
+abbrev pub share_by : Completion → Grain → ElectionView → ℕ → ℕ → ℕ
+share_by NoShares grain e step raises = 0
+share_by Plain grain e step raises = opening_share grain e
+share_by Add1 grain e step raises = opening_share grain e + raises * step
 
-module _ (m : Measure) (e : ElectionView) (step : ℕ) where
+module _ (m : Measure) (grain : Grain) (e : ElectionView) (step : ℕ) where
   abbrev pub elected_after : ℕ → List ElectedView
-  elected_after raises = (outcome_of m e (share_after e step raises)).elected
+  elected_after raises = (outcome_of m grain e (share_after grain e step raises)).elected
 
   abbrev pub is_over_after : ℕ → Bool
-  is_over_after raises = is_over (support_of e) e.budget (elected_after raises)
+  is_over_after raises = is_over (support_in grain e) e.budget (elected_after raises)
 
   abbrev pub is_exhausted_after : ℕ → Bool
-  is_exhausted_after raises = is_exhausted (support_of e) e.budget (elected_after raises)
+  is_exhausted_after raises = is_exhausted (support_in grain e) e.budget (elected_after raises)
 
   -- an outcome that is over or exhausted decides
   abbrev pub is_decisive : ℕ → Bool
@@ -73,18 +78,32 @@ module _ (m : Measure) (e : ElectionView) (step : ℕ) where
       (first_decisive limit)
 
 -- how many raises a completion decides on, if it does within the limit
-abbrev pub raises_of : Completion → Measure → ElectionView → ℕ → ℕ → Option ℕ
-raises_of Add1 m e step limit = add1_of m e step limit
-raises_of completion m e step limit = Some 0
+abbrev pub raises_of : Completion → Measure → Grain → ElectionView → ℕ → ℕ → Option ℕ
+raises_of Add1 m grain e step limit = add1_of m grain e step limit
+raises_of completion m grain e step limit = Some 0
 
 -- the outcome after this many raises
-abbrev pub settled_after : Completion → Measure → ElectionView → ℕ → ℕ → Settled
-settled_after completion m e step raises =
-    let share = share_by completion e step raises in settled_by share raises (outcome_of m e share)
+abbrev pub settled_after : Completion → Measure → Grain → ElectionView → ℕ → ℕ → Settled
+settled_after completion m grain e step raises =
+    let share = share_by completion grain e step raises in settled_by share raises (outcome_of m grain e share)
+
+-- the step of these options, in the parts that are counted
+abbrev pub step_of : ElectionView → CountOptions → ℕ
+step_of e options = in_parts options.grain (length e.voters) options.step
+
+-- a cost is too large to be counted so finely
+abbrev pub has_too_fine_cost : Grain → ElectionView → Bool
+has_too_fine_cost grain e = list_any (λ p. nat_le (2 ^ 64) (in_parts grain (length e.voters) p.cost)) e.projects
+
+-- the largest share that there can be is, or a cost
+abbrev pub is_too_fine : ElectionView → CountOptions → Bool
+is_too_fine e options =
+    nat_le (2 ^ 64) (share_by options.completion options.grain e (step_of e options) options.max_raises)
+    || has_too_fine_cost options.grain e
 
 -- the count: the outcome after as many raises as the completion decides on; none where it does not decide
 -- within the limit
 abbrev pub count_of : ElectionView → CountOptions → Option Settled
 count_of e options =
-    option_map (settled_after options.completion options.measure e options.step)
-    (raises_of options.completion options.measure e options.step options.max_raises)
+    option_map (settled_after options.completion options.measure options.grain e (step_of e options))
+    (raises_of options.completion options.measure options.grain e (step_of e options) options.max_raises)

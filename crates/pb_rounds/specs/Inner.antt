@@ -2,6 +2,7 @@
 -- them.
 pub mod Between
 pub mod Bounds
+pub mod Cheapest
 pub mod Count
 pub mod Counted
 pub mod Front
@@ -17,6 +18,7 @@ pub mod Reach
 pub mod RuleNames
 pub mod Threads
 pub mod Tied
+pub mod TieOrder
 pub mod Candidates
 pub mod Fairness
 pub mod LeftAfter

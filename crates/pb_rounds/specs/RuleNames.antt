@@ -3,9 +3,16 @@ use Rattle.std.specs.Char.{is_ascii_alphanumeric}
 use Rattle.std.specs.List.{list_all}
 use Rattle.std.specs.Prelude.{ℕ, ◌++◌, ◌&&◌, ◌||◌, ◌==◌, Bool, false, true, List, [], codes, decimal, if◌then◌else◌, length, nat_le, nat_lt}
 use Rattle.std.specs.Option.{option_map_or}
+use Rattle.std.specs.Ordering.{flip_args, nat_cmp, on, then_cmp}
 use Rattle.std.specs.Str.{bytes_eq}
+use Rattle.std.specs.declared.cmp.Ordering.{Ordering}
+use Rattle.std.specs.declared.cmp.Ordering.TheVariants.{Equal}
 use Rattle.pb_core.specs.MoneyText.{money_text}
+use Rattle.pb_price.specs.declared.grain.Grain.{Grain}
+use Rattle.pb_price.specs.declared.grain.Grain.TheVariants.{Hundredths, Fine}
+use Rattle.pb_price.specs.Supporters.{SupportView, cost_at}
 use Rattle.pb_rounds.specs.Count.{no_shares}
+use Rattle.pb_rounds.specs.MostVotes.{votes_at}
 use Rattle.pb_rounds.specs.declared.measure.Measure.{Measure}
 use Rattle.pb_rounds.specs.declared.measure.Measure.TheVariants.{Votes, Cost}
 use Rattle.pb_rounds.specs.declared.options.Completion.{Completion}
@@ -16,12 +23,17 @@ use Rattle.pb_rounds.specs.declared.rule.Rule.{Rule}
 use Rattle.pb_rounds.specs.declared.tie_rule.TieKeys.{TieKeys}
 use Rattle.pb_rounds.specs.declared.tie_rule.TieKeys.TheVariants as tie
 use Rattle.pb_rounds.specs.declared.tie_rule.TieRule.{TieRule}
-use Rattle.pb_rounds.specs.declared.rule_names.TheConstants.{VOTES, COST, NONE, ADD1, UTILITARIAN, ADD1U, MV}
+use Rattle.pb_rounds.specs.declared.rule_names.TheConstants.{VOTES, COST, NONE, ADD1, UTILITARIAN, ADD1U, MV, HUNDREDTHS, FINE}
 
--- one thing for each measure; and one for each completion, in the order of their names (without shares, as without raises)
+-- one thing for each measure, and for each money; and one for each completion, in the order of their names (without
+-- shares, as without raises)
 abbrev pub by_measure : {A : Type 0} → Measure → (votes cost : A) → A
 by_measure Votes votes cost = votes
 by_measure Cost votes cost = cost
+
+abbrev pub by_grain : {A : Type 0} → Grain → (hundredths fine : A) → A
+by_grain Hundredths hundredths fine = hundredths
+by_grain Fine hundredths fine = fine
 
 abbrev pub by_completion : {A : Type 0} → Completion → FillUp → (none add1 utilitarian add1u : A) → A
 by_completion Add1 Nothing none add1 utilitarian add1u = add1
@@ -46,28 +58,30 @@ abbrev pub is_seed : List ℕ → Bool
 is_seed seed = nat_lt 0 (length seed) && (nat_le (length seed) 64
     && list_all (λ byte. is_ascii_alphanumeric byte || (byte == 45)) seed)
 
--- the name of keys that break ties, what stands before the seed of a lot behind them, and the name of a rule for ties
-abbrev pub keys_name : TieKeys → List ℕ
-keys_name tie.Nothing = codes "file"
-keys_name tie.Votes = codes "votes"
-keys_name tie.Cost = codes "cost"
-keys_name tie.VotesThenCost = codes "votes,cost"
-keys_name tie.CostThenVotes = codes "cost,votes"
+-- the keys that break ties: their name, and how two projects compare by them: by votes the most first, by cost the
+-- least first, by one and then the other, or by none of them
+abbrev pub keys_of : TieKeys → List ℕ × (SupportView → ℕ → ℕ → Ordering)
+keys_of tie.Nothing = (codes "file", λ s place other. Equal)
+keys_of tie.Votes = (codes "votes", λ s. flip_args (on (votes_at s) nat_cmp))
+keys_of tie.Cost = (codes "cost", λ s. on (cost_at s) nat_cmp)
+keys_of tie.VotesThenCost = (codes "votes,cost", λ s. then_cmp (flip_args (on (votes_at s) nat_cmp)) (on (cost_at s) nat_cmp))
+keys_of tie.CostThenVotes = (codes "cost,votes", λ s. then_cmp (on (cost_at s) nat_cmp) (flip_args (on (votes_at s) nat_cmp)))
 
+-- what stands before the seed of a lot behind them, and the name of a rule for ties
 abbrev pub lot_name : TieKeys → List ℕ
 lot_name tie.Nothing = codes "lot:"
-lot_name k = keys_name k ++ codes ",lot:"
+lot_name k = (keys_of k).0 ++ codes ",lot:"
 
 abbrev pub ties_name : TieRule → List ℕ
-ties_name ties = option_map_or (λ seed. lot_name ties.keys ++ seed.bytes) ties.lot (keys_name ties.keys)
+ties_name ties = option_map_or (λ seed. lot_name ties.keys ++ seed.bytes) ties.lot (keys_of ties.keys).0
 
 -- one name for a rule, which says nothing of the most raises
 abbrev pub profile_name : Rule → List ℕ
 profile_name rule = let o = rule.options in let step = codes "/step=" ++ money_text o.step in
     let ties = codes "/ties=" ++ ties_name rule.ties in
     if no_shares o.completion then (if fills_up rule.fill_up then codes "MV" else codes "NS") ++ ties else
-    codes "ES/" ++ (measure_name o.measure ++ (codes "/" ++ (completion_name o.completion rule.fill_up ++ (codes "/hundredths"
-    ++ (by_completion o.completion rule.fill_up [] step [] step ++ ties)))))
+    codes "ES/" ++ (measure_name o.measure ++ (codes "/" ++ (completion_name o.completion rule.fill_up ++ (codes "/" ++ (by_grain o.grain HUNDREDTHS.now FINE.now
+    ++ (by_completion o.completion rule.fill_up [] step [] step ++ ties))))))
 
 -- Pabulib's word for a rule, if it has one
 abbrev pub rule_word : Completion → FillUp → List ℕ
@@ -81,7 +95,7 @@ method_text rule = let o = rule.options in
     let raises = codes ", raises of " ++ money_text o.step ++ codes ", at most " ++ decimal o.max_raises in
     if no_shares o.completion then (if fills_up rule.fill_up then codes "most votes first" else codes "no shares") else
     by_measure o.measure (codes "equal shares by price") (codes "equal shares by price over cost")
-    ++ by_completion o.completion rule.fill_up none raises (none ++ filled) (raises ++ filled)
+    ++ (by_completion o.completion rule.fill_up none raises (none ++ filled) (raises ++ filled) ++ by_grain o.grain [] (codes ", in fine money"))
 
 -- one of two things, by whether the order of the file alone decides ties
 abbrev pub by_ties : {A : Type 0} → TieRule → (by_file other : A) → A

@@ -4,16 +4,19 @@ use Rattle.std.specs.Prelude.{filter_map, length, min, option_map, slice_index, 
 use Rattle.std.specs.List.{list_any, range_with_len}
 use Rattle.std.specs.Option.{option_map_or}
 use Rattle.pb_core.specs.Election.{ElectionView}
-use Rattle.pb_price.specs.Supporters.{SupportView, support_of, supporters_at, cost_at}
-use Rattle.pb_price.specs.Price.{paid_at, price_at}
+use Rattle.pb_price.specs.Supporters.{SupportView, support_in, supporters_at, cost_at}
+use Rattle.pb_price.specs.declared.grain.Grain.{Grain}
+use Rattle.pb_price.specs.Price.{PriceView, due, paid_at, price_at}
 use Rattle.pb_rounds.specs.Key.{KeyView, first_least, is_before}
 use Rattle.pb_rounds.specs.declared.measure.Measure.{Measure}
 use Rattle.pb_rounds.specs.declared.measure.Measure.TheVariants.{Votes, Cost}
 
--- an elected project: its place, the price that each supporter paid at most, and the sum of their payments
+-- an elected project: its place, what each supporter paid at most, which is its price rounded down, that price
+-- as it is, and the sum of the payments
 pub record ElectedView : Type 0 where
   pub place : ℕ
   pub price : ℕ
+  pub exact : PriceView
   pub collected : ℕ
 
 -- what a run gives: the elected in order of election, and what is left of each voter's share
@@ -28,7 +31,7 @@ weight_of Cost s place = cost_at s place
 
 module _ (m : Measure) (s : SupportView) where
   -- the key of the project at this place; every key is written so
-  abbrev pub key_of : ℕ → ℕ → KeyView
+  abbrev pub key_of : ℕ → PriceView → KeyView
   key_of place price = record { price = price; weight = weight_of m s place; place = place }
 
   -- the project with its price at these rests, where it has one
@@ -55,8 +58,12 @@ charged supporters price rests =
 
 -- the project elected by this key
 abbrev pub elected_by : SupportView → List ℕ → KeyView → ElectedView
-elected_by s rests k =
-    record { place = k.place; price = k.price; collected = paid_at (supporters_at s k.place) rests k.price }
+elected_by s rests k = record {
+  place = k.place;
+  price = due k.price;
+  exact = k.price;
+  collected = paid_at (supporters_at s k.place) rests (due k.price);
+}
 
 -- the projects left without the one at this place
 abbrev pub without : ℕ → List ℕ → List ℕ
@@ -72,7 +79,7 @@ module _ (m : Measure) (s : SupportView) where
   run_from (suc rounds) rests left =
       option_map_or
       (λ k. then_run (elected_by s rests k)
-      (run_from rounds (charged (supporters_at s k.place) k.price rests) (without k.place left)))
+      (run_from rounds (charged (supporters_at s k.place) (due k.price) rests) (without k.place left)))
       (best_of m s rests left)
       (record { elected = []; rests = rests })
 
@@ -81,9 +88,9 @@ module _ (m : Measure) (s : SupportView) where
   run_of share =
       run_from (length s.costs) (replicate s.voters share) (range_with_len 0 (length s.costs))
 
--- the outcome of an election at a share
-abbrev pub outcome_of : Measure → ElectionView → ℕ → RunView
-outcome_of m e share = run_of m (support_of e) share
+-- the outcome of an election at a share, counted so finely
+abbrev pub outcome_of : Measure → Grain → ElectionView → ℕ → RunView
+outcome_of m grain e share = run_of m (support_in grain e) share
 
 abbrev pub is_elected : List ElectedView → ℕ → Bool
 is_elected elected place = list_any (λ w. w.place == place) elected

@@ -48,8 +48,8 @@ fn put_opening<A: Allocator + Clone, B: Allocator>(
     requires before { IsOpening measure supporters.now share place queue.old.keys }
     ensures { OnOk result (IsOpening measure supporters.now share (place + 1) queue.new.keys) }
 {
+    let weight = measure.weight(supporters, place);
     if let Some(price) = price_at_share(supporters, share, place) {
-        let weight = measure.weight(supporters, place);
         queue.insert(Key::new(price, weight, place))?;
     }
     Ok(())

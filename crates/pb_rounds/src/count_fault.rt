@@ -10,12 +10,13 @@ use pb_core::no_memory::NoMemory;
 use thiserror::Error;
 
 /// The names of `CountFault`, in the order of its variants.
-pub const NAMES: [&str; 5] = [
+pub const NAMES: [&str; 6] = [
     "WorkerCount",
     "StepRange",
     "RaisesRange",
     "RaisesSpent",
     "NoMemory",
+    "TooFine",
 ];
 
 /// Why a count gives no outcome. The first of these faults that applies is the one that is given.
@@ -36,6 +37,9 @@ pub enum CountFault {
     /// An allocation was refused.
     #[error("out of memory")]
     NoMemory,
+    /// The largest share that there can be, or a cost, is too large to be counted so finely.
+    #[error("the amounts are too large to be counted so finely")]
+    TooFine,
 }
 
 impl CountFault {

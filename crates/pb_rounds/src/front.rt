@@ -24,7 +24,7 @@ use std::collections::BTreeSet;
 use std::marker::Model;
 
 /// The largest share of the budget that a voter is given.
-const LARGEST_SHARE: Money = Money(2 * Money::LARGEST.0);
+const LARGEST_SHARE: Money = Money(u64::MAX);
 
 /// The first rounds of a run, as far as each elects the next project in the order of the prices that all have
 /// where everybody can pay, and each of its supporters can pay that. They are the same at every larger share:
@@ -158,7 +158,8 @@ fn take_next<A: Allocator>(
 {
     let head = *queue.first()?;
     let list = supporters.of(head.place());
-    if !can_pay(list, outcome.rests.as_slice(), head.price()) {
+    let least = head.price().least_rest();
+    if !can_pay(list, outcome.rests.as_slice(), least) {
         return None;
     }
     queue.pop_first()
@@ -191,12 +192,12 @@ fn copy_outcome<A: Allocator>(from: &Outcome<A>, outcome: &mut Outcome<A>) -> Re
 }
 
 /// Whether each of these supporters has this much left.
-fn can_pay(supporters: &[u32], rests: &[Money], price: Money) -> bool
+fn can_pay(supporters: &[u32], rests: &[Money], least: Money) -> bool
     requires { All (λ voter. voter < length rests.now) supporters.now }
-    ensures { result ≡ true → All (λ voter. price ≤ slice_index rests.now voter) supporters.now }
+    ensures { result ≡ true → All (λ voter. least ≤ slice_index rests.now voter) supporters.now }
 {
     for voter in supporters {
-        if rests[*voter as usize] < price {
+        if rests[*voter as usize] < least {
             return false;
         }
     }
@@ -223,7 +224,7 @@ fn copy_up_to<A: Allocator + Clone>(
 {
     queue.clear();
     for key in from {
-        if key.price() <= share {
+        if key.price().is_within(share) {
             queue.insert(*key)?;
         }
     }

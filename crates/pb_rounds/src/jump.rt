@@ -1,8 +1,8 @@
 //! Jumps over raises that elect the same projects as the last one that was tried.
 
-ghost use Rattle.std.specs.Prelude.{◌≡◌, ◌≤◌, ℕ, List, [], IfOk, OnOk, length, replicate, true};
+ghost use Rattle.std.specs.Prelude.{◌≡◌, ◌≤◌, ℕ, All, List, [], IfOk, OnOk, length, replicate, true};
 ghost use Rattle.std.specs.List.{range_with_len};
-ghost use Rattle.pb_price.specs.Price.{AreRests, largest_share};
+ghost use Rattle.pb_price.specs.Price.{AreRests, HasPayers, largest_share};
 ghost use Rattle.pb_price.specs.Supporters.{IsSupport};
 ghost use Rattle.pb_rounds.specs.Inner.Between.{KeepsElecting};
 ghost use Rattle.pb_rounds.specs.Inner.Bounds.{Follows, HasBounds, IsOpening};
@@ -33,7 +33,8 @@ impl<A: Allocator + Copy> Trial<A> {
         share: Money,
         last: &[Elected],
     ) -> Result<bool, NoMemory>
-        requires { share ≤ largest_share }
+        requires share { share ≤ largest_share }
+        requires last { All (λ w. HasPayers supporters.now w.exact) last.now }
         ensures keeps { IfOk result (λ keeps. keeps ≡ true → KeepsElecting measure supporters.now last.now
             (replicate supporters.now.voters share) (range_with_len 0 (length supporters.now.costs))) }
         ensures elected { IfOk result (λ keeps. keeps ≡ true
@@ -80,6 +81,7 @@ impl<A: Allocator + Copy> Trial<A> {
     /// or beside its price there. Then its supporters pay.
     fn follows(&mut self, supporters: &Supporters<A>, last: &Elected) -> Result<bool, NoMemory>
         requires support { IsSupport supporters.now }
+        requires last { HasPayers supporters.now last.now.exact }
         requires rests { AreRests supporters.now.voters self.old.outcome.rests }
         requires bounds { (m : Measure) × (left : List ℕ)
             × HasBounds m supporters.now self.old.outcome.rests left self.old.queue.keys }
@@ -96,7 +98,7 @@ impl<A: Allocator + Copy> Trial<A> {
         if best.place() != last.place {
             return Ok(false);
         }
-        let limit = Some(Key::new(last.price, best.weight(), best.place()));
+        let limit = Some(Key::new(last.exact, best.weight(), best.place()));
         let other = next_best(supporters, rests, &limit, queue)?;
         if other.is_some() {
             return Ok(false);

@@ -1,53 +1,79 @@
 //! What a round orders projects by.
 
-ghost use Rattle.std.specs.Prelude.{◌≡◌, ◌≤◌};
+ghost use Rattle.std.specs.Prelude.{◌≡◌, ◌*◌, ◌<◌, ◌≤◌, ◌^◌};
+ghost use Rattle.pb_rounds.specs.Key.{divisor};
 
 use pb_core::money::Money;
+use pb_price::Price;
 use std::cmp::Ordering;
 use std::marker::Model;
 
 /// What a round orders projects by: the smaller price over weight comes first, and among equals the project
-/// that stands earlier. (The place decides before the weight, which only tells apart keys that
+/// that stands earlier. (The place decides before the weight and the payers, which only tell apart keys that
 /// are made by hand.)
 #[derive(Clone, Copy, PartialEq, Eq)]
 pub struct Key {
-    price: Money,
+    amount: Money,
     weight: u64,
+    payers: u32,
     place: u32,
 }
 
 impl Model for Key {
-    ghost use Rattle.std.specs.Prelude.{◌≤◌};
+    ghost use Rattle.std.specs.Prelude.{◌*◌, ◌<◌, ◌≤◌, ◌^◌};
     ghost use Rattle.pb_rounds.specs.Key.{KeyView};
 
     ghost Value = { KeyView };
 
-    ghost view = { λ k. record { price = k.price; weight = k.weight; place = k.place } };
+    ghost view = { λ k. record {
+      price = record { amount = k.amount; payers = k.payers };
+      weight = k.weight;
+      place = k.place;
+    } };
 
-    ghost invariant = { λ k. 1 ≤ k.weight };
+    ghost invariant = { λ k. (1 ≤ k.weight) × (1 ≤ k.payers) × (k.payers * k.weight < 2 ^ 64) };
 
-    ghost inverse = { λ k. record { price = k.price; weight = k.weight; place = k.place } };
+    ghost inverse = { λ k. record {
+      amount = k.price.amount;
+      weight = k.weight;
+      payers = k.price.payers;
+      place = k.place;
+    } };
 }
 
 impl Key {
-    /// The key of the project at this place, at this price, in hundredths, and this weight, which is at least
-    /// 1.
-    pub fn new(price: Money, weight: u64, place: u32) -> Key
-        requires { 1 ≤ weight }
+    /// The key of the project at this place, at this price and this weight, which is at least 1.
+    pub fn new(price: Price, weight: u64, place: u32) -> Key
+        requires weight { 1 ≤ weight }
+        requires payers { 1 ≤ price.payers }
+        requires fits { price.payers * weight < 2 ^ 64 }
         ensures { result ≡ record { price = price; weight = weight; place = place } }
     {
         Key {
-            price,
+            amount: price.amount,
             weight,
+            payers: price.payers,
             place,
         }
     }
 
-    /// What each supporter pays at most, in hundredths.
-    pub fn price(&self) -> Money
-        ensures { result ≡ self.now.price }
+    /// What each supporter pays at most.
+    pub fn price(&self) -> Price
+        ensures price { result ≡ self.now.price }
+        ensures positive { 1 ≤ result.payers }
+        ensures fits { result.payers * self.now.weight < 2 ^ 64 }
     {
-        self.price
+        Price {
+            amount: self.amount,
+            payers: self.payers,
+        }
+    }
+
+    /// What the amount of its price is divided by: by the payers, and by the weight.
+    fn divisor(&self) -> u64
+        ensures { result ≡ divisor self.now }
+    {
+        u64::from(self.payers) * self.weight
     }
 
     /// What the price is divided by: at least 1.
@@ -80,11 +106,12 @@ impl Ord for Key {
     ghost matches_eq = { fields_tie };
 
     fn cmp(&self, other: &Key) -> Ordering {
-        let ratio = u128::from(self.price.0) * u128::from(other.weight);
-        let other_ratio = u128::from(other.price.0) * u128::from(self.weight);
+        let ratio = u128::from(self.amount.0) * u128::from(other.divisor());
+        let other_ratio = u128::from(other.amount.0) * u128::from(self.divisor());
         let by_ratio = ratio.cmp(&other_ratio);
         let by_place = self.place.cmp(&other.place);
-        by_ratio.then(by_place.then(self.weight.cmp(&other.weight)))
+        let by_weight = self.weight.cmp(&other.weight);
+        by_ratio.then(by_place.then(by_weight.then(self.payers.cmp(&other.payers))))
     }
 }
 

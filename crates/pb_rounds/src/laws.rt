@@ -1,14 +1,18 @@
 //! Laws over counts and their rules, each as the contract of a function that does nothing.
 
 ghost use Rattle.std.specs.Prelude.{◌≡◌, ◌≢◌, ◌↔◌, ◌⊎◌, ◌+◌, ◌*◌, ◌<◌, ◌≤◌, ◌==◌, ◌++◌, ◌∷◌, ℕ, List, [], None, Some};
-ghost use Rattle.std.specs.Prelude.{Any, Contains, filter, length, option_map, slice_index, slice_index_or, sum_by, true};
+ghost use Rattle.std.specs.Prelude.{◌^◌, All, Any, Contains, false, filter, length, option_map, replicate, slice_index, slice_index_or, sum_by, true};
 ghost use Rattle.std.specs.List.{list_any, range_with_len};
 ghost use Rattle.pb_core.specs.Election.{ElectionView, IsElection};
 ghost use Rattle.pb_core.specs.Order.{in_order};
-ghost use Rattle.pb_price.specs.Supporters.{SupportView, support_of, supporters_at};
-ghost use Rattle.pb_rounds.specs.Cheapest.{IsRun, rests_after};
+ghost use Rattle.pb_price.specs.Grain.{in_parts};
+ghost use Rattle.pb_price.specs.Price.{PriceView, IsPrice};
+ghost use Rattle.pb_price.specs.Supporters.{IsSupport, SupportView, support_in, support_of, supporters_at};
+ghost use Rattle.pb_price.specs.declared.grain.Grain.{Grain};
+ghost use Rattle.pb_price.specs.declared.grain.Grain.TheVariants.{Fine, Hundredths};
+ghost use Rattle.pb_rounds.specs.Cheapest.{IsLeft, IsRun, rests_after};
 ghost use Rattle.pb_rounds.specs.Completed.{AreSpent, IsCompleted};
-ghost use Rattle.pb_rounds.specs.Count.{add1_of, count_of, opening_share};
+ghost use Rattle.pb_rounds.specs.Count.{add1_of, count_of, has_too_fine_cost, is_too_fine, opening_share, share_by, step_of};
 ghost use Rattle.pb_rounds.specs.CountFault.{largest_step, refusal_of};
 ghost use Rattle.pb_rounds.specs.Counted.{IsCountFault, IsCountOf};
 ghost use Rattle.pb_rounds.specs.Fairness.{OfSomeMember, paid_within};
@@ -24,25 +28,31 @@ ghost use Rattle.pb_rounds.specs.declared.options.CountOptions.{CountOptions};
 ghost use Rattle.pb_rounds.specs.declared.rule.Rule.{Rule};
 ghost use Rattle.pb_rounds.specs.declared.tie_rule.TieRule.{TieRule};
 
-/// The opening share is the largest that all voters can get of the budget. Where nobody votes it is 0.
+/// The opening share is the largest that all voters can get of the budget; in fine money, just what they get of it.
+/// Where nobody votes it is 0.
 pub fn opening_share_is_largest()
-    ensures within { (e : ElectionView) → length e.voters * opening_share e ≤ e.budget }
-    ensures largest { (e : ElectionView) → 0 < length e.voters
-        → e.budget < length e.voters * (opening_share e + 1) }
-    ensures nobody { (e : ElectionView) → length e.voters ≡ 0 → opening_share e ≡ 0 }
+    ensures within { (grain : Grain) (e : ElectionView)
+        → length e.voters * opening_share grain e ≤ in_parts grain (length e.voters) e.budget }
+    ensures largest { (grain : Grain) (e : ElectionView) → 0 < length e.voters
+        → in_parts grain (length e.voters) e.budget < length e.voters * (opening_share grain e + 1) }
+    ensures exactly { (e : ElectionView) → 0 < length e.voters
+        → length e.voters * opening_share Fine e ≡ in_parts Fine (length e.voters) e.budget }
+    ensures nobody { (grain : Grain) (e : ElectionView) → length e.voters ≡ 0 → opening_share grain e ≡ 0 }
 {}
 
 /// Completion by raises decides on a number of raises exactly where the words of its rule hold of that
 /// number, and on none exactly where no number of raises up to the limit ends it.
 pub fn completion_is_its_rule()
-    ensures decided { (m : Measure) (e : ElectionView) (step limit raises : ℕ) → IsElection e
-        → (add1_of m e step limit ≡ Some raises) ↔ IsCompleted m e step limit raises }
-    ensures spent { (m : Measure) (e : ElectionView) (step limit : ℕ) → IsElection e
-        → (add1_of m e step limit ≡ None) ↔ AreSpent m e step limit }
+    ensures decided { (m : Measure) (grain : Grain) (e : ElectionView) (step limit raises : ℕ)
+        → IsSupport (support_in grain e)
+        → (add1_of m grain e step limit ≡ Some raises) ↔ IsCompleted m grain e step limit raises }
+    ensures spent { (m : Measure) (grain : Grain) (e : ElectionView) (step limit : ℕ)
+        → IsSupport (support_in grain e) → (add1_of m grain e step limit ≡ None) ↔ AreSpent m grain e step limit }
 {}
 
 /// A count has one outcome, up to how many prices were computed, and `count_of` computes it; it computes none
-/// exactly where the raises are spent.
+/// exactly where the raises are spent. Amounts can be counted so finely just where the largest share that there can be,
+/// and each cost, are less than 2^64 parts; in hundredths they always are.
 pub fn count_is_computed()
     ensures one { (e : ElectionView) (options : CountOptions) (first second : OutcomeView)
         → IsCountOf e options first → IsCountOf e options second
@@ -50,15 +60,31 @@ pub fn count_is_computed()
     ensures computed { (e : ElectionView) (options : CountOptions) (o : OutcomeView) → IsCountOf e options o
         → count_of e options ≡ Some (settled o) }
     ensures spent { (e : ElectionView) (options : CountOptions) → IsElection e → refusal_of options ≡ None
+        → is_too_fine e options ≡ false
         → (count_of e options ≡ None) ↔ IsCountFault e options RaisesSpent }
+    ensures fine { (e : ElectionView) (options : CountOptions) → (is_too_fine e options ≡ false)
+        ↔ ((share_by options.completion options.grain e (step_of e options) options.max_raises < 2 ^ 64)
+        × All (λ p. in_parts options.grain (length e.voters) p.cost < 2 ^ 64) e.projects) }
+    ensures costs { (grain : Grain) (e : ElectionView) → (has_too_fine_cost grain e ≡ false)
+        ↔ All (λ p. in_parts grain (length e.voters) p.cost < 2 ^ 64) e.projects }
+    ensures hundredths { (e : ElectionView) (options : CountOptions) → IsElection e → refusal_of options ≡ None
+        → options.grain ≡ Hundredths → is_too_fine e options ≡ false }
 {}
 
 /// The run at a share is the one of which the words of its rule hold: each of the elected was the cheapest of
 /// its round and collected what its supporters could pay of its price, the rests are what is left then, and
-/// no project left has a price.
+/// no project left has a price. Of two projects whose price for each unit of utility is the same, the rule for ties,
+/// which has put them in order, decides, and nothing else.
 pub fn run_is_its_rule()
-    ensures { (m : Measure) (e : ElectionView) (share : ℕ) (run : RunView) → IsElection e
-        → (run ≡ outcome_of m e share) ↔ IsRun m (support_of e) share run.elected run.rests }
+    ensures run { (m : Measure) (grain : Grain) (e : ElectionView) (share : ℕ) (run : RunView)
+        → IsSupport (support_in grain e)
+        → (run ≡ outcome_of m grain e share) ↔ IsRun m (support_in grain e) share run.elected run.rests }
+    ensures ties { (m : Measure) (s : SupportView) (share : ℕ) (elected : List ElectedView) (rests : List ℕ)
+        → (before : List ElectedView) (w : ElectedView) (later : List ElectedView) (other : ℕ) (price : PriceView)
+        → IsRun m s share elected rests → elected ≡ before ++ w ∷ later → IsLeft s before other → other ≢ w.place
+        → IsPrice s (rests_after s (replicate s.voters share) before) other (Some price)
+        → price.amount * (w.exact.payers * weight_of m s w.place)
+        ≡ w.exact.amount * (price.payers * weight_of m s other) → w.place < other }
 {}
 
 /// What voters pay. Nobody pays more than the price, or than is left. A supporter pays the one or the other, and nobody
@@ -99,23 +125,24 @@ pub fn outcomes_are_fair_to_groups()
         → IsRun m s share elected rests → OfSomeMember s elected (λ place amount voter.
         share < paid_within m s share elected place amount voter + amount) }
     ensures count { (e : ElectionView) (options : CountOptions) (o : OutcomeView) → IsCountOf e options o
-        → OfSomeMember (support_of e) o.elected (λ place amount voter. o.share
-        < paid_within options.measure (support_of e) o.share o.elected place amount voter + amount) }
+        → OfSomeMember (support_in options.grain e) o.elected (λ place amount voter. o.share
+        < paid_within options.measure (support_in options.grain e) o.share o.elected place amount voter + amount) }
     ensures winners { (e : ElectionView) (options : CountOptions) (o : OutcomeView) → IsCountOf e options o
-        → let weight : ℕ → ℕ = weight_of options.measure (support_of e) in
-        OfSomeMember (support_of e) o.elected (λ place amount voter.
+        → let weight : ℕ → ℕ = weight_of options.measure (support_in options.grain e) in
+        OfSomeMember (support_in options.grain e) o.elected (λ place amount voter.
         let supported = filter
-        (λ w. list_any (λ v. v == voter) (supporters_at (support_of e) w.place)) o.elected in
+        (λ w. list_any (λ v. v == voter) (supporters_at (support_in options.grain e) w.place)) o.elected in
         o.share * weight place < amount * (sum_by (λ w. weight w.place) supported + weight place)) }
 {}
 
 /// Two rules of one name give shares or not, raise them or not and fill up or not. Where they give shares they have
-/// the same measure, and where they raise them the same step. Ties are broken by the same keys and the same lot, if
+/// the same measure and count money as finely, and where they raise them the same step. Ties are broken by the same keys and the same lot, if
 /// by one.
 pub fn names_tell_rules_apart()
     ensures { (first second : Rule) → first.options.step ≤ largest_step → second.options.step ≤ largest_step
         → profile_name first ≡ profile_name second
-        → (first.options.completion ≢ NoShares → first.options.measure ≡ second.options.measure)
+        → (first.options.completion ≢ NoShares → (first.options.measure ≡ second.options.measure)
+        × (first.options.grain ≡ second.options.grain))
         × (first.options.completion ≡ second.options.completion) × (first.fill_up ≡ second.fill_up)
         × (first.options.completion ≡ Add1 → first.options.step ≡ second.options.step)
         × (first.ties.keys ≡ second.ties.keys)

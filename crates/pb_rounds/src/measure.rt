@@ -1,6 +1,8 @@
 //! What an approval is worth.
 
-ghost use Rattle.std.specs.Prelude.{◌≡◌, ◌<◌, ◌≤◌, length};
+ghost use Rattle.std.specs.Prelude.{◌≡◌, ◌*◌, ◌<◌, ◌≤◌, ◌^◌, length};
+ghost use Rattle.pb_price.specs.Price.{HasPayers, PriceView};
+ghost use Rattle.pb_price.specs.Supporters.{IsSupport};
 ghost use Rattle.pb_rounds.specs.Run.{weight_of};
 
 use pb_price::supporters::Supporters;
@@ -21,7 +23,11 @@ impl Measure {
         requires { place < length supporters.now.costs }
         ensures weight { result ≡ weight_of self supporters.now place }
         ensures positive { 1 ≤ result }
+        ensures is_support { IsSupport supporters.now }
+        ensures fits { (price : PriceView) → HasPayers supporters.now price → price.payers * result < 2 ^ 64 }
     {
+        // What is true of all supporters holds of how many vote.
+        let _voters = supporters.voters();
         match self {
             Measure::Votes => 1,
             Measure::Cost => supporters.cost(place).0,

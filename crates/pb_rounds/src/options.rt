@@ -1,12 +1,14 @@
 //! How an election is counted.
 
 ghost use Rattle.std.specs.Prelude.{◌≡◌};
+ghost use Rattle.pb_price.specs.declared.grain.Grain.TheVariants.{Hundredths};
 ghost use Rattle.pb_rounds.specs.CountFault.{most_raises};
 ghost use Rattle.pb_rounds.specs.declared.measure.Measure.TheVariants.{Votes};
 ghost use Rattle.pb_rounds.specs.declared.options.Completion.TheVariants.{Add1};
 
 use crate::measure::Measure;
 use pb_core::money::Money;
+use pb_price::Grain;
 
 /// The most that a raise lifts everyone's share by, in hundredths.
 pub const LARGEST_STEP: Money = Money(1_000_000_000);
@@ -39,10 +41,12 @@ pub struct CountOptions {
     pub completion: Completion,
     /// What a round orders projects by.
     pub measure: Measure,
+    /// How finely money is counted.
+    pub grain: Grain,
 }
 
 impl CountOptions {
-    /// One worker, steps of 1.00, up to 1,000,000 raises, completion by raises, and measure votes.
+    /// One worker, steps of 1.00, up to 1,000,000 raises, completion by raises, measure votes, and hundredths.
     pub fn standard() -> CountOptions
         ensures { result
             ≡ record {
@@ -51,6 +55,7 @@ impl CountOptions {
               workers = 1;
               completion = Add1;
               measure = Votes;
+              grain = Hundredths;
             } }
     {
         CountOptions {
@@ -59,6 +64,7 @@ impl CountOptions {
             workers: 1,
             completion: Completion::Add1,
             measure: Measure::Votes,
+            grain: Grain::Hundredths,
         }
     }
 }

@@ -1,6 +1,7 @@
 //! What a count gives.
 
 use pb_core::money::Money;
+use pb_price::Price;
 use std::alloc::{Allocator, Global};
 use std::marker::Model;
 
@@ -9,9 +10,11 @@ use std::marker::Model;
 pub struct Elected {
     /// Its place in the election, from 0.
     pub place: u32,
-    /// What each supporter paid at most, in hundredths.
+    /// What each supporter paid at most: the price, rounded down.
     pub price: Money,
-    /// The sum of the payments, in hundredths: at least the cost.
+    /// The price as it is.
+    pub exact: Price,
+    /// The sum of the payments: in hundredths at least the cost, in fine money at most.
     pub collected: Money,
 }
 
@@ -20,21 +23,21 @@ impl Model for Elected {
 
     ghost Value = { ElectedView };
 
-    ghost view = { λ w. record { place = w.place; price = w.price; collected = w.collected } };
+    ghost view = { λ w. record { place = w.place; price = w.price; exact = w.exact; collected = w.collected } };
 
-    ghost inverse = { λ w. record { place = w.place; price = w.price; collected = w.collected } };
+    ghost inverse = { λ w. record { place = w.place; price = w.price; exact = w.exact; collected = w.collected } };
 }
 
 /// What a run of Equal Shares gives.
 #[derive(Drop)]
 pub struct Outcome<A: Allocator = Global> {
-    /// Each voter's share of the budget, in hundredths.
+    /// Each voter's share of the budget, in the parts that are counted.
     pub share: Money,
     /// How many times the share was raised.
     pub raised: u32,
     /// The elected projects, in order of election.
     pub elected: Vec<Elected, A>,
-    /// What is left of each voter's share, in file order, in hundredths.
+    /// What is left of each voter's share, in file order, in the same parts.
     pub rests: Vec<Money, A>,
     /// How many prices each round computed, the last round, which elects nothing, included.
     pub priced: Vec<u64, A>,

@@ -5,7 +5,7 @@ ghost use Rattle.pb_rounds.specs.RuleNames.{profile_name};
 
 use crate::options::CountOptions;
 use crate::rule::{FillUp, Rule};
-use crate::rule_names::{completion_named, measure_named};
+use crate::rule_names::{completion_named, grain_named, measure_named};
 use crate::tie_rule::{TieRule, ties_named};
 use pb_core::money::Money;
 use pb_core::no_memory::NoMemory;
@@ -34,6 +34,8 @@ pub fn nearest_rule(name: &str) -> Rule {
         } else if let Some(named) = completion_named(part) {
             options.completion = named.0;
             fill_up = named.1;
+        } else if let Some(grain) = grain_named(part) {
+            options.grain = grain;
         } else if let Some(named) = ties_said(part) {
             ties = named;
         } else {

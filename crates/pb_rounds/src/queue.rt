@@ -7,6 +7,7 @@ use crate::key::Key;
 use crate::measure::Measure;
 use pb_core::money::Money;
 use pb_core::no_memory::NoMemory;
+use pb_price::Price;
 use pb_price::supporters::Supporters;
 use std::alloc::Allocator;
 use std::collections::BTreeSet;
@@ -23,7 +24,7 @@ pub(crate) fn fill<A: Allocator + Clone, B: Allocator>(
     queue.clear();
     for place in 0..supporters.projects() {
         let weight = measure.weight(supporters, place);
-        queue.insert(Key::new(Money(0), weight, place))?;
+        queue.insert(Key::new(Price::whole(Money(0)), weight, place))?;
     }
     Ok(())
 }

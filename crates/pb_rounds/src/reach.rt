@@ -1,9 +1,8 @@
 //! The raises that decide nothing since their shares leave room, which a completion needs not run.
 
 ghost use Rattle.std.specs.Prelude.{◌≡◌, ◌+◌, ◌*◌, ◌<◌, ◌≤◌, ◌⊎◌, ℕ, Some, true};
-ghost use Rattle.pb_core.specs.Money.{largest_money};
 ghost use Rattle.pb_price.specs.Price.{largest_share};
-ghost use Rattle.pb_rounds.specs.CountFault.{largest_step, most_raises};
+ghost use Rattle.pb_rounds.specs.CountFault.{most_raises};
 ghost use Rattle.pb_rounds.specs.Inner.Reach.{LeavesRoom};
 
 use pb_core::money::Money;
@@ -12,11 +11,8 @@ use std::alloc::Allocator;
 
 /// The share after this many raises.
 pub(crate) fn raised_share(opening: Money, raised: u32, step: Money) -> Money
-    requires opening { opening ≤ largest_money }
-    requires raised { raised ≤ most_raises }
-    requires step { step ≤ largest_step }
-    ensures share { result ≡ opening + raised * step }
-    ensures small { result ≤ largest_share }
+    requires { opening + raised * step ≤ largest_share }
+    ensures { result ≡ opening + raised * step }
 {
     Money(opening.0 + u64::from(raised) * step.0)
 }
@@ -40,8 +36,9 @@ fn leaves_room<A: Allocator>(supporters: &Supporters<A>, budget: Money, share: M
     let mut least = None;
     for place in 0..supporters.projects() {
         let cost = supporters.cost(place);
+        let parts = supporters.cost_in_parts(place);
         let count = supporters.of(place).len() as u64;
-        if u128::from(cost.0) <= u128::from(count) * u128::from(share.0) {
+        if u128::from(parts.0) <= u128::from(count) * u128::from(share.0) {
             within += u128::from(cost.0);
         } else if count > 0 {
             least = lesser(least, cost);
@@ -62,8 +59,7 @@ pub(crate) fn raises_with_room<A: Allocator>(
     step: Money,
     max_raises: u32,
 ) -> u32
-    requires opening { opening ≤ largest_money }
-    requires step { step ≤ largest_step }
+    requires share { opening + max_raises * step ≤ largest_share }
     requires raises { max_raises ≤ most_raises }
     ensures few { result ≤ max_raises + 1 }
     ensures room { (raises : ℕ) → raises < result

@@ -5,7 +5,7 @@ ghost use Rattle.std.specs.Prelude.{IfOk, None, OnOk, Some};
 ghost use Rattle.std.specs.List.Sorted.{IsStrictlyIncreasing};
 ghost use Rattle.std.specs.Io.Iter.{u64_saturate};
 ghost use Rattle.pb_core.specs.Election.{most_projects};
-ghost use Rattle.pb_price.specs.Price.{paid_at, price_at, AreRests};
+ghost use Rattle.pb_price.specs.Price.{due, paid_at, price_at, AreRests};
 ghost use Rattle.pb_price.specs.PriceFault.{is_worker_count};
 ghost use Rattle.pb_price.specs.Supporters.{supporters_at};
 ghost use Rattle.pb_rounds.specs.Inner.Key.{better_of};
@@ -86,6 +86,8 @@ fn price_heads<R: Threads + Sync, G: Gate, A: Allocator + Copy + Send + Sync>(
     ensures workers { OnOk result (tally.new.workers ≡ u64_saturate (tally.old.workers + max 1 (min (length heads.now)
         (workers_for pricing.now.workers pricing.now.supporters.now heads.now)))) }
 {
+    // What is true of all supporters holds of those of these projects.
+    let _projects = pricing.supporters.projects();
     let workers = workers_for(pricing.workers, pricing.supporters, heads);
     let pieces = Pieces {
         gate: pricing.gate,
@@ -185,15 +187,17 @@ pub(crate) fn elect<A: Allocator>(
     requires price { price_at supporters.now outcome.old.rests best.place ≡ Some best.price }
     ensures { OnOk result (outcome.new ≡ record outcome.old {
       elected = outcome.old.elected ++ elected_by supporters.now outcome.old.rests best ∷ [];
-      rests = charged (supporters_at supporters.now best.place) best.price outcome.old.rests;
+      rests = charged (supporters_at supporters.now best.place) (due best.price) outcome.old.rests;
     }) }
 {
     let place = best.place();
-    let price = best.price();
+    let exact = best.price();
+    let price = exact.due();
     let collected = charge(supporters.of(place), price, &mut outcome.rests);
     outcome.elected.push(Elected {
         place,
         price,
+        exact,
         collected,
     })?;
     Ok(())

@@ -1,13 +1,16 @@
-//! What measures and completions are called on the command line.
+//! What measures, completions and monies are called on the command line.
 
 ghost use Rattle.std.specs.Prelude.{◌≡◌, ◌≢◌, IfSome, None};
-ghost use Rattle.pb_rounds.specs.RuleNames.{completion_name, measure_name};
+ghost use Rattle.pb_price.specs.declared.grain.Grain.{Grain};
+ghost use Rattle.pb_rounds.specs.RuleNames.{by_grain, completion_name, measure_name};
 ghost use Rattle.pb_rounds.specs.declared.options.Completion.TheVariants.{NoShares};
 ghost use Rattle.pb_rounds.specs.declared.rule.FillUp.TheVariants.{MostVotes};
+ghost use Rattle.pb_rounds.specs.declared.rule_names.TheConstants.{FINE, HUNDREDTHS};
 
 use crate::measure::Measure;
 use crate::options::Completion;
 use crate::rule::FillUp;
+use pb_price::Grain;
 
 pub(crate) const VOTES: &str = "votes";
 
@@ -49,6 +52,37 @@ pub fn measure_named(name: &str) -> Option<Measure>
         Some(Measure::Votes)
     } else if name == COST {
         Some(Measure::Cost)
+    } else {
+        None
+    }
+}
+
+pub(crate) const HUNDREDTHS: &str = "hundredths";
+
+pub(crate) const FINE: &str = "fine";
+
+/// How finely money is counted, by name, the standard one first.
+pub const GRAINS: &[&str] = &[HUNDREDTHS, FINE];
+
+/// The name of how finely money is counted.
+pub fn grain_name(grain: Grain) -> &'static str
+    ensures { result.now ≡ by_grain grain HUNDREDTHS.now FINE.now }
+{
+    match grain {
+        Grain::Hundredths => HUNDREDTHS,
+        Grain::Fine => FINE,
+    }
+}
+
+/// How finely money is counted, by this name, if one has it.
+pub fn grain_named(name: &str) -> Option<Grain>
+    ensures some { IfSome result (λ grain. by_grain grain HUNDREDTHS.now FINE.now ≡ name.now) }
+    ensures none { result ≡ None → (g : Grain) → by_grain g HUNDREDTHS.now FINE.now ≢ name.now }
+{
+    if name == HUNDREDTHS {
+        Some(Grain::Hundredths)
+    } else if name == FINE {
+        Some(Grain::Fine)
     } else {
         None
     }

@@ -4,17 +4,18 @@ ghost use Rattle.std.specs.Prelude.{◌≡◌, ◌++◌, [], IfOk, OnOk, codes, 
 ghost use Rattle.std.specs.Prelude.{if◌then◌else◌};
 ghost use Rattle.pb_core.specs.MoneyText.{money_text};
 ghost use Rattle.pb_rounds.specs.Inner.RuleNames.{named};
-ghost use Rattle.pb_rounds.specs.RuleNames.{by_ties, fills_up, method_text, profile_name};
+ghost use Rattle.pb_rounds.specs.RuleNames.{by_grain, by_ties, fills_up, method_text, profile_name};
 ghost use Rattle.pb_rounds.specs.RuleNames.{rule_text, rule_word, ties_name};
 ghost use Rattle.std.specs.Str.{bytes_eq};
 
 use crate::measure::Measure;
 use crate::options::{Completion, CountOptions};
 use crate::rule::{FillUp, Rule};
-use crate::rule_names::{completion_name, measure_name};
+use crate::rule_names::{completion_name, grain_name, measure_name};
 use crate::tie_rule::TieRule;
 use itoa::Buffer;
 use pb_core::no_memory::NoMemory;
+use pb_price::Grain;
 use std::alloc::Global;
 
 impl Rule {
@@ -46,18 +47,19 @@ impl Rule {
     /// Its name, with this name of its rule for ties.
     fn name_with(&self, alloc: Global, ties: &str) -> Result<String, NoMemory>
         ensures { IfOk result (λ text. string_bytes text ≡ named
-            self.now.options.measure self.now.options.completion self.now.fill_up self.now.options.step ties.now) }
+            self.now.options.measure self.now.options.grain self.now.options.completion self.now.fill_up self.now.options.step ties.now) }
     {
         let measure = measure_name(self.options.measure);
         let completion = completion_name(self.options.completion, self.fill_up);
+        let grain = grain_name(self.options.grain);
         match self.options.completion {
             Completion::Plain => {
-                Ok(format!(in alloc; "ES/{measure}/{completion}/hundredths/ties={ties}")?)
+                Ok(format!(in alloc; "ES/{measure}/{completion}/{grain}/ties={ties}")?)
             }
             Completion::Add1 => {
                 let step = self.options.step.text(alloc)?;
                 let name = format!(in alloc;
-                    "ES/{measure}/{completion}/hundredths/step={step}/ties={ties}"
+                    "ES/{measure}/{completion}/{grain}/step={step}/ties={ties}"
                 );
                 drop(step);
                 Ok(name?)
@@ -102,6 +104,7 @@ impl Rule {
             Completion::Add1 => put_raises(alloc, &mut text, &self.options)?,
         }
         put_fill_up(&mut text, self.fill_up)?;
+        put_grain(&mut text, self.options.grain)?;
         Ok(text)
     }
 }
@@ -139,6 +142,19 @@ fn put_fill_up(text: &mut String, fill_up: FillUp) -> Result<(), NoMemory>
         FillUp::Nothing => Ok(()),
         FillUp::MostVotes => {
             text.push_str(", filled up by votes")?;
+            Ok(())
+        }
+    }
+}
+
+/// Puts after a text that money is fine, if it is.
+fn put_grain(text: &mut String, grain: Grain) -> Result<(), NoMemory>
+    ensures { OnOk result (string_bytes text.new ≡ string_bytes text.old ++ by_grain grain [] (codes ", in fine money")) }
+{
+    match grain {
+        Grain::Hundredths => Ok(()),
+        Grain::Fine => {
+            text.push_str(", in fine money")?;
             Ok(())
         }
     }

@@ -2,15 +2,15 @@
 
 ghost use Rattle.std.specs.Prelude.{◌≡◌, ◌+◌, ◌*◌, ◌<◌, ◌≤◌, ℕ, None, length, slice_index_or, Some, IfOk};
 ghost use Rattle.std.specs.Prelude.{IfErr, MatchOption, OnOk, ⊤, false, ◌-◌, true};
-ghost use Rattle.pb_core.specs.Money.{largest_money};
+ghost use Rattle.pb_price.specs.Price.{largest_share};
 ghost use Rattle.pb_rounds.specs.Count.{add1_of, elected_after, is_decisive, share_after};
 ghost use Rattle.pb_rounds.specs.Inner.Count.{IsCompletionFault};
-ghost use Rattle.pb_rounds.specs.CountFault.{largest_step, most_raises};
+ghost use Rattle.pb_rounds.specs.CountFault.{most_raises};
 ghost use Rattle.pb_rounds.specs.Inner.Front.{IsFront, IsFrontAt};
 ghost use Rattle.pb_rounds.specs.Inner.RaiseEnds.{CanComplete, IsCompletion, IsFound};
 ghost use Rattle.pb_rounds.specs.Inner.Threads.{group_size};
 
-use crate::count::{opening_share, outcome_after};
+use crate::count::{opening_of, outcome_after};
 use crate::count_fault::CountFault;
 use crate::front::Front;
 use crate::outcome::Outcome;
@@ -45,9 +45,8 @@ struct Group<'a, R, G, A: Allocator> {
 impl<'a, R: Threads + Sync, G: Gate, A: Allocator + Copy + Send + Sync> Group<'a, R, G, A> {
     /// Tries the raise at this place of the group.
     fn try_raise(&self, i: usize, trial: &mut Trial<A>)
-        requires opening { self.now.opening ≤ largest_money }
+        requires small { self.now.opening + (self.now.next + i) * self.now.step ≤ largest_share }
         requires raised { self.now.next + i ≤ most_raises }
-        requires step { self.now.step ≤ largest_step }
         requires front { IsFront self.now.front.now }
         requires of { IsFrontAt self.now.pricing.now.measure self.now.pricing.now.supporters.now
             (self.now.opening + self.now.next * self.now.step) self.now.front.now }
@@ -65,11 +64,11 @@ fn try_group<R: Threads + Sync, G: Gate, A: Allocator + Copy + Send + Sync>(
     group: &Group<R, G, A>,
     trials: &mut Vec<Trial<A>, A>,
 )
-    requires opening { group.now.opening ≤ largest_money }
-    requires step { group.now.step ≤ largest_step }
     requires front { IsFront group.now.front.now }
     requires of { IsFrontAt group.now.pricing.now.measure group.now.pricing.now.supporters.now
         (group.now.opening + group.now.next * group.now.step) group.now.front.now }
+    requires small { (i : ℕ) → i < length trials.old.items
+        → group.now.opening + (group.now.next + i) * group.now.step ≤ largest_share }
     requires few { group.now.next + length trials.old.items ≤ most_raises + 1 }
     ensures len { length trials.new.items ≡ length trials.old.items }
     ensures ends { (i : ℕ) (d : _) → i < length trials.old.items
@@ -78,8 +77,9 @@ fn try_group<R: Threads + Sync, G: Gate, A: Allocator + Copy + Send + Sync>(
         (slice_index_or trials.new.items i d).outcome.elected (slice_index_or trials.new.items i d).end }
 {
     let try_one = |i: usize, trial: &mut [Trial<A>]|
-        requires { (length trial.now ≡ 1) × (group.now.opening ≤ largest_money)
-            × (group.now.step ≤ largest_step) × (group.now.next + i ≤ most_raises)
+        requires { (length trial.now ≡ 1)
+            × (group.now.opening + (group.now.next + i) * group.now.step ≤ largest_share)
+            × (group.now.next + i ≤ most_raises)
             × IsFront group.now.front.now
             × IsFrontAt group.now.pricing.now.measure group.now.pricing.now.supporters.now
             (group.now.opening + group.now.next * group.now.step) group.now.front.now }
@@ -132,28 +132,28 @@ where
             self.now.pricing.now.supporters.now self.now.step self.now.max_raises }
         requires front { IsFront front.now }
         requires of { IsFrontAt self.now.pricing.now.measure self.now.pricing.now.supporters.now
-            (share_after self.now.election.now self.now.step next) front.now }
+            (share_after self.now.pricing.now.supporters.now.grain self.now.election.now self.now.step next) front.now }
         requires some { 0 < length trials.old.items }
         requires few { next + length trials.old.items ≤ self.now.max_raises + 1 }
         requires tried { (raises : ℕ) → raises < next
-            → is_decisive self.now.pricing.now.measure self.now.election.now self.now.step raises ≡ false }
+            → is_decisive self.now.pricing.now.measure self.now.pricing.now.supporters.now.grain self.now.election.now self.now.step raises ≡ false }
         ensures len { length trials.new.items ≡ length trials.old.items }
         ensures decided { IfOk result (λ found. MatchOption found
             ((raises : ℕ) → raises < next + length trials.old.items
-            → is_decisive self.now.pricing.now.measure self.now.election.now self.now.step raises ≡ false)
+            → is_decisive self.now.pricing.now.measure self.now.pricing.now.supporters.now.grain self.now.election.now self.now.step raises ≡ false)
             (λ raises. (raises ≤ self.now.max_raises)
-            × (add1_of self.now.pricing.now.measure self.now.election.now self.now.step self.now.max_raises
+            × (add1_of self.now.pricing.now.measure self.now.pricing.now.supporters.now.grain self.now.election.now self.now.step self.now.max_raises
             ≡ Some raises))) }
         ensures last { IfOk result (λ found. (d : _) → found ≡ None
             → (slice_index_or trials.new.items (length trials.old.items - 1) d).outcome.elected
-            ≡ elected_after self.now.pricing.now.measure self.now.election.now self.now.step
+            ≡ elected_after self.now.pricing.now.measure self.now.pricing.now.supporters.now.grain self.now.election.now self.now.step
             (next + length trials.old.items - 1)) }
     {
         let group = Group {
             pricing: self.pricing,
             front,
             budget: self.election.budget(),
-            opening: opening_share(self.election),
+            opening: opening_of(self.election, self.pricing.supporters),
             step: self.step,
             next,
         };
@@ -184,17 +184,18 @@ where
             self.now.pricing.now.supporters.now self.now.step target }
         requires next { (0 < next) × (next ≤ target) }
         requires tried { (raises : ℕ) → raises < next
-            → is_decisive self.now.pricing.now.measure self.now.election.now self.now.step raises ≡ false }
+            → is_decisive self.now.pricing.now.measure self.now.pricing.now.supporters.now.grain self.now.election.now self.now.step raises ≡ false }
         requires last { last.old.outcome.elected
-            ≡ elected_after self.now.pricing.now.measure self.now.election.now self.now.step (next - 1) }
+            ≡ elected_after self.now.pricing.now.measure self.now.pricing.now.supporters.now.grain self.now.election.now self.now.step (next - 1) }
         ensures decided { IfOk result (λ jumped. jumped ≡ true → (raises : ℕ) → raises < target + 1
-            → is_decisive self.now.pricing.now.measure self.now.election.now self.now.step raises ≡ false) }
+            → is_decisive self.now.pricing.now.measure self.now.pricing.now.supporters.now.grain self.now.election.now self.now.step raises ≡ false) }
         ensures last { IfOk result (λ jumped. jumped ≡ true → last.new.outcome.elected
-            ≡ elected_after self.now.pricing.now.measure self.now.election.now self.now.step target) }
+            ≡ elected_after self.now.pricing.now.measure self.now.pricing.now.supporters.now.grain self.now.election.now self.now.step target) }
         ensures stays { IfOk result (λ jumped. jumped ≡ false
             → last.new.outcome.elected ≡ last.old.outcome.elected) }
     {
-        let share = raised_share(opening_share(self.election), target, self.step);
+        let opening = opening_of(self.election, self.pricing.supporters);
+        let share = raised_share(opening, target, self.step);
         let elected = last.outcome.elected.as_slice();
         let (measure, supporters) = (self.pricing.measure, self.pricing.supporters);
         let keeps = ahead.keeps(measure, supporters, share, elected)?;
@@ -217,12 +218,12 @@ where
             self.now.pricing.now.supporters.now self.now.step self.now.max_raises }
         requires from { (0 < from) × (from ≤ self.now.max_raises + 1) }
         requires tried { (raises : ℕ) → raises < from
-            → is_decisive self.now.pricing.now.measure self.now.election.now self.now.step raises ≡ false }
+            → is_decisive self.now.pricing.now.measure self.now.pricing.now.supporters.now.grain self.now.election.now self.now.step raises ≡ false }
         requires last { last.old.outcome.elected
-            ≡ elected_after self.now.pricing.now.measure self.now.election.now self.now.step (from - 1) }
+            ≡ elected_after self.now.pricing.now.measure self.now.pricing.now.supporters.now.grain self.now.election.now self.now.step (from - 1) }
         ensures range { IfOk result (λ next. (from ≤ next) × (next ≤ self.now.max_raises + 1)) }
         ensures tried { IfOk result (λ next. (raises : ℕ) → raises < next
-            → is_decisive self.now.pricing.now.measure self.now.election.now self.now.step raises ≡ false) }
+            → is_decisive self.now.pricing.now.measure self.now.pricing.now.supporters.now.grain self.now.election.now self.now.step raises ≡ false) }
     {
         let mut next = from;
         if !pace.is_due() {
@@ -252,14 +253,14 @@ where
         requires from { from ≤ self.now.max_raises + 1 }
         requires few { length team.old.trials.items ≤ 64 }
         requires tried { (raises : ℕ) → raises < from
-            → is_decisive self.now.pricing.now.measure self.now.election.now self.now.step raises ≡ false }
+            → is_decisive self.now.pricing.now.measure self.now.pricing.now.supporters.now.grain self.now.election.now self.now.step raises ≡ false }
         ensures { IfOk result (λ found.
-            (add1_of self.now.pricing.now.measure self.now.election.now self.now.step
+            (add1_of self.now.pricing.now.measure self.now.pricing.now.supporters.now.grain self.now.election.now self.now.step
             self.now.max_raises ≡ found)
             × MatchOption found ⊤ (λ raises. raises ≤ self.now.max_raises)) }
     {
         let pricing = self.pricing;
-        let opening = opening_share(self.election);
+        let opening = opening_of(self.election, self.pricing.supporters);
         let mut front = Front::open(pricing.alloc, pricing.measure, pricing.supporters, opening)?;
         let found = self.decide_behind(&mut front, team, from);
         drop(front);
@@ -279,13 +280,13 @@ where
         requires front { IsFront front.old }
         requires of { IsFrontAt self.now.pricing.now.measure self.now.pricing.now.supporters.now
             front.old.outcome.share front.old }
-        requires share { front.old.outcome.share ≤ share_after self.now.election.now self.now.step from }
+        requires share { front.old.outcome.share ≤ share_after self.now.pricing.now.supporters.now.grain self.now.election.now self.now.step from }
         requires from { from ≤ self.now.max_raises + 1 }
         requires few { length team.old.trials.items ≤ 64 }
         requires tried { (raises : ℕ) → raises < from
-            → is_decisive self.now.pricing.now.measure self.now.election.now self.now.step raises ≡ false }
+            → is_decisive self.now.pricing.now.measure self.now.pricing.now.supporters.now.grain self.now.election.now self.now.step raises ≡ false }
         ensures { IfOk result (λ found.
-            (add1_of self.now.pricing.now.measure self.now.election.now self.now.step
+            (add1_of self.now.pricing.now.measure self.now.pricing.now.supporters.now.grain self.now.election.now self.now.step
             self.now.max_raises ≡ found)
             × MatchOption found ⊤ (λ raises. raises ≤ self.now.max_raises)) }
     {
@@ -325,18 +326,18 @@ where
         requires front { IsFront front.old }
         requires of { IsFrontAt self.now.pricing.now.measure self.now.pricing.now.supporters.now
             front.old.outcome.share front.old }
-        requires share { front.old.outcome.share ≤ share_after self.now.election.now self.now.step next }
+        requires share { front.old.outcome.share ≤ share_after self.now.pricing.now.supporters.now.grain self.now.election.now self.now.step next }
         requires next { next ≤ self.now.max_raises }
         requires last { length trials.old.items ≤ 64 }
         requires workers { (0 < workers) × (workers ≤ 64) × (0 < processors) }
         ensures front { OnOk result (IsFront front.new) }
         ensures of { OnOk result (IsFrontAt self.now.pricing.now.measure self.now.pricing.now.supporters.now
-            (share_after self.now.election.now self.now.step next) front.new) }
+            (share_after self.now.pricing.now.supporters.now.grain self.now.election.now self.now.step next) front.new) }
         ensures some { OnOk result (0 < length trials.new.items) }
         ensures few { OnOk result (length trials.new.items ≤ 64) }
         ensures within { OnOk result (next + length trials.new.items ≤ self.now.max_raises + 1) }
     {
-        let opening = opening_share(self.election);
+        let opening = opening_of(self.election, self.pricing.supporters);
         let share = raised_share(opening, next, self.step);
         self.pricing.gate.raised(next, share);
         front.extend(share)?;
@@ -402,10 +403,10 @@ pub(crate) fn complete_by_trials<
     requires given { CanComplete election.now pricing.now.workers pricing.now.supporters.now step max_raises }
     requires from { from ≤ max_raises + 1 }
     requires tried { (raises : ℕ) → raises < from
-        → is_decisive pricing.now.measure election.now step raises ≡ false }
+        → is_decisive pricing.now.measure pricing.now.supporters.now.grain election.now step raises ≡ false }
     ensures completed { IfOk result
-        (IsCompletion pricing.now.measure election.now pricing.now.workers step max_raises) }
-    ensures faults { IfErr result (IsCompletionFault pricing.now.measure election.now step max_raises) }
+        (IsCompletion pricing.now.measure pricing.now.supporters.now.grain election.now pricing.now.workers step max_raises) }
+    ensures faults { IfErr result (IsCompletionFault pricing.now.measure pricing.now.supporters.now.grain election.now step max_raises) }
 {
     let mut team = Team {
         trials: Vec::new(pricing.alloc),

@@ -4,7 +4,8 @@ ghost use Rattle.std.specs.Prelude.{◌≡◌, ◌≢◌, ◌++◌, ℕ, IfOk, I
 ghost use Rattle.std.specs.List.{list_all};
 ghost use Rattle.std.specs.Str.{bytes_eq};
 ghost use Rattle.pb_rounds.specs.Inner.RuleNames.{is_seed_byte};
-ghost use Rattle.pb_rounds.specs.RuleNames.{is_seed, keys_name, lot_name, ties_name};
+ghost use Rattle.pb_rounds.specs.Inner.RuleNames.{keys_name};
+ghost use Rattle.pb_rounds.specs.RuleNames.{is_seed, lot_name, ties_name};
 ghost use Rattle.pb_rounds.specs.TieOrder.{by_file};
 
 use arrayvec::ArrayString;

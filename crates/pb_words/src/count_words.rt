@@ -40,6 +40,11 @@ pub fn count_words(
                 Amount(options.step.0),
             ],
         ),
+        CountFault::TooFine => out.fill(
+            "{}: the amounts are too large for fine money, so there is no result. You can allow fewer raises with \
+            `--raises`, or count with `--money hundredths`.\n",
+            &[Name(path)],
+        ),
         fault => put_option(&mut out, fault, options),
     }
     out.finish()
@@ -125,7 +130,9 @@ fn put_option(out: &mut WordsWriter, fault: CountFault, options: &CountOptions) 
         CountFault::WorkerCount => ("workers", u64::from(options.workers), "1 to 64"),
         CountFault::StepRange => ("step", options.step.0, "1 to 1000000000"),
         CountFault::RaisesRange => ("raises", u64::from(options.max_raises), "0 to 1000000"),
-        CountFault::RaisesSpent | CountFault::NoMemory => return out.put("Memory ran out.\n"),
+        CountFault::RaisesSpent | CountFault::NoMemory | CountFault::TooFine => {
+            return out.put("Memory ran out.\n");
+        }
     };
     put_range(out, option, value, range)
 }

@@ -1,12 +1,12 @@
 -- The rows of the tables, and the parts of some.
 use Rattle.std.specs.Prelude.{ℕ, List, ◌==◌, ◌++◌, codes, decimal, filter, flat_map, length, map, slice_index}
 use Rattle.std.specs.List.{join_with_byte, range_with_len}
-use Rattle.pb_core.specs.MoneyText.{money_text}
 use Rattle.pb_reasons.specs.CountedElection.{CountedElectionView}
 use Rattle.pb_reasons.specs.declared.payment.Payment.{Payment}
 use Rattle.pb_rounds.specs.declared.rule.FillUp.TheVariants.{MostVotes}
 use Rattle.pb_rows.specs.Reading.{Fields}
 use Rattle.pb_rows.specs.Tables.{Column}
+use Rattle.pb_commands.specs.Report.{in_units}
 use Rattle.pb_commands.specs.Tables.{table_by}
 use Rattle.pb_commands.specs.declared.table.Table.{Table}
 use Rattle.pb_commands.specs.declared.table.Table.TheVariants.{Projects}
@@ -33,6 +33,6 @@ payments_in_file order payments = flat_map (λ place. map (λ (p : Payment). rec
     (filter (λ p. slice_index order p.place == place) payments)) (range_with_len 0 (length order))
 
 -- payments as text: each a place, `:` and an amount, with `,` between two
-abbrev pub payments_text : List Payment → List ℕ
-payments_text payments =
-    join_with_byte 44 (map (λ p. decimal p.place ++ (codes ":" ++ money_text p.amount)) payments)
+abbrev pub payments_text : CountedElectionView → List Payment → List ℕ
+payments_text x payments =
+    join_with_byte 44 (map (λ (p : Payment). decimal p.place ++ (codes ":" ++ in_units x p.amount 1)) payments)

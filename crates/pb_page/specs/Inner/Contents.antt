@@ -2,7 +2,7 @@
 use Rattle.std.specs.Prelude.{◌==◌, ℕ, Bool, false, true, List, [], ◌∷◌, ◌++◌, codes, flat_map, if◌then◌else◌, is_some, length, not}
 use Rattle.pb_page.specs.Content.{Part, fill, said, section, text}
 use Rattle.pb_page.specs.Inner.Counted.{voters_told}
-use Rattle.pb_page.specs.Page.{added_apart, besides, budget, categories, check, others, rule, winners}
+use Rattle.pb_page.specs.Page.{added_apart, besides, budget, categories, check, decided, others, rule, winners}
 use Rattle.pb_page.specs.declared.facts.Facts.{Facts}
 use Rattle.pb_page.specs.declared.keys.TheConstants as key
 use Rattle.pb_page.specs.declared.language.Language.{Language}
@@ -24,7 +24,8 @@ links_to facts x = let l = facts.language in link_to l true (codes "budget") key
     ++ (link_to l true (codes "winners") key.WINNERS_HEADING ++ (link_to l (has_added x) (codes "added") key.ADDED_HEADING
     ++ (link_to l true (codes "others") key.OTHERS_HEADING ++ (link_to l (is_some facts.categories) (codes "categories") key.CATEGORIES_HEADING
     ++ (link_to l true (codes "voters") key.VOTERS_HEADING ++ (link_to l facts.compares (codes "compared") key.COMPARED_HEADING
-    ++ (link_to l true (codes "rule") key.RULE_HEADING ++ link_to l true (codes "check") key.CHECK_HEADING)))))))
+    ++ (link_to l (is_some facts.decided) (codes "decided") key.DECIDED_HEADING
+    ++ (link_to l true (codes "rule") key.RULE_HEADING ++ link_to l true (codes "check") key.CHECK_HEADING))))))))
 
 unfoldable pub contents : Facts → CountedElectionView → List Part
 contents facts x = fill (codes "<nav aria-label='~'>\n<ul>\n~</ul>\n</nav>\n")
@@ -34,4 +35,5 @@ contents facts x = fill (codes "<nav aria-label='~'>\n<ul>\n~</ul>\n</nav>\n")
 abbrev pub sections : Facts → CountedElectionView → RaiseEnd → List Part
 sections facts x end = let l = facts.language in section l (budget l x) ++ (section l (winners facts x)
     ++ (flat_map (section l) (added_apart facts x) ++ (section l (others facts x) ++ (flat_map (section l) (categories facts x)
-    ++ (voters_told l x ++ (flat_map (section l) (besides facts x) ++ (section l (rule l x end) ++ section l (check facts x.rule))))))))
+    ++ (voters_told l x ++ (flat_map (section l) (besides facts x) ++ (flat_map (section l) (decided facts x.rule)
+    ++ (section l (rule l x end) ++ section l (check facts x.rule)))))))))

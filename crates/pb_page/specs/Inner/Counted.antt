@@ -1,14 +1,14 @@
 -- Words of private contracts on what is counted.
 use Rattle.std.specs.Prelude.{ℕ, ◌<◌, ◌-◌, ◌==◌, List, [], ◌∷◌, ◌++◌, All, ⊤, codes, decimal, filter}
-use Rattle.std.specs.Prelude.{Option, count_by, flat_map, if◌then◌else◌, length, map, slice_index, sum_by, Bool, None, Some, nat_le, nat_lt}
+use Rattle.std.specs.Prelude.{Option, count_by, flat_map, if◌then◌else◌, length, map, slice_index, sum_by, Bool, None, Some, false, nat_le, nat_lt, true}
 use Rattle.std.specs.Borrow.{Bor}
 use Rattle.std.specs.List.{range_with_len}
 use Rattle.std.specs.Option.{option_map_or}
 use Rattle.pb_core.specs.Election.{ElectionView, ProjectView}
 use Rattle.pb_core.specs.MoneyText.{money_text}
-use Rattle.pb_page.specs.Amount.{grouped, shown}
-use Rattle.pb_page.specs.Content.{Headed, Part, amount, digits, figure, fill, item, listed, noun_at, number, paragraph, said, say, section, table, text, under}
-use Rattle.pb_page.specs.Page.{ballots_row, beside, by_raises, category_of, compared_row, entry, linked, links, row_at, source, tie}
+use Rattle.pb_page.specs.Amount.{grouped, rounded, shown}
+use Rattle.pb_page.specs.Content.{Headed, Part, amount, digits, figure, fill, item, listed, noun_at, number, paragraph, parted, said, say, section, table, text, under}
+use Rattle.pb_page.specs.Page.{ballots_row, beside, by_raises, category_of, compared_row, counted_in, entry, linked, links, row_at, source, tie}
 use Rattle.pb_page.specs.Inner.Value.{code, files_link, nameless}
 use Rattle.pb_page.specs.Page.{money_told, raises_ended, voters, width}
 use Rattle.pb_page.specs.Inner.Filling.{cut, own}
@@ -22,7 +22,9 @@ use Rattle.pb_page.specs.declared.keys.TheConstants as key
 use Rattle.pb_page.specs.declared.language.Language.{Language}
 use Rattle.pb_page.specs.declared.project_row.ProjectRow.{ProjectRow}
 use Rattle.pb_page.specs.declared.templates.TheConstants.{OTHERS_OPENING, PASSED_OVER_OPENING, VOTERS_ROW_CLOSING}
-use Rattle.pb_price.specs.Supporters.{cost_at, support_of}
+use Rattle.pb_page.specs.declared.markup.divided.Divided.{Divided}
+use Rattle.pb_price.specs.Grain.{in_parts}
+use Rattle.pb_price.specs.Supporters.{cost_at, support_in, support_of}
 use Rattle.pb_reasons.specs.BesideVotes.{beside_votes, elected_by_votes}
 use Rattle.pb_reasons.specs.Counted.{winners_of}
 use Rattle.pb_reasons.specs.CountedElection.{CountedElectionView}
@@ -38,12 +40,13 @@ use Rattle.pb_reasons.specs.declared.raise_end.RaiseEnd.{RaiseEnd}
 use Rattle.pb_reasons.specs.declared.raise_end.RaiseEnd.TheVariants.{Plain, Exhausted, Over}
 use Rattle.pb_rounds.specs.Count.{no_shares}
 use Rattle.pb_rounds.specs.MostVotes.{is_taken}
-use Rattle.pb_rounds.specs.RuleNames.{by_completion, by_measure, by_ties, completion_name, measure_name, ties_name}
+use Rattle.pb_rounds.specs.RuleNames.{by_completion, by_grain, by_measure, by_ties, completion_name, measure_name, ties_name}
+use Rattle.pb_rows.specs.ExactText.{exact_text}
 use Rattle.pb_rounds.specs.declared.rule.Rule.{Rule}
 
 -- the numbers of the whole
 abbrev pub figures_of : CountedElectionView → Figures
-figures_of x = let e = x.election in let totals = totals_of e x.counted in record {
+figures_of x = let e = x.election in let totals = totals_of x.rule.options.grain e x.counted in record {
   voters = length e.voters;
   projects = length e.projects;
   won = length (winners_of x.counted);
@@ -51,6 +54,8 @@ figures_of x = let e = x.election in let totals = totals_of e x.counted in recor
   spent = totals.spent;
   left = e.budget - totals.spent;
   surplus = totals.surplus;
+  parts = in_parts x.rule.options.grain (length e.voters) 1;
+  grain = x.rule.options.grain;
   by_votes = no_shares x.rule.options.completion;
 }
 
@@ -58,7 +63,7 @@ figures_of x = let e = x.election in let totals = totals_of e x.counted in recor
 abbrev pub result_said : Language → Figures → List Part
 result_said l f = if f.won == 0
     then figure (codes "won") (decimal f.won) [] ++ (figure (codes "spent") (money_text f.spent) []
-    ++ (figure (codes "surplus") (money_text f.surplus) [] ++ say l key.NONE_WON (amount l.costs (codes "left") f.left ∷ [])))
+    ++ (figure (by_grain f.grain (codes "surplus") (codes "uncovered")) (money_text f.surplus) [] ++ say l key.NONE_WON (amount l.costs (codes "left") f.left ∷ [])))
     else say l key.WON (number l (codes "won") f.won ∷ amount l.costs (codes "spent") f.spent
     ∷ amount l.costs (codes "left") f.left ∷ noun_at l key.WINNERS f.won ∷ [])
 
@@ -73,11 +78,12 @@ picture_said l f = say l key.PICTURE
 
 abbrev pub spent_said : Language → Figures → List Part
 spent_said l f = say l (if f.won == 0 then key.BUDGET_NONE else if f.by_votes then key.BUDGET_BY_VOTES
-    else key.BUDGET_CAPTION) (amount l.costs (codes "spent") f.spent
-    ∷ amount l.costs (codes "left") f.left ∷ amount l.amounts (codes "surplus") f.surplus ∷ [])
+    else by_grain f.grain key.BUDGET_CAPTION key.BUDGET_FINE) (amount l.costs (codes "spent") f.spent
+    ∷ amount l.costs (codes "left") f.left ∷ parted l.amounts (by_grain f.grain (codes "surplus") (codes "uncovered"))
+    (record { amount = f.surplus; divisor = f.parts; is_up = true }) ∷ [])
 
-abbrev pub share_said : Language → (k step share raises : ℕ) → List Part
-share_said l k step share raises = item (say l k (amount l.amounts (codes "share") share ∷ number l (codes "raises") raises
+abbrev pub share_said : Language → (k step : ℕ) → (share : Divided) → (raises : ℕ) → List Part
+share_said l k step share raises = item (say l k (parted l.amounts (codes "share") share ∷ number l (codes "raises") raises
     ∷ nameless (money_text step) (text (shown l.amounts step)) ∷ noun_at l key.TIMES raises ∷ []))
 
 abbrev pub items_said : Language → (keys : List ℕ) → List Part
@@ -87,7 +93,7 @@ items_said l keys = flat_map (λ k. item (said l k)) keys
 abbrev pub rounds_said : Language → CountedElectionView → RaiseEnd → List Part
 rounds_said l x end = let r = x.rule in let o = r.options in let raised = x.counted.outcome.raised in
     let raises = if raised == 0 then key.UNRAISED else key.RAISED in
-    share_said l (by_raises r key.SHARE_UNRAISED key.SHARE) o.step x.counted.outcome.share raised
+    share_said l (by_raises r key.SHARE_UNRAISED key.SHARE) o.step (counted_in x false 1 x.counted.outcome.share) raised
     ++ (items_said l (key.SUPPORTERS ∷ by_measure o.measure (by_ties r.ties key.BY_VOTES key.BY_VOTES_TIED)
     (by_ties r.ties key.BY_COST key.BY_COST_TIED) ∷ by_completion o.completion r.fill_up key.PLAIN raises
     (by_ties r.ties key.FILLED_UP key.FILLED_UP_TIED) raises ∷ []) ++ raises_ended l x end)
@@ -105,11 +111,11 @@ equals l r = by_ties r.ties [] (item (say l key.EQUALS (code (ties_name r.ties) 
 
 abbrev pub ties_listed : Language → CountedElectionView → List Part
 ties_listed l x = listed l (by_ties x.rule.ties key.TIES key.TIES_TIED) (own (codes " class='ties'"))
-    (flat_map (tie l x) (ties_of x.rule.options.measure x.election x.counted))
+    (flat_map (tie l x) (ties_of x.rule.options.measure (support_in x.rule.options.grain x.election) x.counted))
 
-abbrev pub works_said : Language → (k budget voters opening : ℕ) → List Part
+abbrev pub works_said : Language → (k budget voters : ℕ) → (opening : Divided) → List Part
 works_said l k budget voters opening = paragraph (say l k (amount l.costs (codes "budget") budget
-    ∷ number l (codes "voters") voters ∷ amount l.amounts (codes "opening_share") opening ∷ []))
+    ∷ number l (codes "voters") voters ∷ parted l.amounts (codes "opening_share") opening ∷ []))
 
 -- the parts of how to check a result
 abbrev pub journal_source : Option ReadText → List Part
@@ -142,7 +148,7 @@ options_said l r = let o = r.options in options_put l (by_raises r key.OPTIONS_U
 
 -- the options of the command, and in words
 abbrev pub chosen : Rule → List Part
-chosen r = let o = r.options in fill (codes "~~ --step ~ --raises ~") (map text (by_measure o.measure [] (codes " --measure cost")
+chosen r = let o = r.options in fill (codes "~~~ --step ~ --raises ~") (map text (by_grain o.grain [] (codes " --money fine") ∷ by_measure o.measure [] (codes " --measure cost")
     ∷ by_completion o.completion r.fill_up (codes " --plain") [] (codes " --completion utilitarian") (codes " --completion add1u")
     ∷ decimal o.step ∷ decimal o.max_raises ∷ []))
 
@@ -215,10 +221,10 @@ abbrev pub went_as : Language → CountedElectionView → Option MoneyView → (
 went_as l x paid left = option_map_or (money_told l x left) paid []
 
 abbrev pub payment_told : Language → CountedElectionView → Payment → List Part
-payment_told l x p = item (say l key.PAID (amount l.amounts (codes "paid_for") p.amount ∷ linked x p.place ∷ []))
+payment_told l x p = item (say l key.PAID (parted l.amounts (codes "paid_for") (counted_in x false 1 p.amount) ∷ linked x p.place ∷ []))
 
-abbrev pub more_told : Language → ℕ → List Part
-more_told l others = if others == 0 then [] else item (say l key.PAID_MORE (amount l.amounts (codes "paid_more") others ∷ []))
+abbrev pub more_told : Language → CountedElectionView → ℕ → List Part
+more_told l x others = if others == 0 then [] else item (say l key.PAID_MORE (parted l.amounts (codes "paid_more") (counted_in x false 1 others) ∷ []))
 
 abbrev pub nothing_told : Language → Bool → List Part
 nothing_told l is_empty = if is_empty then item (said l key.PAID_NOTHING) else []
@@ -247,10 +253,10 @@ in_category x g winners k =
     record { winners = length those; cost = sum_by (cost_at (support_of x.election)) those }
 
 -- the cells of a loser behind its head: its cost and votes, what its supporters have left, and what is missing
-abbrev pub lacking : Language → (short : ℕ) → ProjectView → (votes : ℕ) → Lost → List Part
-lacking l short p votes lost = own (codes "</th>") ++ ((under l key.COST (amount l.costs (codes "cost") p.cost)
-    ++ under l key.VOTES (number l (codes "votes") votes)) ++ (under l key.LEFT (amount l.amounts (codes "left") lost.left)
-    ++ under l short (figure (codes "missing") (money_text lost.missing) (say l key.SHORT (text (shown l.amounts lost.missing) ∷ [])))))
+abbrev pub lacking : Language → CountedElectionView → (short : ℕ) → ProjectView → (votes : ℕ) → Lost → List Part
+lacking l x short p votes lost = let missing = counted_in x true 1 lost.missing in own (codes "</th>") ++ ((under l key.COST (amount l.costs (codes "cost") p.cost)
+    ++ under l key.VOTES (number l (codes "votes") votes)) ++ (under l key.LEFT (parted l.amounts (codes "left") (counted_in x false 1 lost.left))
+    ++ under l short (figure (codes "missing") (exact_text missing.amount missing.divisor) (say l key.SHORT (text (shown l.amounts (rounded missing)) ∷ [])))))
 
 -- the head of the table of the others
 abbrev pub others_opening : Language → (short : Option ℕ) → List Part

@@ -3,10 +3,11 @@ use Rattle.std.specs.Prelude.{◌==◌, ℕ, List, [], ◌∷◌, codes, decimal
 use Rattle.pb_core.specs.Election.{ProjectView}
 use Rattle.pb_core.specs.MoneyText.{money_text}
 use Rattle.pb_page.specs.Amount.{grouped, shown}
-use Rattle.pb_page.specs.Content.{Part, amount, digits, fill, noun_at, number, said, text}
+use Rattle.pb_page.specs.Content.{Part, amount, digits, fill, noun_at, number, parted, said, text}
 use Rattle.pb_page.specs.Page.{titled, width}
 use Rattle.pb_page.specs.Words.{sentence}
 use Rattle.pb_page.specs.Inner.Nouns.{noun}
+use Rattle.pb_rows.specs.ExactText.{exact_text}
 use Rattle.pb_page.specs.declared.keys.TheConstants as key
 use Rattle.pb_page.specs.declared.language.Language.{Language}
 use Rattle.pb_page.specs.declared.markup.value.Value.{Value}
@@ -26,6 +27,8 @@ text_of w (value.Grouped n group) = grouped group.now (decimal n)
 text_of w (value.Width a whole) = decimal (width a whole)
 text_of w (value.Amount h) = money_text h
 text_of w (value.Shown h form) = shown form h
+text_of w (value.Exact h divisor) = exact_text h divisor
+text_of w (value.Hundredths h form) = shown form h
 
 -- what a project is called: its name, or its id where it has none
 abbrev pub called : ProjectView → List ℕ
@@ -48,6 +51,7 @@ at_place l (place.Noun k n) = noun_at l k n
 at_place l (place.Shown h form) = text (shown form h)
 at_place l (place.Number name n) = number l name.now n
 at_place l (place.Amount name h form) = amount form name.now h
+at_place l (place.Parted name d form) = parted form name.now d
 at_place l (place.Nameless h form) = nameless (money_text h) (text (shown form h))
 at_place l (place.Said k) = said l k
 at_place l (place.Code t) = code t.now

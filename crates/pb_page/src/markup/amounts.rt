@@ -8,21 +8,20 @@ ghost use Rattle.pb_page.specs.Markup.{written};
 use crate::markup::form::Form;
 use crate::markup::written::{write_byte, write_text};
 use itoa::Buffer;
-use pb_core::money::Money;
 use pb_core::no_memory::NoMemory;
 
 /// Writes an amount as people write it.
-pub(crate) fn write_amount(page: &mut Vec<u8>, amount: Money, form: &Form) -> Result<(), NoMemory>
+pub(crate) fn write_amount(page: &mut Vec<u8>, amount: u128, form: &Form) -> Result<(), NoMemory>
     ensures { OnOk result (page.new.items ≡ page.old.items ++ written (shown form.now amount)) }
 {
     write_text(page, form.before)?;
-    write_count(page, amount.0 / 100, form.group)?;
-    write_decimals(page, amount.0 % 100, form)?;
+    write_count(page, amount / 100, form.group)?;
+    write_decimals(page, amount % 100, form)?;
     write_text(page, form.after)
 }
 
 /// Writes a number in groups of three digits.
-pub(crate) fn write_count(page: &mut Vec<u8>, number: u64, group: &str) -> Result<(), NoMemory>
+pub(crate) fn write_count(page: &mut Vec<u8>, number: u128, group: &str) -> Result<(), NoMemory>
     ensures { OnOk result (page.new.items ≡ page.old.items ++ written (grouped group.now (decimal number))) }
 {
     let mut digits = Buffer::new();
@@ -52,7 +51,7 @@ fn write_digit(page: &mut Vec<u8>, digit: u8, more: usize, group: &str) -> Resul
 }
 
 /// Writes the decimals of an amount that is so many hundredths more than a whole one.
-fn write_decimals(page: &mut Vec<u8>, hundredths: u64, form: &Form) -> Result<(), NoMemory>
+fn write_decimals(page: &mut Vec<u8>, hundredths: u128, form: &Form) -> Result<(), NoMemory>
     requires { hundredths < 100 }
     ensures { OnOk result (page.new.items ≡ page.old.items ++ written (decimals form.now hundredths)) }
 {

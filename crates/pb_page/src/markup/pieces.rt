@@ -4,6 +4,7 @@ ghost use Rattle.std.specs.Prelude.{◌≡◌, ◌++◌, OnOk, decimal, map};
 ghost use Rattle.pb_page.specs.Inner.Filling.{filled};
 ghost use Rattle.pb_page.specs.Inner.Value.{text_of};
 ghost use Rattle.pb_page.specs.Markup.{written};
+ghost use Rattle.pb_rows.specs.ExactText.{exact_text};
 
 use crate::forms::width;
 use crate::markup::amounts::{write_amount, write_count};
@@ -12,6 +13,7 @@ use crate::markup::words::Words;
 use crate::markup::written::write_text;
 use itoa::Buffer;
 use pb_core::no_memory::NoMemory;
+use pb_rows::put_exact;
 
 /// Stands in a piece of markup where a value goes.
 const PLACE: u8 = b'~';
@@ -51,14 +53,25 @@ fn write_value(page: &mut Vec<u8>, words: &Words, value: &Value) -> Result<(), N
         Value::Noun(key, number) => write_text(page, words.noun(*key, *number)),
         Value::Number(number) => write_number(page, *number),
         Value::Small(number) => write_number(page, u64::from(*number)),
-        Value::Grouped(number, group) => write_count(page, *number, group),
+        Value::Grouped(number, group) => write_count(page, u128::from(*number), group),
         Value::Width(amount, whole) => write_number(page, width(*amount, *whole)),
         Value::Amount(amount) => {
             let text = amount.text(*page.allocator())?;
             write_text(page, text.as_str())
         }
-        Value::Shown(amount, form) => write_amount(page, *amount, form),
+        Value::Shown(amount, form) => write_amount(page, u128::from(amount.0), form),
+        Value::Exact(amount, divisor) => write_exact(page, *amount, *divisor),
+        Value::Hundredths(amount, form) => write_amount(page, *amount, form),
     }
+}
+
+/// Writes an amount that is divided by so much, as reports have it.
+fn write_exact(page: &mut Vec<u8>, amount: u128, divisor: u64) -> Result<(), NoMemory>
+    ensures { OnOk result (page.new.items ≡ page.old.items ++ written (exact_text amount divisor)) }
+{
+    let mut text = String::new(*page.allocator());
+    put_exact(&mut text, amount, divisor)?;
+    write_text(page, text.as_str())
 }
 
 /// Writes a number.

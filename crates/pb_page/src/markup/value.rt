@@ -24,4 +24,8 @@ pub(crate) enum Value<'a> {
     Amount(Money),
     /// An amount of money, as people write it.
     Shown(Money, Form<'a>),
+    /// An amount in hundredths, divided by so much, as reports have it.
+    Exact(u128, u64),
+    /// An amount in hundredths, which may be more than an amount of money, as people write it.
+    Hundredths(u128, Form<'a>),
 }

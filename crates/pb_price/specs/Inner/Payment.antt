@@ -1,7 +1,7 @@
--- What people pay together at a price.
-use Rattle.std.specs.Prelude.{ℕ, ◌<◌, List, MatchOption, Option, count_by, nat_lt}
-use Rattle.std.specs.Prelude.{slice_index}
-use Rattle.pb_price.specs.Price.{IsLeastPayment, total_rest}
+-- What people pay together at a price, and how prices stand to each other.
+use Rattle.std.specs.Prelude.{ℕ, ◌<◌, List, MatchOption, Option, count_by, nat_le, nat_lt}
+use Rattle.std.specs.Prelude.{slice_index, sum_by, if◌then◌else◌}
+use Rattle.pb_price.specs.Price.{IsLeastPayment, PriceView, total_rest}
 
 -- the answer is the least payment by which these supporters cover this cost; none, where they have less left
 -- together
@@ -12,3 +12,15 @@ IsPriceFor supporters rests cost answer =
 -- how many of the supporters have more left than p
 abbrev pub payers_above : List ℕ → List ℕ → ℕ → ℕ
 payers_above supporters rests p = count_by (λ voter. nat_lt p (slice_index rests voter)) supporters
+
+-- how many of the supporters have at least p left, and what the others have together
+abbrev pub payers_from : List ℕ → List ℕ → ℕ → ℕ
+payers_from supporters rests p = count_by (λ voter. nat_le p (slice_index rests voter)) supporters
+
+abbrev pub total_below : List ℕ → List ℕ → ℕ → ℕ
+total_below supporters rests p =
+    sum_by (λ voter. if nat_le p (slice_index rests voter) then 0 else slice_index rests voter) supporters
+
+-- the price at which nobody pays anything
+abbrev pub nothing : PriceView
+nothing = record { amount = 0; payers = 1 }

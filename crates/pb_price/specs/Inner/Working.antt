@@ -3,7 +3,7 @@ use Rattle.std.specs.Prelude.{◌≡◌, ℕ, ◌<◌, ◌≤◌, ◌*◌, List,
 use Rattle.std.specs.Prelude.{fold, count_by, nat_eq, nat_lt, slice_index, slice_index_or, slice_set}
 use Rattle.pb_core.specs.Election.{most_projects}
 use Rattle.pb_price.specs.Inner.Claims.{past_end}
-use Rattle.pb_price.specs.Price.{price_at, AreRests}
+use Rattle.pb_price.specs.Price.{PriceView, price_at, AreRests}
 use Rattle.pb_price.specs.Supporters.{SupportView}
 use Rattle.pb_price.specs.declared.answer.Answer.{Answer}
 use Rattle.pb_price.specs.declared.claims.drawn.Drawn.{Drawn}
@@ -39,11 +39,11 @@ pub record IsDone (s : SupportView) (rests projects : List ℕ) (v : Drawn)
   pub few : length answers ≤ length projects
 
 -- the prices after each answer was put in its piece's place
-abbrev pub placed : List (Option ℕ) → List Answer → List (Option ℕ)
+abbrev pub placed : List (Option PriceView) → List Answer → List (Option PriceView)
 placed prices answers = fold (λ before answer. slice_set before answer.piece answer.price) prices answers
 
 -- the prices after the answers of some workers were put in their places, the last one's first
-abbrev pub gathered : {W : Type 0} → (W → List Answer) → List (Option ℕ) → List W → List (Option ℕ)
+abbrev pub gathered : {W : Type 0} → (W → List Answer) → List (Option PriceView) → List W → List (Option PriceView)
 gathered answers prices [] = prices
 gathered answers prices (w ∷ workers) = placed (gathered answers prices workers) (answers w)
 
@@ -56,7 +56,7 @@ drawn_pieces pieces numbers = count_by (λ n. nat_lt n pieces) numbers
 
 -- the answers of some workers, gathered: each piece that they drew has its price, as many were priced as
 -- pieces drawn, and each worker drew a number that is no piece
-pub record AreGathered (s : SupportView) (rests projects : List ℕ) (v : Drawn) (prices : List (Option ℕ))
+pub record AreGathered (s : SupportView) (rests projects : List ℕ) (v : Drawn) (prices : List (Option PriceView))
     (priced : ℕ) : Type 0 where
   pub one_each : length prices ≡ length projects
   pub right : (piece : ℕ) → piece < length projects → 0 < times piece v.numbers

@@ -4,7 +4,7 @@ use Rattle.std.specs.Prelude.{filter, length, map, not, slice_index, take}
 use Rattle.std.specs.List.{list_any, range_with_len}
 use Rattle.pb_core.specs.Election.{ElectionView}
 use Rattle.pb_core.specs.Order.{position_in}
-use Rattle.pb_price.specs.Supporters.{SupportView, cost_at, support_of}
+use Rattle.pb_price.specs.Supporters.{SupportView, cost_at, support_in, support_of}
 use Rattle.pb_reasons.specs.AllTies.{Changes, different, is_same_pair, told}
 use Rattle.pb_reasons.specs.Counted.{winners_of}
 use Rattle.pb_reasons.specs.CountedElection.{CountedElectionView, IsCountedElection}
@@ -30,7 +30,7 @@ told_with x first ties = map (λ place. with_other first (position_in x.order pl
 -- the ties of a round, from 0, of a run at this share that elects these
 abbrev pub round_ties : CountedElectionView → (run share : ℕ) → List ElectedView → ℕ → List ToldTie
 round_ties x run share elected round = told x run (round + 1)
-    (ties_in x.rule.options.measure (support_of x.election) share (take (round + 1) elected) round)
+    (ties_in x.rule.options.measure (support_in x.rule.options.grain x.election) share (take (round + 1) elected) round)
 
 -- those of an added project, from 0
 abbrev pub ties_at_added : CountedElectionView → ℕ → List ToldTie

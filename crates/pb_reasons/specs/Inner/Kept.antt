@@ -1,7 +1,8 @@
 -- What is kept to tell reasons from; private contracts speak of it.
 use Rattle.std.specs.Prelude.{◌≡◌, ℕ, ◌<◌, Bool, List, length, replicate, slice_index}
 use Rattle.pb_core.specs.Election.{ElectionView}
-use Rattle.pb_price.specs.Supporters.{SupportView, support_of}
+use Rattle.pb_price.specs.Supporters.{SupportView, support_in}
+use Rattle.pb_price.specs.declared.grain.Grain.{Grain}
 use Rattle.pb_rounds.specs.Outcome.{OutcomeView}
 use Rattle.pb_rounds.specs.Run.{ElectedView}
 use Rattle.pb_reasons.specs.Counted.{CountedView, winners_of}
@@ -22,11 +23,11 @@ pub record ReasonsView : Type 0 where
   pub in_full : List ℕ
 
 -- these are the reasons of this outcome
-pub record AreReasons (e : ElectionView) (o : OutcomeView) (r : ReasonsView) : Type 0 where
-  pub supporters : r.supporters ≡ support_of e
+pub record AreReasons (grain : Grain) (e : ElectionView) (o : OutcomeView) (r : ReasonsView) : Type 0 where
+  pub supporters : r.supporters ≡ support_in grain e
   pub rounds : AreRounds (length e.projects) o.elected r.rounds
   pub in_full : r.in_full
-      ≡ full_payers_by_round (support_of e) (replicate (length e.voters) o.share) o.elected
+      ≡ full_payers_by_round (support_in grain e) (replicate (length e.voters) o.share) o.elected
 
 -- what contracts see of what is kept of a count: the reasons of its outcome, the number of each project among
 -- the added ones, the winners, and whether each project is one of these
@@ -37,8 +38,8 @@ pub record KeptView : Type 0 where
   pub flags : List Bool
 
 -- this is kept of what a count comes to
-pub record IsKept (e : ElectionView) (c : CountedView) (k : KeptView) : Type 0 where
-  pub reasons : AreReasons e c.outcome k.reasons
+pub record IsKept (grain : Grain) (e : ElectionView) (c : CountedView) (k : KeptView) : Type 0 where
+  pub reasons : AreReasons grain e c.outcome k.reasons
   pub numbers : AreNumbers (length e.projects) c.added k.numbers
   pub winners : k.winners ≡ winners_of c
   pub flags : AreFlags (length e.projects) k.winners k.flags

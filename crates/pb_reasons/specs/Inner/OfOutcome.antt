@@ -3,8 +3,10 @@ use Rattle.std.specs.Prelude.{ℕ, ◌+◌, ◌-◌, ◌==◌, List, Option, Som
 use Rattle.std.specs.Prelude.{nat_lt, slice_get, slice_index, sum_by}
 use Rattle.pb_core.specs.Election.{ElectionView}
 use Rattle.pb_rounds.specs.MostVotes.{is_taken}
+use Rattle.pb_price.specs.Grain.{in_parts}
 use Rattle.pb_price.specs.Price.{total_rest}
 use Rattle.pb_price.specs.Supporters.{ballot_at, cost_at, support_of, supporters_at}
+use Rattle.pb_price.specs.declared.grain.Grain.{Grain}
 use Rattle.pb_rounds.specs.Count.{spent_on}
 use Rattle.pb_rounds.specs.Counted.{IsCountOf}
 use Rattle.pb_rounds.specs.Outcome.{OutcomeView}
@@ -18,24 +20,25 @@ use Rattle.pb_reasons.specs.declared.project_reason.ProjectReason.{ProjectReason
 use Rattle.pb_reasons.specs.declared.totals.Totals.{Totals}
 use Rattle.pb_reasons.specs.declared.voter_reason.VoterReason.{VoterReason}
 
-abbrev pub outcome_ending : ElectionView → OutcomeView → ℕ → Option ElectedView → Ending
-outcome_ending e o place (Some w) =
+abbrev pub outcome_ending : Grain → ElectionView → OutcomeView → ℕ → Option ElectedView → Ending
+outcome_ending grain e o place (Some w) =
     let supporters = supporters_at (support_of e) place in
     Won
     (record {
       round = round_of o.elected place + 1;
       price = w.price;
+      exact = w.exact;
       collected = w.collected;
       in_full = count_by (λ voter. paid_for e o place voter == w.price) supporters;
     })
-outcome_ending e o place None =
+outcome_ending grain e o place None =
     let left = total_rest (supporters_at (support_of e) place) o.rests in
-    Lost (record { left = left; missing = cost_at (support_of e) place - left })
+    Lost (record { left = left; missing = in_parts grain (length e.voters) (cost_at (support_of e) place) - left })
 
-abbrev pub outcome_reason : ElectionView → OutcomeView → ℕ → ProjectReason
-outcome_reason e o place = record {
+abbrev pub outcome_reason : Grain → ElectionView → OutcomeView → ℕ → ProjectReason
+outcome_reason grain e o place = record {
   votes = length (supporters_at (support_of e) place);
-  ending = outcome_ending e o place (slice_get o.elected (round_of o.elected place));
+  ending = outcome_ending grain e o place (slice_get o.elected (round_of o.elected place));
 }
 
 abbrev pub outcome_voter : ElectionView → OutcomeView → ℕ → VoterReason
@@ -50,10 +53,11 @@ outcome_voter e o voter = record {
 abbrev pub collected_for : List ElectedView → ℕ
 collected_for elected = sum_by (λ w. w.collected) elected
 
-abbrev pub outcome_totals : ElectionView → List ElectedView → Totals
-outcome_totals e elected =
+abbrev pub outcome_totals : Grain → ElectionView → List ElectedView → Totals
+outcome_totals grain e elected =
     let spent = spent_on (support_of e) elected in
-    record { spent = spent; surplus = collected_for elected - spent }
+    let cost = in_parts grain (length e.voters) spent in
+    record { spent = spent; surplus = collected_for elected - cost + (cost - collected_for elected) }
 
 -- an outcome that a count of the election comes to
 abbrev pub IsOutcome : ElectionView → OutcomeView → Type 0

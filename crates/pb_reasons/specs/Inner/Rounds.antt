@@ -1,50 +1,50 @@
 -- How the ties of a round are looked for, with a lower bound of each price; private contracts speak of it.
-use Rattle.std.specs.Prelude.{◌≡◌, ℕ, ◌+◌, ◌*◌, ◌<◌, ◌≤◌, ◌==◌, ◌&&◌, Bool, true, false, List, Option, Some, None, filter}
+use Rattle.std.specs.Prelude.{◌≡◌, ℕ, ◌+◌, ◌*◌, ◌<◌, ◌==◌, ◌&&◌, Bool, true, false, List, Option, Some, None, filter}
 use Rattle.std.specs.Prelude.{if◌then◌else◌, length, map, not, slice_index_or}
 use Rattle.std.specs.BTreeSet.{BTreeSet, contains_by}
 use Rattle.std.specs.List.{range_with_len}
 use Rattle.std.specs.Ordering.{nat_cmp}
-use Rattle.pb_price.specs.Price.{price_at}
+use Rattle.pb_price.specs.Inner.Payment.{nothing}
+use Rattle.pb_price.specs.Price.{AtMost, HasPayers, PriceView, price_at}
 use Rattle.pb_price.specs.Supporters.{SupportView, cost_at}
 use Rattle.pb_rounds.specs.MostVotes.{is_taken, votes_at}
 use Rattle.pb_rounds.specs.Run.{ElectedView, is_elected, weight_of}
 use Rattle.pb_rounds.specs.declared.measure.Measure.{Measure}
-use Rattle.pb_rounds.specs.declared.measure.Measure.TheVariants.{Votes, Cost}
 use Rattle.pb_reasons.specs.Counted.{CountedView, winners_of}
 use Rattle.pb_reasons.specs.Ties.{is_tied}
 use Rattle.pb_reasons.specs.declared.tie.Tie.{Tie}
 
 -- this price of the project at this place is as good as the winner's
-abbrev pub is_as_good : Measure → SupportView → (winner : ElectedView) → (place price : ℕ) → Bool
-is_as_good m s winner place price = price * weight_of m s winner.place == winner.price * weight_of m s place
+abbrev pub is_as_good : Measure → SupportView → (winner : ElectedView) → (place : ℕ) (price : PriceView) → Bool
+is_as_good m s winner place price =
+    price.amount * (winner.exact.payers * weight_of m s winner.place) == winner.exact.amount * (price.payers * weight_of m s place)
 
--- the two numbers that are compared: what a price counts for, and what it has to count for to be as good as
--- the winner's
-abbrev pub scaled : Measure → SupportView → (winner : ElectedView) → (price : ℕ) → ℕ
-scaled Votes s winner price = price
-scaled Cost s winner price = price * cost_at s winner.place
+-- the two numbers that are compared: what a price counts for, and what it has to count for, with so many payers, to be
+-- as good as the winner's
+abbrev pub scaled : Measure → SupportView → (winner : ElectedView) → (price : PriceView) → ℕ
+scaled m s winner price = price.amount * (winner.exact.payers * weight_of m s winner.place)
 
-abbrev pub target : Measure → SupportView → (winner : ElectedView) → (place : ℕ) → ℕ
-target Votes s winner place = winner.price
-target Cost s winner place = winner.price * cost_at s place
+abbrev pub target : Measure → SupportView → (winner : ElectedView) → (place : ℕ) (price : PriceView) → ℕ
+target m s winner place price = winner.exact.amount * (price.payers * weight_of m s place)
 
--- a lower bound of a project's price at these rests; none where the project is elected or has no price
-abbrev pub IsTieBound : SupportView → (elected : List ElectedView) (rests : List ℕ) (place : ℕ) → Option ℕ → Type 0
+-- a lower bound of a project's price at these rests, with payers as such prices have; none where the project is elected or has no price
+abbrev pub IsTieBound : SupportView → (elected : List ElectedView) (rests : List ℕ) (place : ℕ) → Option PriceView → Type 0
 IsTieBound s elected rests place None = is_elected elected place ≡ false → price_at s rests place ≡ None
 IsTieBound s elected rests place (Some bound) =
-    (is_elected elected place ≡ false) × ((price : ℕ) → price_at s rests place ≡ Some price → bound ≤ price)
+    (is_elected elected place ≡ false) × HasPayers s bound
+    × ((price : PriceView) → price_at s rests place ≡ Some price → AtMost bound price)
 
 -- one of each project
-pub record AreTieBounds (s : SupportView) (elected : List ElectedView) (rests : List ℕ) (bounds : List (Option ℕ)) : Type 0 where
+pub record AreTieBounds (s : SupportView) (elected : List ElectedView) (rests : List ℕ) (bounds : List (Option PriceView)) : Type 0 where
   pub one_each : length bounds ≡ length s.costs
   pub each : (place : ℕ) → place < length s.costs
       → IsTieBound s elected rests place (slice_index_or bounds place None)
 
 -- before the first round: 0, and none for the elected
-pub record AreOpeningBounds (projects : ℕ) (elected : List ElectedView) (bounds : List (Option ℕ)) : Type 0 where
+pub record AreOpeningBounds (projects : ℕ) (elected : List ElectedView) (bounds : List (Option PriceView)) : Type 0 where
   pub one_each : length bounds ≡ projects
   pub each : (place : ℕ) → place < projects
-      → slice_index_or bounds place None ≡ (if is_elected elected place then None else Some 0)
+      → slice_index_or bounds place None ≡ (if is_elected elected place then None else Some nothing)
 
 -- the ties among these projects with the winner of a round, from 1, at these rests
 abbrev pub ties_among : Measure → SupportView → (elected : List ElectedView) (rests : List ℕ) (winner : ElectedView)

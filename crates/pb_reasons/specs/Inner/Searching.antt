@@ -6,7 +6,7 @@ use Rattle.pb_reasons.specs.Counted.{is_selected}
 use Rattle.pb_reasons.specs.CountedElection.{CountedElectionView, IsCountIn}
 use Rattle.pb_rounds.specs.CountFault.{refusal_of}
 use Rattle.pb_rounds.specs.declared.count_fault.CountFault.{CountFault}
-use Rattle.pb_rounds.specs.declared.count_fault.CountFault.TheVariants.{NoMemory, RaisesSpent}
+use Rattle.pb_rounds.specs.declared.count_fault.CountFault.TheVariants.{NoMemory, RaisesSpent, TooFine}
 use Rattle.pb_reasons.specs.Inner.Numbered.{AreNumbered}
 use Rattle.pb_reasons.specs.WhatIf.{CanBe, IsTrue, Says, Seen, changed, seen, wins}
 use Rattle.pb_reasons.specs.declared.changes.change.Change.{Change}
@@ -36,6 +36,7 @@ pub record IsLent (s : Seen) (change : Change) (place value : ℕ) (e : Election
 pub record IsStop (q : Question) (fault : CountFault) : Type 0 where
   pub out_of_range : fault ≢ NoMemory → refusal_of q.rule.options ≡ Some fault
   pub not_spent : fault ≢ RaisesSpent
+  pub not_fine : fault ≢ TooFine
 
 -- two true rows of one change, the smaller value first
 pub record AreEnds (s : Seen) (q : Question) (change : Change) (low high : Row) : Type 0 where

@@ -3,7 +3,7 @@ use Rattle.std.specs.Prelude.{◌≡◌, ℕ, ◌*◌, ◌<◌, false, true, Lis
 use Rattle.std.specs.Prelude.{nat_le, slice_index, sum_by}
 use Rattle.std.specs.List.{range_with_len}
 use Rattle.pb_core.specs.Inner.Approved.{approves}
-use Rattle.pb_price.specs.Supporters.{SupportView, ballot_at, support_of}
+use Rattle.pb_price.specs.Supporters.{SupportView, ballot_at, support_in}
 use Rattle.pb_rounds.specs.MostVotes.{is_taken}
 use Rattle.pb_rounds.specs.Run.{weight_of}
 use Rattle.pb_rounds.specs.Fairness.{paid_within}
@@ -34,7 +34,7 @@ pub record NotesSpent (winners : List ℕ) (spent_by : ℕ → ℕ) (ballot old 
 
 -- the most after these supporters of the project at this place
 abbrev pub most_of : CountedElectionView → (place : ℕ) → List ℕ → ℕ
-most_of c place supporters = let s = support_of c.election in
+most_of c place supporters = let s = support_in c.rule.options.grain c.election in
     let o = c.counted.outcome in fold
     (λ most voter. max most
     (paid_within c.rule.options.measure s o.share o.elected place (needed s place) voter)) 0 supporters

@@ -53,6 +53,7 @@ pub(crate) fn verdict_of<T: Threads + Sync, G: Gate>(
         Ok(true) => Ok(Verdict::Won),
         Ok(false) => Ok(Verdict::Lost),
         Err(CountFault::RaisesSpent) => Ok(Verdict::Refused),
+        Err(CountFault::TooFine) => Ok(Verdict::Refused),
         Err(fault) => Err(fault),
     }
 }

@@ -1,7 +1,7 @@
 -- When every share between two elects the same projects.
 use Rattle.std.specs.Prelude.{◌≡◌, ℕ, Some, None, List, [], ◌∷◌, length, map, replicate, true}
 use Rattle.std.specs.List.{range_with_len}
-use Rattle.pb_price.specs.Price.{price_at}
+use Rattle.pb_price.specs.Price.{PriceView, due, price_at}
 use Rattle.pb_price.specs.Supporters.{SupportView, supporters_at}
 use Rattle.pb_rounds.specs.Key.{is_before}
 use Rattle.pb_rounds.specs.Inner.Listed.{is_listed}
@@ -18,11 +18,11 @@ places_of_elected elected = map (λ w. w.place) elected
 abbrev pub KeepsElecting : Measure → SupportView → List ElectedView → List ℕ → List ℕ → Type 0
 KeepsElecting m s [] rests left =
     (place : ℕ) → is_listed left place ≡ true → price_at s rests place ≡ None
-KeepsElecting m s (w ∷ elected) rests left = (price : ℕ)
+KeepsElecting m s (w ∷ elected) rests left = (price : PriceView)
     × (price_at s rests w.place ≡ Some price)
-    × ((other p : ℕ) → is_listed (without w.place left) other ≡ true → price_at s rests other ≡ Some p
-    → is_before (key_of m s w.place w.price) (key_of m s other p) ≡ true)
-    × KeepsElecting m s elected (charged (supporters_at s w.place) price rests) (without w.place left)
+    × ((other : ℕ) (p : PriceView) → is_listed (without w.place left) other ≡ true → price_at s rests other ≡ Some p
+    → is_before (key_of m s w.place w.exact) (key_of m s other p) ≡ true)
+    × KeepsElecting m s elected (charged (supporters_at s w.place) (due price) rests) (without w.place left)
 
 -- the projects elected at the smaller share are so from the larger one
 abbrev pub KeepsUpTo : Measure → SupportView → ℕ → ℕ → Type 0

@@ -2,7 +2,7 @@
 -- private functions speak of it.
 use Rattle.std.specs.Prelude.{◌≡◌, ℕ, Option, None, Some, List, ◌∷◌, ◌++◌, [], ◌<◌, ◌≤◌, length, replicate}
 use Rattle.std.specs.Prelude.{true}
-use Rattle.pb_price.specs.Price.{price_at}
+use Rattle.pb_price.specs.Price.{AtMost, HasPayers, PriceView, due, price_at}
 use Rattle.pb_price.specs.Supporters.{SupportView, supporters_at}
 use Rattle.pb_rounds.specs.Key.{KeyView, is_before}
 use Rattle.pb_rounds.specs.Outcome.{OutcomeView}
@@ -16,10 +16,11 @@ pub record HasBounds (m : Measure) (s : SupportView) (rests left : List ℕ) (qu
   pub known : (place : ℕ) → is_listed left place ≡ true → place < length s.costs
   pub are_left : (k : KeyView) → IsIn k queue → is_listed left k.place ≡ true
   pub are_keys : (k : KeyView) → IsIn k queue → k ≡ key_of m s k.place k.price
-  pub lower : (k : KeyView) (p : ℕ) → IsIn k queue → price_at s rests k.place ≡ Some p → k.price ≤ p
+  pub payers : (k : KeyView) → IsIn k queue → HasPayers s k.price
+  pub lower : (k : KeyView) (p : PriceView) → IsIn k queue → price_at s rests k.place ≡ Some p → AtMost k.price p
   pub one_each : (first second : KeyView) → IsIn first queue → IsIn second queue → first.place ≡ second.place
       → first ≡ second
-  pub whole : (place p : ℕ) → is_listed left place ≡ true → price_at s rests place ≡ Some p
+  pub whole : (place : ℕ) (p : PriceView) → is_listed left place ≡ true → price_at s rests place ≡ Some p
       → (k : KeyView) × IsIn k queue × (k.place ≡ place)
   pub rises : Rises queue
 
@@ -28,7 +29,8 @@ pub record IsOpening (m : Measure) (s : SupportView) (share places : ℕ) (queue
   pub known : (k : KeyView) → IsIn k queue → k.place < places
   pub priced : (k : KeyView) → IsIn k queue → price_at s (replicate s.voters share) k.place ≡ Some k.price
   pub are_keys : (k : KeyView) → IsIn k queue → k ≡ key_of m s k.place k.price
-  pub whole : (place p : ℕ) → place < places → price_at s (replicate s.voters share) place ≡ Some p
+  pub payers : (k : KeyView) → IsIn k queue → HasPayers s k.price
+  pub whole : (place : ℕ) (p : PriceView) → place < places → price_at s (replicate s.voters share) place ≡ Some p
       → IsIn (key_of m s place p) queue
   pub rises : Rises queue
 
@@ -41,7 +43,7 @@ IsBeyond (Some limit) k = is_before limit k ≡ true
 -- project left that has a price is beyond the limit
 abbrev pub FindsBest : Measure → SupportView → List ℕ → List ℕ → Option KeyView → List KeyView → Option KeyView → Type 0
 FindsBest m s rests left limit queue None =
-    ((place p : ℕ) → is_listed left place ≡ true → price_at s rests place ≡ Some p → IsBeyond limit (key_of m s place p))
+    ((place : ℕ) (p : PriceView) → is_listed left place ≡ true → price_at s rests place ≡ Some p → IsBeyond limit (key_of m s place p))
     × HasBounds m s rests left queue
 FindsBest m s rests left limit queue (Some w) =
     (best_of m s rests left ≡ Some w) × HasBounds m s rests (without w.place left) queue
@@ -52,10 +54,10 @@ pub record Follows (m : Measure) (s : SupportView) (left : List ℕ) (last : Ele
   pub best : KeyView
   pub is_best : best_of m s o.rests left ≡ Some best
   pub same : best.place ≡ last.place
-  pub others : (other p : ℕ) → is_listed (without best.place left) other ≡ true → price_at s o.rests other ≡ Some p
-      → is_before (key_of m s best.place last.price) (key_of m s other p) ≡ true
+  pub others : (other : ℕ) (p : PriceView) → is_listed (without best.place left) other ≡ true → price_at s o.rests other ≡ Some p
+      → is_before (key_of m s best.place last.exact) (key_of m s other p) ≡ true
   pub elects : next ≡ record o {
     elected = o.elected ++ elected_by s o.rests best ∷ [];
-    rests = charged (supporters_at s best.place) best.price o.rests;
+    rests = charged (supporters_at s best.place) (due best.price) o.rests;
   }
   pub bounds : HasBounds m s o.rests (without best.place left) queue

@@ -1,6 +1,6 @@
 -- The front of a completion: the first rounds of its runs, as far as they are the same at every larger share.
 -- Only clauses of private functions speak of it.
-use Rattle.std.specs.Prelude.{◌≡◌, ℕ, ◌∷◌, ◌+◌, ◌≤◌, All, Bool, Some, List, map, replicate, slice_index}
+use Rattle.std.specs.Prelude.{◌≡◌, ℕ, ◌∷◌, ◌+◌, ◌*◌, ◌≤◌, All, Bool, Some, List, map, replicate, slice_index}
 use Rattle.pb_price.specs.Price.{largest_share, price_at}
 use Rattle.pb_price.specs.Inner.Lists.{NoRestRises}
 use Rattle.pb_price.specs.Supporters.{IsSupport, SupportView, supporters_at}
@@ -64,12 +64,12 @@ with_next head f = record {
   outcome = f.outcome;
 }
 
--- each supporter of the project can pay this price
+-- each supporter of the project can pay this price in full
 abbrev pub CanAllPay : SupportView → List ℕ → KeyView → Type 0
-CanAllPay s rests k = All (λ voter. k.price ≤ slice_index rests voter) (supporters_at s k.place)
+CanAllPay s rests k = All (λ voter. k.price.amount ≤ slice_index rests voter * k.price.payers) (supporters_at s k.place)
 
 -- the copy has those of these keys whose price is at most the share
 pub record IsCopyUpTo (share : ℕ) (queue copy : List KeyView) : Type 0 where
   pub sound : (k : KeyView) → IsIn k copy → IsIn k queue
-  pub whole : (k : KeyView) → IsIn k queue → k.price ≤ share → IsIn k copy
+  pub whole : (k : KeyView) → IsIn k queue → k.price.amount ≤ share * k.price.payers → IsIn k copy
   pub rises : Rises copy

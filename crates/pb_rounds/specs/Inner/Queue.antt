@@ -1,6 +1,7 @@
 -- The queue of stale prices as the code keeps it. Only clauses of private functions speak of it.
 use Rattle.std.specs.Prelude.{◌≡◌, ◌≢◌, ℕ, Bool, true, false, Option, Some, None, List, [], ◌∷◌, ◌++◌, ◌<◌}
 use Rattle.std.specs.Prelude.{◌≤◌, ◌⊎◌, map, length, slice_index_or}
+use Rattle.pb_price.specs.Inner.Payment.{nothing}
 use Rattle.pb_price.specs.Supporters.{SupportView}
 use Rattle.pb_rounds.specs.Key.{KeyView, first_least, is_before}
 use Rattle.pb_rounds.specs.Run.{ElectedView, is_elected, key_of, keys_at}
@@ -65,10 +66,10 @@ pub record PutsBack (place : ℕ) (fresh queue all : List KeyView) : Type 0 wher
   pub put : (k : KeyView) → IsIn k fresh → k.place ≢ place → IsIn k all
   pub rises : Rises all
 
--- the keys of the first places, each at price 0
+-- the keys of the first places, each at a price of nothing
 pub record IsFull (m : Measure) (s : SupportView) (projects : ℕ) (queue : List KeyView) : Type 0 where
-  pub sound : (k : KeyView) → IsIn k queue → (k.place < projects) × (k ≡ key_of m s k.place 0)
-  pub whole : (place : ℕ) → place < projects → IsIn (key_of m s place 0) queue
+  pub sound : (k : KeyView) → IsIn k queue → (k.place < projects) × (k ≡ key_of m s k.place nothing)
+  pub whole : (place : ℕ) → place < projects → IsIn (key_of m s place nothing) queue
   pub rises : Rises queue
 
 -- a mark for each project: whether it is elected

@@ -2,9 +2,11 @@
 use Rattle.std.specs.Prelude.{◌≡◌, ◌≢◌, ℕ, List, ◌≤◌, IfOk, Result, Some, true, false}
 use Rattle.pb_core.specs.Election.{ElectionView}
 use Rattle.pb_price.specs.PriceFault.{is_worker_count}
-use Rattle.pb_price.specs.Supporters.{SupportView, IsSupport, support_of}
+use Rattle.pb_price.specs.Price.{largest_share}
+use Rattle.pb_price.specs.Supporters.{SupportView, IsSupport, support_in}
+use Rattle.pb_price.specs.declared.grain.Grain.{Grain}
 use Rattle.pb_rounds.specs.Count.{add1_of, is_exhausted, is_over, share_after}
-use Rattle.pb_rounds.specs.CountFault.{largest_step, most_raises}
+use Rattle.pb_rounds.specs.CountFault.{most_raises}
 use Rattle.pb_rounds.specs.Outcome.{OutcomeView, settled, settled_by}
 use Rattle.pb_rounds.specs.Inner.KeyRecord.{HasKeyRecord}
 use Rattle.pb_rounds.specs.Run.{ElectedView, run_of}
@@ -39,9 +41,9 @@ pub record IsFound {F : Type 0} (m : Measure) (s : SupportView) (budget share : 
 -- election's own
 pub record CanComplete (e : ElectionView) (workers : ℕ) (s : SupportView) (step raises : ℕ) : Type 0 where
   pub few_workers : is_worker_count workers ≡ true
-  pub small_step : step ≤ largest_step
   pub few_raises : raises ≤ most_raises
-  pub own_supporters : s ≡ support_of e
+  pub own_supporters : s ≡ support_in s.grain e
+  pub small : share_after s.grain e step raises ≤ largest_share
 
 -- the outcome of a whole run at this share, after this many raises
 pub record IsOutcomeAt (m : Measure) (s : SupportView) (workers share raised : ℕ) (o : OutcomeView)
@@ -51,7 +53,7 @@ pub record IsOutcomeAt (m : Measure) (s : SupportView) (workers share raised : �
   pub is_support : IsSupport s
 
 -- the outcome in which a completion by raises ends
-pub record IsCompletion (m : Measure) (e : ElectionView) (workers step limit : ℕ) (o : OutcomeView)
+pub record IsCompletion (m : Measure) (grain : Grain) (e : ElectionView) (workers step limit : ℕ) (o : OutcomeView)
     : Type 0 where
-  pub decided : add1_of m e step limit ≡ Some o.raised
-  pub ended : IsOutcomeAt m (support_of e) workers (share_after e step o.raised) o.raised o
+  pub decided : add1_of m grain e step limit ≡ Some o.raised
+  pub ended : IsOutcomeAt m (support_in grain e) workers (share_after grain e step o.raised) o.raised o

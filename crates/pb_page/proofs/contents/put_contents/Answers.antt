@@ -13,8 +13,9 @@ returns c =
     (then_put _ _ _ _ _ _ c.in_ok-put_link_where-2.ensures
     (then_put _ _ _ _ _ _ c.in_ok-put_link-4.ensures
     (then_put _ _ _ _ _ _ c.in_ok-put_link_where-3.ensures
+    (then_put _ _ _ _ _ _ c.in_ok-put_link_where-4.ensures
     (then_put _ _ _ _ _ _ c.in_ok-put_link-5.ensures
     (then_put _ _ _ _ _ _ c.in_ok-put_link-6.ensures
-    c.put_own.ensures))))))))))
-    (contents_are c.args.facts.now c.args.count.now _ _ c.has_added-has_added.ensures
-    c.is_some-has_categories.ensures)
+    c.put_own.ensures)))))))))))
+    (contents_are c.args.facts.now c.args.count.now _ _ _ c.has_added-has_added.ensures
+    c.is_some-has_categories.ensures c.is_some-is_decided.ensures)

@@ -9,5 +9,6 @@ returns c = (then_put _ _ _ _ _ _ c.in_ok-put_budget.ensures
     (then_put _ _ _ _ _ _ c.in_ok-put_categories.ensures
     (then_put _ _ _ _ _ _ c.in_ok-put_voters.ensures
     (then_put _ _ _ _ _ _ c.in_ok-put_besides.ensures
+    (then_put _ _ _ _ _ _ (rw c.rule-rule.ensures at c.in_ok-put_decided.ensures)
     (then_put _ _ _ _ _ _ c.in_ok-put_rule.ensures
-    (rw c.rule.ensures at c.put_check.ensures)))))))))
+    (rw c.rule-rule.ensures at c.put_check.ensures))))))))))

@@ -9,5 +9,5 @@ use Rattle.pb_page.proofs.project_row.put_added.Goals as goal
 pub returns : goal.returns
 returns c =
     let l = c.args.language.now in let r = c.args.row.now in
-    alike_put _ _ (ended_row l r.short r.budget (project_of r) r.votes (λ left. []) (Added c.args.added.now)) _ _ c.put.ensures
-    (added_is l r.short r.budget (project_of r) _ r.votes c.args.added.now c.bar.ensures)
+    alike_put _ _ (ended_row l r.count.now r.short r.budget (project_of r) r.votes (λ left. []) (Added c.args.added.now)) _ _ c.put.ensures
+    (added_is l r.count.now r.short r.budget (project_of r) _ r.votes c.args.added.now c.bar.ensures)

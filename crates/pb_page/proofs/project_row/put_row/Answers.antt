@@ -1,4 +1,4 @@
-use Rattle.std.proofs.Common.{◌≡◌, ◌∙◌, ap}
+use Rattle.std.proofs.Common.{◌≡◌, ◌∙◌, ap, sym}
 use Rattle.pb_core.specs.Election.{ElectionView}
 use Rattle.pb_reasons.specs.CountedElection.{CountedElectionView}
 use Rattle.pb_reasons.specs.declared.project_reason.ProjectReason.{ProjectReason}
@@ -7,7 +7,12 @@ use Rattle.pb_page.specs.Page.{project_at, row_at}
 use Rattle.pb_page.proofs.Grown.{alike_put, then_put}
 use Rattle.pb_page.proofs.Blocks.{project_read}
 use Rattle.pb_page.proofs.Tables.{row_is}
+use Rattle.pb_page.proofs.WonPayers.{won_has_payers}
 use Rattle.pb_page.proofs.project_row.put_row.Goals as goal
+
+pub put_ended-requires : goal.put_ended-requires
+put_ended-requires c = λ won is.
+    won_has_payers c.args.count.now c.election-election.ensures.is_counted c.args.place won (sym (ap (λ (r : ProjectReason). r.ending) c.project-reason.ensures) ∙ is)
 
 pub returns : goal.returns
 returns c =

@@ -15,5 +15,5 @@ pub returns : goal.returns
 returns c =
     alike_put _ _ (raises_ended c.args.language.now c.args.count.now (Over c.args.next.now)) _ _
     (then_put _ _ _ _ _ _ c.in_ok-say_item.ensures (then_put _ _ _ _ _ _ c.in_ok-put_then.ensures c.put_those.ensures))
-    (over_is c.args.language.now c.args.count.now c.args.next.now _ _ _ refl
+    (over_is c.args.language.now c.args.count.now c.args.next.now _ _ _ _ c.counted_in.ensures refl
     c.as_slice-only_then.ensures.value c.as_slice-no_more.ensures.value)

@@ -1,4 +1,7 @@
-use Rattle.std.proofs.Common.{ℕ, ap}
+use Rattle.std.proofs.Common.{[], ℕ, ap}
+use Rattle.pb_page.specs.declared.keys.TheConstants as key
+use Rattle.pb_rounds.specs.RuleNames.{by_grain}
+use Rattle.pb_rounds.specs.declared.rule.Rule.{Rule}
 use Rattle.pb_page.specs.Content.{item, said, section}
 use Rattle.pb_page.specs.Inner.Counted.{filled_up}
 use Rattle.pb_page.specs.Page.{rule}
@@ -16,6 +19,8 @@ returns c =
     (then_put _ _ _ _ _ _ c.in_ok-put_voted.ensures
     (then_put _ _ _ _ _ _ c.in_ok-put_item.ensures
     (then_put _ _ _ _ _ _ c.in_ok-put_filled_up.ensures
+    (then_put _ _ _ _ _ _ c.in_ok-put_fine.ensures
     (then_put _ _ _ _ _ _ c.in_ok-put_ties.ensures
-    c.put_own-2.ensures)))))))
-    (rule_is l x c.args.end.now _ _ (ap said_at (rw c.rule-rule.ensures at c.method_key.ensures)) (ap (filled_up l) c.rule-rule.ensures) c.requires.shared)
+    c.put_own-2.ensures))))))))
+    (rule_is l x c.args.end.now _ _ _ (ap said_at (rw c.rule-rule.ensures at c.method_key.ensures)) (ap (filled_up l) c.rule-rule.ensures)
+    (ap (λ (r : Rule). by_grain r.options.grain [] (item (said l key.FINE_MONEY))) c.rule-rule.ensures) c.requires.shared)

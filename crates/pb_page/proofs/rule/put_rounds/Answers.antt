@@ -1,4 +1,5 @@
-use Rattle.std.proofs.Common.{◌∙◌, ℕ, ap}
+use Rattle.std.proofs.Common.{◌∙◌, ℕ, ap, false}
+use Rattle.pb_page.specs.Page.{counted_in}
 use Rattle.pb_rounds.specs.Outcome.{OutcomeView}
 use Rattle.pb_page.specs.Content.{item, said}
 use Rattle.pb_page.specs.Inner.Counted.{rounds_said}
@@ -10,7 +11,7 @@ use Rattle.pb_page.proofs.rule.put_rounds.Goals as goal
 pub returns : goal.returns
 returns c =
     let x = c.args.count.now in let l = c.args.language.now in
-    let share = c.share_of-share.ensures ∙ ap (λ (o : OutcomeView). o.share) c.outcome.ensures.outcome in
+    let share = c.counted_in-share.ensures ∙ ap (counted_in x false 1) (c.share_of.ensures ∙ ap (λ (o : OutcomeView). o.share) c.outcome.ensures.outcome) in
     let raised = c.raised_by-raised.ensures ∙ ap (λ (o : OutcomeView). o.raised) c.outcome-2.ensures.outcome in
     let said_at = λ (k : ℕ). item (said l k) in
     alike_put _ _ (rounds_said l x c.args.end.now) _ _ (then_put _ _ _ _ _ _ c.in_ok-put_share.ensures

@@ -1,7 +1,7 @@
 use Rattle.std.proofs.Common.{refl}
 use Rattle.pb_page.specs.Inner.Filling.{cut}
 use Rattle.pb_page.specs.Inner.Value.{at_place}
-use Rattle.pb_page.specs.declared.place.Place.TheVariants.{Text, Digits, Noun, Shown, Amount, Nameless, Said, Code, Files, Link, Project}
+use Rattle.pb_page.specs.declared.place.Place.TheVariants.{Text, Digits, Noun, Shown, Nameless, Said, Code, Files, Link, Project}
 use Rattle.pb_page.proofs.Grown.{alike_put}
 use Rattle.pb_page.proofs.sentences.put_place.Goals as goal
 
@@ -20,10 +20,6 @@ returns-in-Noun c = rw c.in-Noun.is (alike_put _ _ (at_place c.args.language.now
 pub returns-in-Shown : goal.returns-in-Shown
 unfolding cut
 returns-in-Shown c = rw c.in-Shown.is (alike_put _ _ (at_place c.args.language.now (Shown c.in-Shown.amount c.in-Shown.form)) _ _ c.put-in-Shown.ensures (λ rest. refl))
-
-pub returns-in-Amount : goal.returns-in-Amount
-unfolding cut
-returns-in-Amount c = rw c.in-Amount.is (alike_put _ _ (at_place c.args.language.now (Amount c.in-Amount.name c.in-Amount.amount c.in-Amount.form)) _ _ c.put-in-Amount.ensures (λ rest. refl))
 
 pub returns-in-Nameless : goal.returns-in-Nameless
 unfolding cut

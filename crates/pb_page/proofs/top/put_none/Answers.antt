@@ -7,4 +7,4 @@ pub returns : goal.returns
 returns c =
     alike_put _ _ (result_said c.args.language.now c.args.figures.now) _ _ (then_put _ _ _ _ _ _ c.in_ok-put.ensures
     c.say.ensures)
-    (none_is c.args.language.now c.args.figures.now c.requires)
+    (none_is c.args.language.now c.args.figures.now _ c.surplus_name.ensures c.requires)

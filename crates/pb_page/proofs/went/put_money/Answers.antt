@@ -16,5 +16,5 @@ returns c =
     (then_put _ _ _ _ _ _ c.in_ok-put_nothing.ensures
     (then_put _ _ _ _ _ _ c.in_ok-say_item.ensures
     c.put_own.ensures)))))
-    (money_is c.args.language.now c.args.count.now c.args.left c.args.paid.now _ _ _ most
+    (money_is c.args.language.now c.args.count.now c.args.left c.args.paid.now _ _ _ _ c.counted_in.ensures most
     (ap (λ (m : MoneyView). m.others) c.paid.view_is) (c.is_empty.ensures ∙ ap (λ (ps : List Payment). length ps == 0) most))

@@ -21,6 +21,6 @@ returns c =
     (then_put _ _ _ _ _ _ c.in_ok-put_own.ensures
     (then_put _ _ _ _ _ _ c.in_ok-put_own-2.ensures
     c.put.ensures)))
-    (works_is c.args.language.now c.args.count.now _ _ _ _ _ c.rule-rule.ensures c.election-election.ensures.election
+    (works_is c.args.language.now c.args.count.now _ _ _ _ c.rule-rule.ensures
     (ap (λ (n : ℕ). n == 0) (sym voters) ∙ (sym c.is_empty.ensures ∙ c.if-is_empty.false))
     c.works_key.ensures c.picture_of.ensures c.picture_key.ensures)

@@ -1,58 +1,12 @@
-use Rattle.std.proofs.Common.{◌≡◌, ◌∙◌, length, ap, arith}
-use Rattle.pb_price.specs.Inner.Payment.{payers_above}
-use Rattle.pb_price.specs.Price.{paid_at}
-use Rattle.pb_price.specs.Supporters.{supporters_at, cost_at}
-use Rattle.pb_price.proofs.Bounds.{bound_fits, look_bound, look_covers, look_none, look_payer, look_small}
-use Rattle.pb_price.proofs.SupporterLists.{known_voters, support_form}
+use Rattle.std.proofs.Common.{sym, ◌∙◌, ap, arith}
+use Rattle.pb_price.specs.Price.{PriceView}
+use Rattle.pb_price.proofs.NextBounds.{whole_bound}
 use Rattle.pb_price.proofs.steps.next_bound.Goals as goal
 
-pub collect-collected-requires-clause-known : goal.collect-collected-requires-clause-known
-collect-collected-requires-clause-known g c =
-    known_voters c.args.supporters.now c.of.ensures.is_support c.args.place c.requires.known c.of.result.now c.args.rests.now c.of.ensures.supporters c.requires.rests.one_each
-
-pub collect-collected-requires-clause-fits : goal.collect-collected-requires-clause-fits
-collect-collected-requires-clause-fits g c =
-    let fits = bound_fits (supporters_at c.args.supporters.now c.args.place) c.args.rests.now (cost_at c.args.supporters.now c.args.place) c.args.bound
-    ((support_form _ c.of.ensures.is_support).costs_positive c.args.place 0 c.requires.known) c.requires.bound in
-    let same = ap (λ xs. paid_at xs c.args.rests.now c.args.bound) c.of.ensures.supporters in
-    let lengths = ap length c.of.ensures.supporters in
-    let named : c.bound.inside.0 ≡ c.args.bound = omega (arith, c.bound.view_is) in
-    let at = ap (paid_at c.of.result.now c.args.rests.now) named in
-    omega (arith, fits, same, at, lengths, c.bound.view_is, (support_form _ c.of.ensures.is_support).costs_bounded c.args.place 0 c.requires.known, c.of.type_inv)
-
-pub returns-then-collected-cost-clause-price : goal.returns-then-collected-cost-clause-price
-returns-then-collected-cost-clause-price g c _ = look_covers (supporters_at c.args.supporters.now c.args.place) c.of.result.now c.args.rests.now (cost_at c.args.supporters.now c.args.place) c.cost-2.inside.0 c.args.bound
-    c.collect-collected.result.total c.collect-collected.result.payers_above c.collect-collected.result.rests c.of.ensures.supporters (omega (arith, c.cost-2.view_is, c.cost.ensures.cost))
-    (c.collect-collected.ensures.total ∙ ap (paid_at c.of.result.now c.args.rests.now) (omega (arith, c.bound.view_is))) (c.collect-collected.ensures.payers_above ∙ ap (payers_above c.of.result.now c.args.rests.now) (omega (arith, c.bound.view_is))) c.collect-collected.ensures.rests c.requires.bound c.if-collected-cost.true
-
-pub returns-then-collected-from-clause-none : goal.returns-then-collected-from-clause-none
-returns-then-collected-from-clause-none g c _ = look_none (supporters_at c.args.supporters.now c.args.place) c.of.result.now c.args.rests.now (cost_at c.args.supporters.now c.args.place) c.cost-2.inside.0 c.args.bound
-    c.collect-collected.result.total c.collect-collected.result.payers_above c.collect-collected.result.rests c.of.ensures.supporters (omega (arith, c.cost-2.view_is, c.cost.ensures.cost))
-    (c.collect-collected.ensures.total ∙ ap (paid_at c.of.result.now c.args.rests.now) (omega (arith, c.bound.view_is))) (c.collect-collected.ensures.payers_above ∙ ap (payers_above c.of.result.now c.args.rests.now) (omega (arith, c.bound.view_is))) c.collect-collected.ensures.rests (omega (arith, c.if-collected-from.true, c.from.ensures))
-
-pub div_ceil-requires : goal.div_ceil-requires
-div_ceil-requires g c = look_payer (supporters_at c.args.supporters.now c.args.place) c.of.result.now c.args.rests.now (cost_at c.args.supporters.now c.args.place) c.cost-2.inside.0 c.args.bound
-    c.collect-collected.result.total c.collect-collected.result.payers_above c.collect-collected.result.rests c.of.ensures.supporters (omega (arith, c.cost-2.view_is, c.cost.ensures.cost))
-    (c.collect-collected.ensures.total ∙ ap (paid_at c.of.result.now c.args.rests.now) (omega (arith, c.bound.view_is))) (c.collect-collected.ensures.payers_above ∙ ap (payers_above c.of.result.now c.args.rests.now) (omega (arith, c.bound.view_is))) c.collect-collected.ensures.rests (omega (arith, c.if-collected-cost.false)) (omega (arith, c.if-collected-from.false, c.from.ensures))
-
-pub returns-clause-small : goal.returns-clause-small
-returns-clause-small g c _ = let small = look_small (supporters_at c.args.supporters.now c.args.place) c.of.result.now c.args.rests.now (cost_at c.args.supporters.now c.args.place) c.cost-2.inside.0 c.args.bound
-    c.collect-collected.result.total c.collect-collected.result.payers_above c.collect-collected.result.rests c.of.ensures.supporters (omega (arith, c.cost-2.view_is, c.cost.ensures.cost))
-    (c.collect-collected.ensures.total ∙ ap (paid_at c.of.result.now c.args.rests.now) (omega (arith, c.bound.view_is))) (c.collect-collected.ensures.payers_above ∙ ap (payers_above c.of.result.now c.args.rests.now) (omega (arith, c.bound.view_is))) c.collect-collected.ensures.rests (omega (arith, c.if-collected-cost.false)) (omega (arith, c.if-collected-from.false, c.from.ensures))
-    c.div_ceil.result c.div_ceil.ensures in
-    omega (arith, small, c.bound.view_is)
-
-pub returns-clause-bound : goal.returns-clause-bound
-returns-clause-bound g c price e = let above = look_bound (supporters_at c.args.supporters.now c.args.place) c.of.result.now c.args.rests.now (cost_at c.args.supporters.now c.args.place) c.cost-2.inside.0 c.args.bound
-    c.collect-collected.result.total c.collect-collected.result.payers_above c.collect-collected.result.rests c.of.ensures.supporters (omega (arith, c.cost-2.view_is, c.cost.ensures.cost))
-    (c.collect-collected.ensures.total ∙ ap (paid_at c.of.result.now c.args.rests.now) (omega (arith, c.bound.view_is))) (c.collect-collected.ensures.payers_above ∙ ap (payers_above c.of.result.now c.args.rests.now) (omega (arith, c.bound.view_is))) c.collect-collected.ensures.rests (omega (arith, c.if-collected-cost.false)) (omega (arith, c.if-collected-from.false, c.from.ensures))
-    c.div_ceil.result c.div_ceil.ensures
-    price e in
-    omega (arith, above, c.bound.view_is)
-
-pub overflow_add-result : goal.overflow_add-result
-overflow_add-result g c = let small = look_small (supporters_at c.args.supporters.now c.args.place) c.of.result.now c.args.rests.now (cost_at c.args.supporters.now c.args.place) c.cost-2.inside.0 c.args.bound
-    c.collect-collected.result.total c.collect-collected.result.payers_above c.collect-collected.result.rests c.of.ensures.supporters (omega (arith, c.cost-2.view_is, c.cost.ensures.cost))
-    (c.collect-collected.ensures.total ∙ ap (paid_at c.of.result.now c.args.rests.now) (omega (arith, c.bound.view_is))) (c.collect-collected.ensures.payers_above ∙ ap (payers_above c.of.result.now c.args.rests.now) (omega (arith, c.bound.view_is))) c.collect-collected.ensures.rests (omega (arith, c.if-collected-cost.false)) (omega (arith, c.if-collected-from.false, c.from.ensures))
-    c.div_ceil.result c.div_ceil.ensures in
-    omega (arith, small, c.bound.view_is, (support_form _ c.of.ensures.is_support).costs_bounded c.args.place 0 c.requires.known)
+pub next_payment-requires-clause-bound : goal.next_payment-requires-clause-bound
+next_payment-requires-clause-bound g c payment least =
+    omega (
+      arith,
+      whole_bound c.args.supporters.now c.args.rests.now c.args.place (sym c.grain.ensures.grain ∙ c.in-Hundredths.is) c.args.bound c.requires.payers c.requires.bound payment least,
+      ap (λ (p : PriceView). p.amount) c.bound.view_is,
+    )

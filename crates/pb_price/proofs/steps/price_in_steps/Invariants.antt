@@ -1,10 +1,13 @@
-use Rattle.std.proofs.Common.{◌-◌}
-use Rattle.pb_price.specs.Supporters.{cost_at, supporters_at}
-use Rattle.pb_price.proofs.Bounds.{IsBound}
+use Rattle.std.proofs.Common.{ℕ, ◌-◌, ◌^◌, Some}
+use Rattle.pb_price.specs.Price.{AtMost, HasPayers, IsPrice, PriceView}
+use Rattle.pb_price.proofs.Heights.{height, highest}
 use Rattle.pb_price.proofs.steps.price_in_steps.Given as goal
 
 abbrev pub invariant-loop-next : goal.invariant-loop-next
-invariant-loop-next g l = IsBound (supporters_at l.supporters l.fn.place) l.rests (cost_at l.supporters l.fn.place) l.bound
+invariant-loop-next g l = record {
+  payers : HasPayers l.supporters l.bound;
+  at_most : (price : PriceView) → IsPrice l.supporters l.rests l.fn.place (Some price) → AtMost l.bound price;
+}
 
 abbrev pub decreases-loop-next : goal.decreases-loop-next
-decreases-loop-next g l = l.cost - l.bound
+decreases-loop-next g l = highest (2 ^ 64) - height l.bound

@@ -1,7 +1,7 @@
 use Rattle.std.proofs.Common.{◌≡◌, ◌<◌, ◌∙◌, List, ap, arith, length}
 use Rattle.pb_core.specs.Election.{VoterView}
 use Rattle.pb_price.proofs.BuiltLists.{ballot_read}
-use Rattle.pb_price.specs.Supporters.{support_of}
+use Rattle.pb_price.specs.Supporters.{support_in}
 use Rattle.pb_reasons.specs.Inner.Spending.{AreMost, within_need}
 use Rattle.pb_reasons.specs.Reasons.{voter_payments}
 use Rattle.pb_reasons.specs.declared.payment.Payment.{Payment}
@@ -32,7 +32,7 @@ pub loop-position-preserved : goal.loop-position-preserved
 loop-position-preserved c =
     let k = c.args.count.now in
     let e = k.election in
-    let s = support_of e in
+    let s = support_in k.rule.options.grain e in
     let m = k.rule.options.measure in
     let voter = c.loop-position.position in
     let same = c.loop-position.invariant.same in
@@ -47,7 +47,7 @@ loop-position-preserved c =
       most = most_more k voter c.places.result.now c.loop-position.most.items c.note_spent.new.most.items (λ place. within_need m s place c.as_slice.result.now)
           c.loop-position.invariant.most c.note_spent.ensures own
           (λ place. ap (λ (ps : List Payment). within_need m s place ps) payments
-          ∙ within_need_is m e k.counted.outcome is_counted.is_election (counted_can_be_told k is_counted) place voter is_voter ∙ omega arith);
+          ∙ within_need_is m k.rule.options.grain e k.counted.outcome is_counted.is_election (counted_can_be_told k is_counted) place voter is_voter ∙ omega arith);
     }
 
 pub returns-clause-spent : goal.returns-clause-spent

@@ -1,7 +1,7 @@
 use Rattle.std.proofs.Common.{◌≡◌, ◌<◌, ◌∙◌, ℕ, ap, arith, get_or, length, max, refl, set, sym}
 use Rattle.std.specs.Prelude.{slice_index}
 use Rattle.std.proofs.lemmas.List.{get_or_read}
-use Rattle.pb_price.specs.Supporters.{support_of}
+use Rattle.pb_price.specs.Supporters.{support_in}
 use Rattle.pb_reasons.specs.Counted.{winners_of}
 use Rattle.pb_reasons.specs.Inner.Spending.{within_need}
 use Rattle.pb_reasons.proofs.Spendings.{most_kept, most_noted}
@@ -15,7 +15,7 @@ loop-place-preserved c =
     let ballot = c.args.ballot.now in
     let i = c.loop-place.place-index in
     let place = get_or ballot i 0 in
-    let spent_by : ℕ → ℕ = λ place. within_need k.rule.options.measure (support_of k.election) place c.args.payments.now in
+    let spent_by : ℕ → ℕ = λ place. within_need k.rule.options.measure (support_in k.rule.options.grain k.election) place c.args.payments.now in
     let known : place < length most = omega (arith, c.loop-place.invariant.same_length, c.requires.one_each, c.requires.ballot i 0 c.loop-place-test.true) in
     elim c.if-not-has_won.branch [
       | then-not-has_won w ↦

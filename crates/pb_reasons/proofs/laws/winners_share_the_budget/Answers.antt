@@ -8,10 +8,10 @@ pub returns : goal.returns
 returns c = record {
   selected = selected_are_winners;
   once = λ x is. winners_differ x.election is.is_election x.counted (counted_is_result x is);
-  spent = λ x. winners_cost x.election x.counted;
+  spent = λ x. winners_cost x.rule.options.grain x.election x.counted;
   surplus = paid_beyond;
   paid = λ x is. (result_is_added x.election x.counted is.is_election (counted_is_result x is)).paid;
   none_fits = λ x place is fills.
-      none_fits_at_the_end x.election is.is_election x.counted place (counted_is_result x is)
+      none_fits_at_the_end x.election is.is_election x.rule.options.grain x.counted place (counted_is_result x is)
       (ap (λ (v : CountedView). v.fill_up) is.is_filled_up ∙ fills);
 }

@@ -3,8 +3,8 @@ use Rattle.std.specs.Prelude.{◌-◌, filter, flat_map}
 use Rattle.std.specs.List.{range_with_len}
 use Rattle.pb_price.proofs.BuiltLists.{range_with_len_more}
 use Rattle.pb_price.proofs.SupporterLists.{known_voters, supporters_increase}
-use Rattle.pb_price.specs.Price.{AreRests}
-use Rattle.pb_price.specs.Supporters.{SupportView, support_of, supporters_at}
+use Rattle.pb_price.specs.Price.{AreRests, HasPayers}
+use Rattle.pb_price.specs.Supporters.{SupportView, support_in, supporters_at}
 use Rattle.pb_rounds.proofs.BoundQueue.{charged_falls, opening_rests}
 use Rattle.pb_rounds.proofs.Progress.{AreRests-charged}
 use Rattle.pb_rounds.specs.MostVotes.{is_taken}
@@ -21,7 +21,7 @@ use Rattle.pb_reasons.specs.declared.told_tie.ToldTie.{ToldTie}
 use Rattle.pb_reasons.proofs.AllTies.{rests_more}
 use Rattle.pb_reasons.proofs.Far.{far_full, far_none, far_rows}
 use Rattle.pb_reasons.proofs.Paying.{whole_part}
-use Rattle.pb_reasons.proofs.RoundTies.{round_rows, run_rows, winner_bounds, winner_known, winner_queued}
+use Rattle.pb_reasons.proofs.RoundTies.{round_rows, run_rows, winner_bounds, winner_known, winner_payers, winner_queued}
 use Rattle.pb_reasons.proofs.TieQueue.{opening_queued}
 use Rattle.pb_reasons.proofs.TiedRounds.{opening_are_bounds, short_take, tie_bounds_fall}
 use Rattle.pb_reasons.proofs.separated.put_rounds.Goals as goal
@@ -29,7 +29,7 @@ use Rattle.pb_reasons.proofs.separated.put_rounds.Goals as goal
 pub loop-before-init : goal.loop-before-init
 loop-before-init c =
     let x = c.args.count.now in
-    let s = support_of x.election in
+    let s = support_in x.rule.options.grain x.election in
     let o = c.args.outcome.now in
     let t = c.supporters-supporters.result.now in
     let es = c.as_slice-elected.result.now in
@@ -44,7 +44,7 @@ loop-before-init c =
       rests = rests;
       are_rests = subst (AreRests s.voters) (sym rests) (opening_rests s o.share c.requires.small);
       bounds = subst₂ (λ (t : SupportView) (es : List ElectedView). AreTieBounds t (take 0 es) c.in_ok-rests.rests.items c.in_ok-bounds.bounds.items)
-          c.supporters-supporters.ensures elected (opening_are_bounds t (take 0 es) c.in_ok-rests.rests.items c.in_ok-bounds.bounds.items opening);
+          c.supporters-supporters.ensures elected (opening_are_bounds t (take 0 es) c.in_ok-rests.rests.items c.projects.ensures.is_support c.in_ok-bounds.bounds.items opening);
       queued = subst₂ (λ (m : Measure) (t : SupportView). AreQueued m t [] c.in_ok-bounds.bounds.items c.in_ok-queue.queue.keys) measure c.supporters-supporters.ensures
           (opening_queued c.rule.result.options.measure t (take 0 es) c.in_ok-bounds.bounds.items c.in_ok-queue.queue.keys opening c.in_ok-queue.ensures);
       told = far_none 100001 c.args.told.now.items c.requires.few;
@@ -96,6 +96,18 @@ others-requires-clause-winner c =
     let place : c.winner.inside.place ≡ w.place = ap (λ (v : ElectedView). v.place) c.winner.view_is in
     subst (λ (t : SupportView). c.winner.inside.place < length t.costs) (sym c.supporters-supporters.ensures) (omega (arith, known, place))
 
+pub others-requires-clause-payers : goal.others-requires-clause-payers
+others-requires-clause-payers c =
+    let x = c.args.count.now in
+    let o = c.args.outcome.now in
+    let i = c.loop-before.before in
+    let w = c.index-elected-before.result in
+    let elected : c.as_slice-elected.result.now ≡ o.elected = c.as_slice-elected.ensures.value ∙ ap (λ (v : OutcomeView). v.elected) c.outcome.view_is in
+    let below : i < length o.elected = subst (λ (es : List ElectedView). i < length es) elected c.loop-before-test.true in
+    let w_is : w ≡ get_or o.elected i w = c.index-elected-before.is ∙ ap (λ (es : List ElectedView). get_or es i w) elected in
+    let has = winner_payers x c.election-election.ensures.is_counted c.args.run o.share o.elected o.rests c.requires.is_run i w below w_is in
+    subst₂ (λ (t : SupportView) (v : ElectedView). HasPayers t v.exact) (sym c.supporters-supporters.ensures) (sym c.winner.view_is) has
+
 pub others-requires-clause-bounds : goal.others-requires-clause-bounds
 others-requires-clause-bounds c =
     let x = c.args.count.now in
@@ -108,7 +120,7 @@ others-requires-clause-bounds c =
     let known = winner_known x c.election-election.ensures.is_counted c.args.run o.share o.elected o.rests c.requires.is_run i w below w_is in
     let place : c.winner.inside.place ≡ w.place = ap (λ (v : ElectedView). v.place) c.winner.view_is in
     rw (c.supporters-supporters.ensures, elected, c.deref.ensures.value, place)
-    (winner_bounds (support_of x.election) o.elected i w below w_is c.loop-before.rests.items c.loop-before.bounds.items known c.loop-before.invariant.bounds)
+    (winner_bounds (support_in x.rule.options.grain x.election) o.elected i w below w_is c.loop-before.rests.items c.loop-before.bounds.items known c.loop-before.invariant.bounds)
 
 pub others-requires-clause-queued : goal.others-requires-clause-queued
 others-requires-clause-queued c =
@@ -122,7 +134,7 @@ others-requires-clause-queued c =
     let known = winner_known x c.election-election.ensures.is_counted c.args.run o.share o.elected o.rests c.requires.is_run i w below w_is in
     let place : c.winner.inside.place ≡ w.place = ap (λ (v : ElectedView). v.place) c.winner.view_is in
     rw (c.rule.ensures, c.supporters-supporters.ensures, place)
-    (winner_queued (support_of x.election) o.elected i w below w_is c.loop-before.rests.items c.loop-before.bounds.items known c.loop-before.invariant.bounds
+    (winner_queued (support_in x.rule.options.grain x.election) o.elected i w below w_is c.loop-before.rests.items c.loop-before.bounds.items known c.loop-before.invariant.bounds
     x.rule.options.measure c.loop-before.queue.keys c.loop-before.invariant.queued)
 
 pub put_others-requires : goal.put_others-requires
@@ -178,7 +190,7 @@ pub loop-before-preserved : goal.loop-before-preserved
 loop-before-preserved c =
     let x = c.args.count.now in
     let is : IsCountedElection x = c.election-election.ensures.is_counted in
-    let s = support_of x.election in
+    let s = support_in x.rule.options.grain x.election in
     let m = x.rule.options.measure in
     let o = c.args.outcome.now in
     let i = c.loop-before.before in
@@ -199,7 +211,7 @@ loop-before-preserved c =
     c.of.ensures.supporters ∙ ap (λ (t : SupportView). supporters_at t c.winner.inside.place) supporters ∙ ap (supporters_at s) place in
     let charged_is : c.pay.new.rests ≡ charged (supporters_at s w.place) w.price rests =
     rw (supporters_are, price, c.deref_mut.ensures.value) at c.pay.ensures.rests in
-    let winner : ElectedView = record { place = c.winner.inside.place; price = c.winner.inside.price; collected = c.winner.inside.collected } in
+    let winner : ElectedView = record { place = c.winner.inside.place; price = c.winner.inside.price; exact = c.winner.inside.exact; collected = c.winner.inside.collected } in
     let tied : Measure → SupportView → List ElectedView → List ℕ → ElectedView → List ℕ =
     λ m t es rests v. filter (is_tied m t (take (i + 1) es) rests v) (range_with_len 0 (length t.costs)) in
     let others_are : c.as_slice.result.now ≡ tied m s o.elected rests w =

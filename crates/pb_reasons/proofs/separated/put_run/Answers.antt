@@ -8,10 +8,6 @@ pub returns-then-len-gt-MOST_ROWS : goal.returns-then-len-gt-MOST_ROWS
 returns-then-len-gt-MOST_ROWS g c =
     sym (take_at c.args.told.now.items _ 100001 (omega (arith, c.if-len-gt-MOST_ROWS.true, c.len.ensures, c.requires.few, c.args.told.now.ok.0)))
 
-pub equal_shares-requires-after_bounds : goal.equal_shares-requires-after_bounds
-equal_shares-requires-after_bounds g c κs within =
-    subst (λ share. share ≤ largest_share) (sym c.share_after-share.ensures) (small_run c.args.count.now c.election-election.ensures.is_counted c.args.run c.requires.made)
-
 pub put_rounds-put-requires-clause-small : goal.put_rounds-put-requires-clause-small
 put_rounds-put-requires-clause-small g c =
     subst (λ share. share ≤ largest_share) (sym (c.in-Ok.ensures.outcome.0 ∙ c.share_after-share.ensures))

@@ -1,7 +1,8 @@
-use Rattle.std.proofs.Common.{◌≡◌, ℕ, ◌+◌, ◌++◌, drop, take, get_or, length, replicate, ◌∙◌, ap, sym, arith}
+use Rattle.std.proofs.Common.{◌≡◌, ℕ, ◌+◌, ◌++◌, drop, take, get_or, length, replicate, ◌∙◌, ap, subst, sym, arith}
 use Rattle.std.specs.Prelude.{flat_map}
 use Rattle.std.specs.List.{range_with_len}
 use Rattle.pb_price.proofs.SupporterLists.{known_voters, supporters_increase}
+use Rattle.pb_price.specs.Price.{HasPayers}
 use Rattle.pb_price.specs.Supporters.{supporters_at}
 use Rattle.pb_rounds.proofs.BoundQueue.{charged_falls, opening_rests}
 use Rattle.pb_rounds.proofs.Progress.{AreRests-charged}
@@ -25,7 +26,7 @@ loop-before-init c =
     record {
       rests = rests;
       are_rests = rw rests (opening_rests s c.args.share c.requires.small);
-      bounds = opening_are_bounds s c.args.elected.now c.in_ok-rests.rests.items c.in_ok-bounds.bounds.items (rw c.projects.ensures.projects at c.in_ok-bounds.ensures);
+      bounds = opening_are_bounds s c.args.elected.now c.in_ok-rests.rests.items c.projects.ensures.is_support c.in_ok-bounds.bounds.items (rw c.projects.ensures.projects at c.in_ok-bounds.ensures);
       queued = opening_queued c.args.measure s c.args.elected.now c.in_ok-bounds.bounds.items c.in_ok-queue.queue.keys (rw c.projects.ensures.projects at c.in_ok-bounds.ensures) c.in_ok-queue.ensures;
       ties = c.new-ties.ensures.items;
     }
@@ -37,6 +38,13 @@ find-requires-clause-winner c =
     let item : w.place ≡ (get_or c.args.elected.now c.loop-before.before w).place = ap (λ (v : ElectedView). v.place) c.index-elected-before.is in
     let known = c.requires.known c.loop-before.before w c.loop-before-test.true in
     omega (arith, place_is, item, known)
+
+pub find-requires-clause-payers : goal.find-requires-clause-payers
+find-requires-clause-payers c =
+    let s = c.args.supporters.now in
+    let w = c.index-elected-before.result in
+    subst (λ (v : ElectedView). HasPayers s v.exact) (sym c.winner.view_is)
+    (subst (λ (v : ElectedView). HasPayers s v.exact) (sym c.index-elected-before.is) (c.requires.payers c.loop-before.before w c.loop-before-test.true))
 
 pub find-requires-clause-few : goal.find-requires-clause-few
 find-requires-clause-few c = short_take 100 c.loop-before.ties.items _ c.loop-before.invariant.ties

@@ -1,11 +1,12 @@
 use Rattle.std.proofs.Common.{◌≡◌, ◌∙◌, ◌++◌, List, ap, length, take}
 use Rattle.std.specs.Prelude.{flat_map}
 use Rattle.std.specs.List.{range_with_len}
-use Rattle.pb_price.specs.Supporters.{support_of}
+use Rattle.pb_price.specs.Supporters.{support_in}
 use Rattle.pb_rounds.specs.Outcome.{OutcomeView}
 use Rattle.pb_reasons.specs.Ties.{ties_in, ties_of, ties_with_added}
 use Rattle.pb_reasons.specs.declared.tie.Tie.{Tie}
 use Rattle.pb_reasons.proofs.AllTies.{elected_are_known, small_share}
+use Rattle.pb_reasons.proofs.RoundTies.{run_payers}
 use Rattle.pb_reasons.proofs.TiedRounds.{short_take, take_again}
 use Rattle.pb_reasons.proofs.ties.ties_of.Goals as goal
 
@@ -22,7 +23,16 @@ replay_ties-requires-clause-small c =
     let count = c.args.count.now in
     let is = c.outcome-outcome.ensures.is_counted in
     let share = ap (λ (v : OutcomeView). v.share) (c.outcome.view_is ∙ c.outcome-outcome.ensures.outcome) in
-    rw share (small_share count.election count.rule.options count.counted.outcome is.is_election is.is_count)
+    rw share (small_share count.election count.rule.options count.counted.outcome is.is_count)
+
+pub replay_ties-requires-clause-payers : goal.replay_ties-requires-clause-payers
+replay_ties-requires-clause-payers c =
+    let count = c.args.count.now in
+    let is = c.outcome-outcome.ensures.is_counted in
+    let o = count.counted.outcome in
+    let elected : c.as_slice-elected.result.now ≡ o.elected =
+    c.as_slice-elected.ensures.value ∙ ap (λ (v : OutcomeView). v.elected) (c.outcome.view_is ∙ c.outcome-outcome.ensures.outcome) in
+    rw (elected, c.supporters-supporters.ensures) (run_payers count.rule.options.measure (support_in count.rule.options.grain count.election) o.share o.elected o.rests is.is_count.run_is)
 
 pub put_added_ties-requires : goal.put_added_ties-requires
 put_added_ties-requires c = short_take 100 c.in_ok-ties.ties.items _ c.in_ok-ties.ensures
@@ -31,7 +41,7 @@ pub returns : goal.returns
 unfolding ties_of
 returns c =
     let x = c.args.count.now in
-    let s = support_of x.election in
+    let s = support_in x.rule.options.grain x.election in
     let o = x.counted.outcome in
     let elected : c.as_slice-elected.result.now ≡ o.elected =
     c.as_slice-elected.ensures.value ∙ ap (λ (v : OutcomeView). v.elected) (c.outcome.view_is ∙ c.outcome-outcome.ensures.outcome) in

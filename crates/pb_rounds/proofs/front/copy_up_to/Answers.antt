@@ -17,7 +17,7 @@ pub loop-key-preserved : goal.loop-key-preserved
 loop-key-preserved g c =
     copying_skips c.args.share c.args.from.now.keys c.loop-key.queue.keys c.loop-key.key-iterator c.loop-key.invariant c.in-Some.key.now c.next.new.self
     (rest_more deref c.loop-key.key-iterator c.next.new.self c.next.result c.in-Some.key c.in-Some.is c.next.ensures.steps)
-    (skipped_price c.price.result c.args.share c.in-Some.key.now.price c.le.result c.le.ensures c.if-le.false c.price.ensures)
+    (skipped_price c.price.result c.in-Some.key.now.price c.args.share c.is_within.result c.is_within.ensures c.if-is_within.false c.price.ensures.price)
 
 pub returns : goal.returns
 returns g c =

@@ -20,6 +20,6 @@ pub returns : goal.returns
 returns g c =
     taken_is c.pop_first.result c.args.queue.now.keys c.pop_first.new.self.keys c.in_ok-head.field-0.now c.args.supporters.now c.args.outcome.now.rests
     c.in_ok-head.ensures.first c.pop_first.ensures.removal c.pop_first.ensures.unchanged
-    (pays_by c.args.supporters.now c.of-list.result.now c.as_slice.result.now c.args.outcome.now.rests c.price.result c.place.result c.in_ok-head.field-0.now
-    c.of-list.ensures.supporters c.place.ensures (c.as_slice.ensures.value ∙ ap (λ (o : OutcomeView). o.rests) c.outcome.view_is) c.price.ensures
-    (c.can_pay.ensures c.if-not-can_pay.false))
+    (pays_by c.args.supporters.now c.of-list.result.now c.as_slice.result.now c.args.outcome.now.rests c.least_rest-least.result c.place.result c.price.result c.in_ok-head.field-0.now
+    c.of-list.ensures.supporters c.place.ensures (c.as_slice.ensures.value ∙ ap (λ (o : OutcomeView). o.rests) c.outcome.view_is) c.price.ensures.price
+    c.price.ensures.positive c.least_rest-least.ensures (c.can_pay.ensures c.if-not-can_pay.false))

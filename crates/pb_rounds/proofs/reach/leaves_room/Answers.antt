@@ -17,15 +17,15 @@ loop-place-preserved g c =
     let seen = c.loop-place.invariant in
     elim c.if-from.branch [
       | then-from w ↦
-          let more : c.if-from.within ≡ c.loop-place.within + c.cost-cost.result = omega (arith, w.within-is, w.from-within.ensures, c.cost.view_is) in
-          rw (more, w.least-is) (near_more s c.args.share c.loop-place.place c.loop-place.within c.loop-place.least seen c.cost-cost.result c.cost-cost.ensures.cost
-          (length (supporters_at s c.loop-place.place)) refl (omega (arith, w.if-from.true, shares, c.from.ensures, c.cost.view_is)) small)
+          let more : c.if-from.within ≡ c.loop-place.within + c.cost-cost.result = omega (arith, w.within-is, w.from-within.ensures, w.cost.view_is) in
+          rw (more, w.least-is) (near_more s c.args.share c.loop-place.place c.loop-place.within c.loop-place.least seen c.cost-cost.result c.cost-cost.ensures.cost c.cost_in_parts-parts.result c.cost_in_parts-parts.ensures.cost
+          (length (supporters_at s c.loop-place.place)) refl (omega (arith, w.if-from.true, shares, c.from.ensures, c.parts.view_is)) small)
       | else-from+then-count-gt0 w ↦
           let some : 0 < length (supporters_at s c.loop-place.place) = omega (arith, w.if-count-gt0.true, ap length c.of.ensures.supporters) in
-          rw (w.within-is, w.least-is) (far_more s c.args.share c.loop-place.place c.loop-place.within c.loop-place.least seen c.cost-cost.result c.cost-cost.ensures.cost
-          (length (supporters_at s c.loop-place.place)) refl (omega (arith, w.if-from.false, shares, c.from.ensures, c.cost.view_is)) w.lesser-least.result
+          rw (w.within-is, w.least-is) (far_more s c.args.share c.loop-place.place c.loop-place.within c.loop-place.least seen c.cost-cost.result c.cost-cost.ensures.cost c.cost_in_parts-parts.result c.cost_in_parts-parts.ensures.cost
+          (length (supporters_at s c.loop-place.place)) refl (omega (arith, w.if-from.false, shares, c.from.ensures, c.parts.view_is)) w.lesser-least.result
           (elim w.lesser-least.ensures [ inl same ↦ inl same | inr here ↦ inr (some, here) ]))
       | else-from+else-count-gt0 w ↦
-          rw (w.within-is, w.least-is) (far_more s c.args.share c.loop-place.place c.loop-place.within c.loop-place.least seen c.cost-cost.result c.cost-cost.ensures.cost
-          (length (supporters_at s c.loop-place.place)) refl (omega (arith, w.if-from.false, shares, c.from.ensures, c.cost.view_is)) c.loop-place.least (inl refl))
+          rw (w.within-is, w.least-is) (far_more s c.args.share c.loop-place.place c.loop-place.within c.loop-place.least seen c.cost-cost.result c.cost-cost.ensures.cost c.cost_in_parts-parts.result c.cost_in_parts-parts.ensures.cost
+          (length (supporters_at s c.loop-place.place)) refl (omega (arith, w.if-from.false, shares, c.from.ensures, c.parts.view_is)) c.loop-place.least (inl refl))
     ]

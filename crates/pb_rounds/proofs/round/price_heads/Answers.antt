@@ -1,9 +1,11 @@
 use Rattle.std.proofs.Common.{◌∙◌, ◌++◌, length, sym, ap, get_or, arith}
 use Rattle.std.proofs.lemmas.List.{length-map, take_all}
-use Rattle.pb_price.proofs.Payments.{prices_from_are_prices}
+use Rattle.pb_price.proofs.Prices.{prices_from_are_prices}
+use Rattle.pb_price.proofs.SupporterLists.{cost_positive}
 use Rattle.pb_price.specs.Price.{price_at}
 use Rattle.pb_rounds.specs.Key.{first_least, is_before}
 use Rattle.pb_rounds.specs.Run.{keys_at}
+use Rattle.pb_rounds.proofs.Payers.{payers_of_price}
 use Rattle.pb_rounds.proofs.QueueSteps.{answer_at, best_more, fresh_none, fresh_some}
 use Rattle.pb_rounds.proofs.round.price_heads.Goals as goal
 use Rattle.pb_rounds.proofs.round.price_heads.Goals.{in-Some+in_ok-push, in_default}
@@ -11,7 +13,7 @@ use Rattle.pb_rounds.proofs.round.price_heads.Goals.{in-Some+in_ok-push, in_defa
 pub index-requires : goal.index-requires
 index-requires g c =
     let s = c.args.pricing.now.supporters.now in
-    let prices = prices_from_are_prices s c.args.rests.now c.args.heads.now c.in_ok-answers.answers.items c.in_ok-answers.ensures.prices in
+    let prices = prices_from_are_prices s c.args.rests.now (cost_positive s c.projects-projects.ensures.is_support) c.args.heads.now c.requires.known c.in_ok-answers.answers.items c.in_ok-answers.ensures.prices in
     let long = ap length prices ∙ length-map c.args.heads.now (price_at s c.args.rests.now) in
     omega (arith, long, c.in_ok-answers.answers.ok.0, c.loop-i-test.true)
 
@@ -22,7 +24,7 @@ loop-i-preserved g c =
     let rests = c.args.rests.now in
     let heads = c.args.heads.now in
     let i = c.loop-i.i in
-    let answered = answer_at (price_at s rests) heads i c.loop-i-test.true c.in_ok-answers.answers.items (prices_from_are_prices s rests heads c.in_ok-answers.answers.items c.in_ok-answers.ensures.prices) c.index.result.now c.index.ensures in
+    let answered = answer_at (price_at s rests) heads i c.loop-i-test.true c.in_ok-answers.answers.items (prices_from_are_prices s rests (cost_positive s c.projects-projects.ensures.is_support) heads c.requires.known c.in_ok-answers.answers.items c.in_ok-answers.ensures.prices) c.index.result.now c.index.ensures in
     record {
       fresh = elim c.match-index.branch [
         | in-Some+in_ok-push w ↦ rw w.fresh-is (w.in_ok-push.ensures.items
@@ -49,3 +51,22 @@ returns-clause-fresh g c =
 
 pub weight-weight-requires : goal.weight-weight-requires
 weight-weight-requires g c = c.requires.known c.loop-i.i 0 c.loop-i-test.true
+
+pub new-key-requires-clause-payers : goal.new-key-requires-clause-payers
+new-key-requires-clause-payers g c =
+    let s = c.args.pricing.now.supporters.now in
+    let rests = c.args.rests.now in
+    let heads = c.args.heads.now in
+    let i = c.loop-i.i in
+    let answered = answer_at (price_at s rests) heads i c.loop-i-test.true c.in_ok-answers.answers.items (prices_from_are_prices s rests (cost_positive s c.projects-projects.ensures.is_support) heads c.requires.known c.in_ok-answers.answers.items c.in_ok-answers.ensures.prices) c.index.result.now c.index.ensures in
+    (payers_of_price s c.projects-projects.ensures.is_support rests (get_or heads i 0) (c.requires.known i 0 c.loop-i-test.true) c.in-Some.price (sym answered ∙ c.in-Some.is)).some
+
+pub new-key-requires-clause-fits : goal.new-key-requires-clause-fits
+new-key-requires-clause-fits g c =
+    let s = c.args.pricing.now.supporters.now in
+    let rests = c.args.rests.now in
+    let heads = c.args.heads.now in
+    let i = c.loop-i.i in
+    let answered = answer_at (price_at s rests) heads i c.loop-i-test.true c.in_ok-answers.answers.items (prices_from_are_prices s rests (cost_positive s c.projects-projects.ensures.is_support) heads c.requires.known c.in_ok-answers.answers.items c.in_ok-answers.ensures.prices) c.index.result.now c.index.ensures in
+    c.weight-weight.ensures.fits c.in-Some.price
+    (payers_of_price s c.projects-projects.ensures.is_support rests (get_or heads i 0) (c.requires.known i 0 c.loop-i-test.true) c.in-Some.price (sym answered ∙ c.in-Some.is))

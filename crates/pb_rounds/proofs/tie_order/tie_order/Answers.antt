@@ -1,10 +1,9 @@
-use Rattle.std.proofs.Common.{◌≡◌, ◌∙◌, ◌≤◌, ℕ, List, ap, arith, length, map, subst, sym}
+use Rattle.std.proofs.Common.{◌≡◌, ◌∙◌, ℕ, List, ap, arith, length, map, subst, sym}
 use Rattle.std.specs.List.{range_with_len}
 use Rattle.std.specs.List.Sorted.{IsPermutation, IsSortedBy}
 use Rattle.std.proofs.lemmas.List.FromFn.{length-range_with_len}
 use Rattle.std.proofs.lemmas.List.Sorted.{length_permutation}
-use Rattle.pb_core.specs.Election.{ElectionView, IsElection, ProjectView, most_projects}
-use Rattle.pb_core.specs.Order.{IsOrder}
+use Rattle.pb_core.specs.Election.{ElectionView}
 use Rattle.pb_rounds.specs.Inner.Tied.{tied_of}
 use Rattle.pb_rounds.specs.TieOrder.{IsTieOrder}
 use Rattle.pb_rounds.specs.declared.tie_order.Tied.{Tied}

@@ -19,7 +19,7 @@ sum_up-requires-clause-voters c =
     let counted = c.election.ensures.is_counted in
     let are : ArePayments k c.as_slice.result.now = c.as_slice.ensures.value ∙ c.self.invariant in
     let known : c.args.place < length k.election.projects = subst (λ (x : CountedElectionView). c.args.place < length x.election.projects) (sym c.self.view_is) c.requires in
-    let voters = supporters_are_voters k.election k.counted.outcome (counted_can_be_told k counted) c.supporters.result.now c.of-supporters.ensures.is_support
+    let voters = supporters_are_voters k.rule.options.grain k.election k.counted.outcome (counted_can_be_told k counted) c.supporters.result.now c.of-supporters.ensures.is_support
     c.supporters.ensures c.args.place known c.of-supporters.result.now c.of-supporters.ensures.supporters in
     λ i d below. let voter = voters i d below in omega (arith, voter, one_each k c.as_slice.result.now are counted.is_election)
 
@@ -53,7 +53,7 @@ returns c =
     let are : ArePayments k c.as_slice.result.now = c.as_slice.ensures.value ∙ c.self.invariant in
     let known : place < length e.projects = subst (λ (x : CountedElectionView). place < length x.election.projects) (sym c.self.view_is) c.requires in
     let list = c.of-supporters.result.now in
-    let voters = supporters_are_voters e o told c.supporters.result.now c.of-supporters.ensures.is_support c.supporters.ensures place known list c.of-supporters.ensures.supporters in
+    let voters = supporters_are_voters k.rule.options.grain e o told c.supporters.result.now c.of-supporters.ensures.is_support c.supporters.ensures place known list c.of-supporters.ensures.supporters in
     let projects = ap length (c.projects-projects.ensures.projects ∙ ap (λ (v : ElectionView). v.projects) c.election.ensures.election) in
     let own : list ≡ supporters_at (support_of e) place = rw c.supporters.ensures at c.of-supporters.ensures.supporters in
     let sums : (other : ℕ) → other < length e.projects → slice_index c.as_slice-2.result.now other ≡ sum_by (paid_for e o other) (supporters_at (support_of e) place) =

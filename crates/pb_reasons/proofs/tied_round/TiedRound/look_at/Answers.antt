@@ -4,7 +4,7 @@ use Rattle.pb_reasons.specs.Inner.Rounds.{ties_among}
 use Rattle.pb_reasons.specs.Inner.TieQueue.{AreQueued}
 use Rattle.pb_reasons.specs.declared.tie.Tie.{Tie}
 use Rattle.pb_reasons.proofs.TieQueue.{one_put}
-use Rattle.pb_reasons.proofs.TiedRounds.{no_tie_more, one_bound, short_take, tie_more}
+use Rattle.pb_reasons.proofs.TiedRounds.{bound_has_payers, no_tie_more, one_bound, short_take, tie_more}
 use Rattle.pb_reasons.proofs.tied_round.TiedRound.look_at.Goals as goal
 use Rattle.pb_reasons.proofs.tied_round.TiedRound.look_at.Goals.{then-look+in_ok-tell, else-look}
 
@@ -17,6 +17,11 @@ loop-place-init c = record {
 
 pub tell-requires : goal.tell-requires
 tell-requires c = short_take 100 c.loop-place.ties.items _ c.loop-place.invariant.ties
+
+pub put_bound-requires-clause-payers : goal.put_bound-requires-clause-payers
+put_bound-requires-clause-payers c =
+    let r = c.args.self.now in
+    bound_has_payers r.supporters.now r.elected.now c.args.rests.now _ _ c.look-look.ensures.bound
 
 pub loop-place-preserved : goal.loop-place-preserved
 loop-place-preserved c =

@@ -1,5 +1,5 @@
-use Rattle.std.proofs.Common.{◌-◌, Some}
-use Rattle.pb_price.specs.Supporters.{cost_at}
+use Rattle.std.proofs.Common.{◌-◌, ◌^◌, Some}
+use Rattle.pb_price.proofs.Heights.{height, highest}
 use Rattle.pb_reasons.specs.Inner.Rounds.{IsTieBound}
 use Rattle.pb_reasons.proofs.tied_round.TiedRound.look_from.Given as goal
 
@@ -7,4 +7,4 @@ abbrev pub invariant-loop-bound : goal.invariant-loop-bound
 invariant-loop-bound l = IsTieBound l.self.supporters.now l.self.elected.now l.rests l.place (Some l.bound)
 
 abbrev pub decreases-loop-bound : goal.decreases-loop-bound
-decreases-loop-bound l = cost_at l.self.supporters.now l.place - l.bound
+decreases-loop-bound l = highest (2 ^ 64) - height l.bound

@@ -11,7 +11,7 @@ tied_among-others-requires-clause-known c =
     let r = c.args.self.now in
     let takes = subst (λ (k : KeyView). TakesDue k c.args.queue.now.keys c.take_due.new.queue.keys c.in_ok-due.due.items) c.limit.ensures.limit c.in_ok-due.ensures in
     subst (All (λ (place : ℕ). place < length r.supporters.now.costs)) (sym c.as_slice.ensures.value)
-    (due_known r.measure r.supporters.now r.elected.now c.args.rests.now r.winner c.limit.ensures.positive c.args.bounds.now.items c.requires.bounds
+    (due_known r.measure r.supporters.now r.elected.now c.args.rests.now r.winner (c.limit.ensures.positive, c.limit.ensures.is_support, c.requires.payers) c.args.bounds.now.items c.requires.bounds
     c.args.queue.now.keys c.take_due.new.queue.keys c.in_ok-due.due.items c.requires.queued takes)
 
 pub tied_among-others-requires-clause-queued : goal.tied_among-others-requires-clause-queued
@@ -19,7 +19,7 @@ tied_among-others-requires-clause-queued c =
     let r = c.args.self.now in
     let takes = subst (λ (k : KeyView). TakesDue k c.args.queue.now.keys c.take_due.new.queue.keys c.in_ok-due.due.items) c.limit.ensures.limit c.in_ok-due.ensures in
     subst (λ (due : List ℕ). AreQueued r.measure r.supporters.now due c.args.bounds.now.items c.take_due.new.queue.keys) (sym c.as_slice.ensures.value)
-    (rest_queued r.measure r.supporters.now r.elected.now c.args.rests.now r.winner c.limit.ensures.positive c.args.bounds.now.items c.requires.bounds
+    (rest_queued r.measure r.supporters.now r.elected.now c.args.rests.now r.winner (c.limit.ensures.positive, c.limit.ensures.is_support, c.requires.payers) c.args.bounds.now.items c.requires.bounds
     c.args.queue.now.keys c.take_due.new.queue.keys c.in_ok-due.due.items c.requires.queued takes)
 
 pub returns-clause-others : goal.returns-clause-others
@@ -28,6 +28,6 @@ returns-clause-others c =
     let takes = subst (λ (k : KeyView). TakesDue k c.args.queue.now.keys c.take_due.new.queue.keys c.in_ok-due.due.items) c.limit.ensures.limit c.in_ok-due.ensures in
     subst (λ (told : List ℕ). IfOk c.tied_among-others.result (λ others. others.items ≡ told))
     (ap (filter (is_tied r.measure r.supporters.now r.elected.now c.args.rests.now r.winner)) c.as_slice.ensures.value
-    ∙ those_are_due r.measure r.supporters.now r.elected.now c.args.rests.now r.winner c.limit.ensures.positive c.args.bounds.now.items c.requires.bounds
+    ∙ those_are_due r.measure r.supporters.now r.elected.now c.args.rests.now r.winner (c.limit.ensures.positive, c.limit.ensures.is_support, c.requires.payers) c.args.bounds.now.items c.requires.bounds
     c.args.queue.now.keys c.take_due.new.queue.keys c.in_ok-due.due.items c.requires.queued takes)
     c.tied_among-others.ensures.others

@@ -5,7 +5,7 @@ use Rattle.pb_reasons.specs.Inner.TieQueue.{AreQueued}
 use Rattle.pb_reasons.specs.Ties.{is_tied}
 use Rattle.pb_reasons.proofs.Far.{none_kept, one_kept}
 use Rattle.pb_reasons.proofs.TieQueue.{one_put}
-use Rattle.pb_reasons.proofs.TiedRounds.{one_bound}
+use Rattle.pb_reasons.proofs.TiedRounds.{bound_has_payers, one_bound}
 use Rattle.pb_reasons.proofs.tied_round.TiedRound.tied_among.Goals as goal
 use Rattle.pb_reasons.proofs.tied_round.TiedRound.tied_among.Goals.{then-look+in_ok-push, else-look}
 
@@ -15,6 +15,11 @@ loop-place-init c = record {
   queued = c.requires.queued;
   others = c.new-others.ensures.items;
 }
+
+pub put_bound-requires-clause-payers : goal.put_bound-requires-clause-payers
+put_bound-requires-clause-payers c =
+    let r = c.args.self.now in
+    bound_has_payers r.supporters.now r.elected.now c.args.rests.now _ _ c.look-look.ensures.bound
 
 pub loop-place-preserved : goal.loop-place-preserved
 loop-place-preserved c =

@@ -10,7 +10,7 @@ invariant_of-result c =
     let rounds = c.kept.ensures.kept.reasons.rounds in
     let paid : length c.in_ok-purse.purse ≡ length c.outcome-outcome.result.now.elected =
     omega (arith, c.in_ok-purse.ensures, c.len.ensures, c.outcome.inside.elected.ok.0, ap (λ (v : OutcomeView). length v.elected) c.outcome.view_is) in (
-      rw (c.election.ensures.election, c.outcome-outcome.ensures.outcome) told,
+      rw (c.election.ensures.election, c.outcome-outcome.ensures.outcome) (count.rule.options.grain, told),
       rw (c.election.ensures.election, c.outcome-outcome.ensures.outcome, c.rounds-rounds.ensures) rounds,
       paid,
     )

@@ -46,11 +46,11 @@ overflow_sub-result c =
     c.index-voters-voter.is (c.places-ballot.ensures.places ∙ ap (λ v. v.ballot) c.owner.view_is) in
     let known = ballot_known e voter ballot c.voters.ensures.is_election is_voter read in
     let o = c.self.inside.outcome.now in
-    let many : voter < length c.outcome.inside.rests.items = rw (ap (λ (v : OutcomeView). v.rests) c.outcome.view_is, c.self.invariant.0.one_each) is_voter in
+    let many : voter < length c.outcome.inside.rests.items = rw (ap (λ (v : OutcomeView). v.rests) c.outcome.view_is, c.self.invariant.0.1.one_each) is_voter in
     let left : c.index-left.result.now ≡ slice_index o.rests voter =
     c.index-left.ensures ∙ get_or_default c.outcome.inside.rests.items voter _ 0 many ∙ ap (λ (v : OutcomeView). slice_index v.rests voter) c.outcome.view_is in
     let share : c.outcome.inside.share ≡ o.share = ap (λ (v : OutcomeView). v.share) c.outcome.view_is in
-    let within = left_within e o c.self.invariant.0 voter is_voter in
+    let within = left_within e o c.self.invariant.0.1 voter is_voter in
     omega (arith, within, left, share, c.left.view_is, c.share.view_is)
 
 pub returns-clause-reason : goal.returns-clause-reason
@@ -63,7 +63,7 @@ returns-clause-reason c =
     c.index-voters-voter.is (c.places-ballot.ensures.places ∙ ap (λ v. v.ballot) c.owner.view_is) in
     let known = ballot_known e voter ballot c.voters.ensures.is_election is_voter read in
     let o = c.self.inside.outcome.now in
-    let many : voter < length c.outcome.inside.rests.items = rw (ap (λ (v : OutcomeView). v.rests) c.outcome.view_is, c.self.invariant.0.one_each) is_voter in
+    let many : voter < length c.outcome.inside.rests.items = rw (ap (λ (v : OutcomeView). v.rests) c.outcome.view_is, c.self.invariant.0.1.one_each) is_voter in
     let left : c.index-left.result.now ≡ slice_index o.rests voter =
     c.index-left.ensures ∙ get_or_default c.outcome.inside.rests.items voter _ 0 many ∙ ap (λ (v : OutcomeView). slice_index v.rests voter) c.outcome.view_is in
     let share : c.outcome.inside.share ≡ o.share = ap (λ (v : OutcomeView). v.share) c.outcome.view_is in
@@ -73,7 +73,7 @@ returns-clause-reason c =
     let numbered : AreRounds (length e.projects) o.elected rounds = c.self.invariant.1 in
     let one_each : length amounts ≡ length o.elected = ap length c.amounts.ensures ∙ c.in_ok-pay.ensures.one_each ∙ ap length elected in
     let paid : HasPaid o.elected ballot o.share amounts = rw c.amounts.ensures (rw (elected, share) at c.in_ok-pay.ensures.paid) in
-    let told = reason_told e o c.self.invariant.0 rounds amounts ballot numbered one_each voter is_voter read known paid c.in_ok-elected.elected c.index-left.result.now (c.share.inside.0 - c.left.inside.0)
+    let told = reason_told e o c.self.invariant.0.1 rounds amounts ballot numbered one_each voter is_voter read known paid c.in_ok-elected.elected c.index-left.result.now (c.share.inside.0 - c.left.inside.0)
     c.in_ok-elected.ensures.elected left (omega (arith, c.share.view_is, c.left.view_is, share)) in
     subst (λ (p : ElectionView × OutcomeView). record { votes = length ballot; elected = c.in_ok-elected.elected; paid = c.share.inside.0 - c.left.inside.0; left = c.index-left.result.now } ≡ outcome_voter p.0 p.1 voter) c.self.view_is told
 
@@ -87,7 +87,7 @@ returns-clause-payments c =
     c.index-voters-voter.is (c.places-ballot.ensures.places ∙ ap (λ v. v.ballot) c.owner.view_is) in
     let known = ballot_known e voter ballot c.voters.ensures.is_election is_voter read in
     let o = c.self.inside.outcome.now in
-    let many : voter < length c.outcome.inside.rests.items = rw (ap (λ (v : OutcomeView). v.rests) c.outcome.view_is, c.self.invariant.0.one_each) is_voter in
+    let many : voter < length c.outcome.inside.rests.items = rw (ap (λ (v : OutcomeView). v.rests) c.outcome.view_is, c.self.invariant.0.1.one_each) is_voter in
     let left : c.index-left.result.now ≡ slice_index o.rests voter =
     c.index-left.ensures ∙ get_or_default c.outcome.inside.rests.items voter _ 0 many ∙ ap (λ (v : OutcomeView). slice_index v.rests voter) c.outcome.view_is in
     let share : c.outcome.inside.share ≡ o.share = ap (λ (v : OutcomeView). v.share) c.outcome.view_is in
@@ -97,7 +97,7 @@ returns-clause-payments c =
     let numbered : AreRounds (length e.projects) o.elected rounds = c.self.invariant.1 in
     let one_each : length amounts ≡ length o.elected = ap length c.amounts.ensures ∙ c.in_ok-pay.ensures.one_each ∙ ap length elected in
     let paid : HasPaid o.elected ballot o.share amounts = rw c.amounts.ensures (rw (elected, share) at c.in_ok-pay.ensures.paid) in
-    let told = payments_told e o c.self.invariant.0 rounds amounts ballot numbered one_each voter is_voter read known paid c.list_payments.new.payments.items c.in_ok-elected.ensures.listed in
+    let told = payments_told e o c.self.invariant.0.1 rounds amounts ballot numbered one_each voter is_voter read known paid c.list_payments.new.payments.items c.in_ok-elected.ensures.listed in
     subst (λ (p : ElectionView × OutcomeView). c.list_payments.new.payments.items ≡ voter_payments p.0 p.1 voter) c.self.view_is told
 
 pub invariant_of-self : goal.invariant_of-self
@@ -119,7 +119,7 @@ pub index-left-requires : goal.index-left-requires
 index-left-requires c =
     let voter = c.args.voter in
     let is_voter = subst (λ (p : ElectionView × OutcomeView). voter < length p.0.voters) (sym c.self.view_is) c.requires in
-    let many : voter < length c.outcome.inside.rests.items = rw (ap (λ (v : OutcomeView). v.rests) c.outcome.view_is, c.self.invariant.0.one_each) is_voter in
+    let many : voter < length c.outcome.inside.rests.items = rw (ap (λ (v : OutcomeView). v.rests) c.outcome.view_is, c.self.invariant.0.1.one_each) is_voter in
     omega (arith, many, c.outcome.inside.rests.ok.0)
 
 pub pay-requires-clause-known : goal.pay-requires-clause-known

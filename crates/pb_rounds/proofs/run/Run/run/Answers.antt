@@ -5,7 +5,7 @@ use Rattle.pb_rounds.proofs.run.Run.run.Goals as goal
 pub loop-best-init : goal.loop-best-init
 loop-best-init g c = record {
   is_support = c.projects-projects.ensures.is_support;
-  queued = queued_open c.args.pricing.now.measure c.args.pricing.now.supporters.now c.args.pricing.now.workers c.args.share c.args.raised c.requires.share
+  queued = queued_open c.args.pricing.now.measure c.args.pricing.now.supporters.now c.projects-projects.ensures.is_support c.args.pricing.now.workers c.args.share c.args.raised c.requires.share
       c.start.new.self.queue.keys c.in_ok-start.ensures.queue c.start.new.outcome c.in_ok-start.ensures.outcome
       c.max-most.result (omega (arith, c.max-most.ensures));
 }

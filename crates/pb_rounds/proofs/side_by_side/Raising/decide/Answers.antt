@@ -9,4 +9,4 @@ decide_behind-found-requires-clause-of g c κs within = record {
 }
 
 pub decide_behind-found-requires-clause-share : goal.decide_behind-found-requires-clause-share
-decide_behind-found-requires-clause-share g c κs within = omega (arith, c.in_ok-front.ensures.of.at_share, c.opening_share-opening.ensures.share)
+decide_behind-found-requires-clause-share g c κs within = omega (arith, c.in_ok-front.ensures.of.at_share, c.opening_of-opening.ensures.share)

@@ -43,8 +43,8 @@ jump_ahead-requires-clause-from g c κs within = (
 pub jump_ahead-requires-clause-tried : goal.jump_ahead-requires-clause-tried
 jump_ahead-requires-clause-tried g c κs within =
     let count : c.len-count.result ≡ length c.try_raises.new.trials.items = search rules in
-    all_tried c.in_ok-raises.field-0 (λ raises. is_decisive c.args.self.now.pricing.now.measure c.args.self.now.election.now c.args.self.now.step raises ≡ false)
-    (λ raises. (raises ≤ c.args.self.now.max_raises) × (add1_of c.args.self.now.pricing.now.measure c.args.self.now.election.now c.args.self.now.step c.args.self.now.max_raises ≡ Some raises))
+    all_tried c.in_ok-raises.field-0 (λ raises. is_decisive c.args.self.now.pricing.now.measure c.args.self.now.pricing.now.supporters.now.grain c.args.self.now.election.now c.args.self.now.step raises ≡ false)
+    (λ raises. (raises ≤ c.args.self.now.max_raises) × (add1_of c.args.self.now.pricing.now.measure c.args.self.now.pricing.now.supporters.now.grain c.args.self.now.election.now c.args.self.now.step c.args.self.now.max_raises ≡ Some raises))
     (c.loop-next.next + length c.prepare_group.new.trials.items) (c.loop-next.next + c.len-count.result) c.in_default.is c.in_ok-raises.ensures.decided
     (omega (arith, count, c.in_ok-raises.ensures.len))
 
@@ -55,7 +55,7 @@ jump_ahead-requires-clause-last g c κs within =
     let raised : c.loop-next.next + length c.prepare_group.new.trials.items - 1 ≡ c.loop-next.next + c.len-count.result - 1 = omega (arith, count, c.in_ok-raises.ensures.len) in
     ap (λ t. t.outcome.elected) (c.index_mut.ensures.value ∙ ap (λ k. get_or c.try_raises.new.trials.items k c.index_mut.result.now) last)
     ∙ c.in_ok-raises.ensures.last c.index_mut.result.now c.in_default.is
-    ∙ ap (elected_after c.args.self.now.pricing.now.measure c.args.self.now.election.now c.args.self.now.step) raised
+    ∙ ap (elected_after c.args.self.now.pricing.now.measure c.args.self.now.pricing.now.supporters.now.grain c.args.self.now.election.now c.args.self.now.step) raised
 
 pub loop-next-smaller : goal.loop-next-smaller
 loop-next-smaller g c = omega (arith, c.in_ok-next.ensures.range, c.len-count.ensures, c.in_ok-raises.ensures.len, c.in_ok-prepare_group.ensures.some)
@@ -80,6 +80,6 @@ loop-next-preserved g c =
 
 pub returns : goal.returns
 returns g c = (
-  raises_spent c.args.self.now.pricing.now.measure c.args.self.now.election.now c.args.self.now.step c.args.self.now.max_raises c.loop-next.next (omega (arith, c.loop-next-test.false)) c.loop-next.invariant.tried,
+  raises_spent c.args.self.now.pricing.now.measure c.args.self.now.pricing.now.supporters.now.grain c.args.self.now.election.now c.args.self.now.step c.args.self.now.max_raises c.loop-next.next (omega (arith, c.loop-next-test.false)) c.loop-next.invariant.tried,
   tt,
 )

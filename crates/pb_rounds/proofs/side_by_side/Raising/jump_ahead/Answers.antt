@@ -1,4 +1,5 @@
-use Rattle.std.proofs.Common.{◌≡◌, ◌-◌, ◌∙◌, ap, arith}
+use Rattle.std.proofs.Common.{◌≡◌, ◌-◌, ◌*◌, ◌≤◌, ◌∙◌, ap, arith}
+use Rattle.std.proofs.Math.Nat.{mul-le-mul_right}
 use Rattle.pb_rounds.specs.Count.{elected_after}
 use Rattle.pb_rounds.proofs.side_by_side.Raising.jump_ahead.Goals.{then-branch, else-branch+else-not-lost}
 use Rattle.pb_rounds.proofs.side_by_side.Raising.jump_ahead.Goals as goal
@@ -6,9 +7,11 @@ use Rattle.pb_rounds.proofs.side_by_side.Raising.jump_ahead.Goals as goal
 pub jump-requires-clause-given : goal.jump-requires-clause-given
 jump-requires-clause-given g c κs within = record {
   few_workers = c.requires.given.few_workers;
-  small_step = c.requires.given.small_step;
   few_raises = omega (arith, c.requires.given.few_raises, c.target-target.ensures);
   own_supporters = c.requires.given.own_supporters;
+  small =
+      let fewer : c.target-target.result * c.args.self.now.step ≤ c.args.self.now.max_raises * c.args.self.now.step = mul-le-mul_right c.args.self.now.step (omega (arith, c.target-target.ensures)) in
+      omega (arith, fewer, c.requires.given.small);
 }
 
 pub overflow_add-next : goal.overflow_add-next
@@ -16,7 +19,7 @@ overflow_add-next g c = omega (arith, c.requires.given.few_raises, c.target-targ
 
 pub loop-preserved : goal.loop-preserved
 loop-preserved g c =
-    let elected = elected_after c.args.self.now.pricing.now.measure c.args.self.now.election.now c.args.self.now.step in
+    let elected = elected_after c.args.self.now.pricing.now.measure c.args.self.now.pricing.now.supporters.now.grain c.args.self.now.election.now c.args.self.now.step in
     elim c.if-branch.branch [
       | then-branch w ↦
           let here : c.target-target.result ≡ c.if-branch.next - 1 = omega (arith, w.next-is) in

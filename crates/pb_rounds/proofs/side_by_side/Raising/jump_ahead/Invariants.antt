@@ -7,6 +7,6 @@ invariant-loop g l = record {
   from : l.fn.from ≤ l.next;
   some : 0 < l.next;
   within : l.next ≤ l.self.max_raises + 1;
-  tried : (raises : ℕ) → raises < l.next → is_decisive l.self.pricing.now.measure l.self.election.now l.fn.self.step raises ≡ false;
-  last : l.last.outcome.elected ≡ elected_after l.self.pricing.now.measure l.self.election.now l.fn.self.step (l.next - 1);
+  tried : (raises : ℕ) → raises < l.next → is_decisive l.self.pricing.now.measure l.self.pricing.now.supporters.now.grain l.self.election.now l.fn.self.step raises ≡ false;
+  last : l.last.outcome.elected ≡ elected_after l.self.pricing.now.measure l.self.pricing.now.supporters.now.grain l.self.election.now l.fn.self.step (l.next - 1);
 }

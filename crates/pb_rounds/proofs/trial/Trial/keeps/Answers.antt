@@ -1,7 +1,8 @@
 use Rattle.std.proofs.Common.{◌≡◌, ℕ, List, None, subst, sym, ◌∙◌, rules}
 use Rattle.std.proofs.lemmas.Bool.{true≢false}
-use Rattle.pb_price.specs.Price.{AreRests}
+use Rattle.pb_price.specs.Price.{AreRests, HasPayers}
 use Rattle.pb_rounds.specs.Inner.Bounds.{HasBounds}
+use Rattle.pb_rounds.specs.Run.{ElectedView}
 use Rattle.pb_rounds.proofs.BoundQueue.{found_at}
 use Rattle.pb_rounds.proofs.TrialRounds.{following_more, following_open, keeps_all, keeps_ends}
 use Rattle.pb_rounds.proofs.trial.Trial.keeps.Goals as goal
@@ -9,7 +10,7 @@ use Rattle.pb_rounds.proofs.trial.Trial.keeps.Goals as goal
 pub loop-elected-init : goal.loop-elected-init
 loop-elected-init g c = record {
   is_support = c.in_ok-start.ensures.support;
-  following = following_open c.args.measure c.args.supporters.now c.args.share c.requires c.args.last.now c.start.new.self.queue.keys c.in_ok-start.ensures.queue
+  following = following_open c.args.measure c.args.supporters.now c.args.share c.requires.share c.args.last.now c.start.new.self.queue.keys c.in_ok-start.ensures.queue
       c.start.new.self.outcome c.in_ok-start.ensures.outcome;
 }
 
@@ -51,6 +52,11 @@ returns-clause-elected g c it_is =
 
 pub follows-requires-clause-rests : goal.follows-requires-clause-rests
 follows-requires-clause-rests g c = c.loop-elected.invariant.following.bounded.progress.rests_are
+
+pub follows-requires-clause-last : goal.follows-requires-clause-last
+follows-requires-clause-last g c =
+    subst (λ (w : ElectedView). HasPayers c.args.supporters.now w.exact) (sym c.elected-item.is)
+    (c.requires.last c.loop-elected.elected-index c.elected-item.result c.loop-elected-test.true)
 
 pub follows-requires-clause-bounds : goal.follows-requires-clause-bounds
 follows-requires-clause-bounds g c =

@@ -1,0 +1,12 @@
+META
+key;value
+budget;100
+vote_type;approval
+PROJECTS
+project_id;cost
+a;9223372036854.78
+b;100
+VOTES
+voter_id;vote
+v1;b
+v2;b

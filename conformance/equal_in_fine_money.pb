@@ -1,0 +1,13 @@
+META
+key;value
+budget;10
+vote_type;approval
+PROJECTS
+project_id;cost
+q;7
+s;8
+VOTES
+voter_id;vote
+v1;q,s
+v2;q,s
+v3;q,s

@@ -1,0 +1,14 @@
+META
+key;value
+budget;4
+vote_type;approval
+PROJECTS
+project_id;cost
+x;1
+y;2
+VOTES
+voter_id;vote
+v1;x,y
+v2;x,y
+v3;x,y
+v4;

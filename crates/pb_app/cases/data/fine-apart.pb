@@ -1,0 +1,16 @@
+META
+key;value
+budget;0.28
+vote_type;approval
+PROJECTS
+project_id;cost
+a;0.08
+b;0.04
+c;0.05
+d;0.15
+VOTES
+voter_id;vote
+v1;a,b,d
+v2;b,c,d
+v3;a,b,d
+v4;a,b,d

@@ -1,0 +1,13 @@
+META
+key;value
+budget;10000000000000
+vote_type;approval
+PROJECTS
+project_id;cost
+a;4611686018427.38
+VOTES
+voter_id;vote
+v1;a
+v2;a
+v3;a
+v4;a

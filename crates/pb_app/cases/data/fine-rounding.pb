@@ -1,0 +1,15 @@
+META
+key;value
+budget;4.00
+vote_type;approval
+PROJECTS
+project_id;cost
+a;1.00
+b;2.00
+c;4.00
+VOTES
+voter_id;vote
+v1;a,b
+v2;a,b
+v3;a,b
+v4;c
