@@ -1,5 +1,5 @@
 -- What a count reads of an election that is changed.
-use Rattle.std.proofs.Common.{◌≡◌, ◌∙◌, ◌<◌, ◌++◌, ◌∷◌, [], ℕ, List, append-nil, ap, get_or, length, map, replicate, slice_set, subst, sym}
+use Rattle.std.proofs.Common.{◌≡◌, ◌∙◌, ◌<◌, ◌++◌, ◌∷◌, [], ℕ, List, append-nil, ap, arith, get_or, length, map, replicate, slice_set, subst, sym}
 use Rattle.std.proofs.lemmas.List.{length-map, length-set}
 use Rattle.pb_core.specs.Election.{ElectionView, IsElection, IsProject, ProjectView, project_ids}
 use Rattle.pb_reasons.specs.WhatIf.{IsTrue, Says, Seen, changed, seen}
@@ -40,6 +40,7 @@ pub known : (e : ElectionView) (q : Question) (p : ProjectView) (verdict : Verdi
     → Says e q verdict → AreKnown (seen e) q p.cost verdict
 unfolding IsTrue
 known e q p verdict is within at says = record {
+  within = omega (arith, within, length-map e.projects (λ (p : ProjectView). p.cost));
   own = (e, is, (λ i. record { budget = e.budget; ids = project_ids e; costs = sym (own_cost e.projects q.place p within at) i; ballots = (seen e).ballots }), says);
   nobody = (e, is, (λ i. record { budget = e.budget; ids = project_ids e; costs = (seen e).costs; ballots = sym (append-nil (seen e).ballots) i }), says);
   can_be = (project.costs, project.affordable);

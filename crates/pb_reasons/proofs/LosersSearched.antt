@@ -1,6 +1,6 @@
 -- Losers of a count, and what is found of them.
-use Rattle.std.proofs.Common.{◌≡◌, ◌≢◌, ◌∙◌, ◌+◌, ◌<◌, [], ℕ, Bool, List, Ok, Err, Result, ap, arith, false, get_or, length, map, refl, subst, sym}
-use Rattle.std.specs.Prelude.{All, IfErr, IfOk, filter, not, slice_index}
+use Rattle.std.proofs.Common.{◌≡◌, ◌∙◌, ◌+◌, ◌<◌, [], ℕ, Bool, List, Ok, Err, Result, ap, arith, false, get_or, length, map, refl, subst, sym}
+use Rattle.std.specs.Prelude.{All, IfOk, filter, not, slice_index}
 use Rattle.std.specs.List.{range_with_len}
 use Rattle.std.specs.List.Sorted.{IsSorted}
 use Rattle.std.specs.Ordering.{flip_args, is_lt, nat_cmp, on, ordering_then, then_cmp}
@@ -12,25 +12,24 @@ use Rattle.std.proofs.lemmas.List.Sorted.{All-permutation}
 use Rattle.pb_core.specs.Election.{ElectionView, IsElection, ProjectView}
 use Rattle.pb_price.specs.Supporters.{cost_at, support_of}
 use Rattle.pb_core.specs.Order.{IsOrder, position_in}
+use Rattle.pb_core.specs.declared.no_memory.NoMemory.{NoMemory}
 use Rattle.pb_core.proofs.Orders.{order_known}
 use Rattle.pb_rounds.specs.Counted.{IsCountOf}
 use Rattle.pb_rounds.specs.MostVotes.{votes_at}
 use Rattle.pb_rounds.specs.TieOrder.{IsSortedFor}
 use Rattle.pb_rounds.specs.Outcome.{OutcomeView}
-use Rattle.pb_rounds.specs.declared.count_fault.CountFault.{CountFault}
-use Rattle.pb_rounds.specs.declared.count_fault.CountFault.TheVariants.{NoMemory}
 use Rattle.pb_rounds.specs.declared.rule.Rule.{Rule}
 use Rattle.pb_reasons.specs.Counted.{counted, is_selected}
-use Rattle.pb_reasons.specs.CountedElection.{CountedElectionView, IsFaultIn}
+use Rattle.pb_reasons.specs.CountedElection.{CountedElectionView}
 use Rattle.pb_reasons.specs.WhatIf.{IsWhatIf, Says, Seen, seen}
 use Rattle.pb_reasons.specs.Losers.{AreFound}
 use Rattle.pb_reasons.specs.Inner.Losers.{AreAsked, AreFirst, AreLosers, HasLost, IsSearched, about}
-use Rattle.pb_reasons.specs.Inner.Searching.{AreKnown, IsStop}
+use Rattle.pb_reasons.specs.Inner.Searching.{AreKnown}
 use Rattle.pb_reasons.specs.declared.changes.change.Verdict.TheVariants.{Lost}
 use Rattle.pb_reasons.specs.declared.changes.loser.Loser.{Loser}
 use Rattle.pb_reasons.proofs.Changed.{known}
 use Rattle.pb_reasons.proofs.Ranges.{cost_read, lost_found}
-use Rattle.pb_reasons.proofs.Searches.{has_won_by, says_lost, stopped_after}
+use Rattle.pb_reasons.proofs.Searches.{has_won_by, says_lost}
 use Rattle.pb_reasons.proofs.Sorted.{as_many_sorted, is_order, one_each, place_back, votes_in_file}
 
 -- by the votes in another numbering of the projects that agrees on these places
@@ -68,11 +67,8 @@ module _ (e : ElectionView) (rule : Rule) where
         says_lost e (about rule place) (has_won_by e sorted (about rule place) order o false is_put count (sym here)) in
         record {
           says = says;
-          loser = record {
-            within = omega (arith, within, length-map e.projects (λ (q : ProjectView). q.cost));
-            known = subst (λ (n : ℕ). AreKnown (seen e) (about rule place) n Lost) (cost_read e place p within at)
-                (known e (about rule place) p Lost election within at says);
-          };
+          loser = subst (λ (n : ℕ). AreKnown (seen e) (about rule place) n Lost) (cost_read e place p within at)
+              (known e (about rule place) p Lost election within at says);
         }
 
     all_have_lost : All (HasLost e rule) (map (slice_index order) (filter has_not_won (range_with_len 0 (length sorted.projects))))
@@ -122,7 +118,7 @@ module _ (e : ElectionView) (rule : Rule) where
           (subst (λ (them : List ℕ). HasLost e rule (get_or them i d.place)) (sym same)
           (lost i d.place (omega (arith, inside, length-map found (λ (l : Loser). l.place), ap length same))))
 
-  pub each_found : {A : Type 0} (items : A → List Loser) (s : Seen) (places : List ℕ) (r : Result A CountFault) → s ≡ seen e → All (HasLost e rule) places
+  pub each_found : {A : Type 0} (items : A → List Loser) (s : Seen) (places : List ℕ) (r : Result A NoMemory) → s ≡ seen e → All (HasLost e rule) places
       → IfOk r (λ x. map (λ l. l.place) (items x) ≡ places) → IfOk r (λ x. All (IsSearched s rule) (items x))
       → IfOk r (λ x. All (λ l. IsWhatIf e (about rule l.place) (cost_at (support_of e) l.place) l.found) (items x))
   each_found items s places (Ok x) read lost same searched = all_found s places (items x) read lost same searched
@@ -150,7 +146,7 @@ module _ (e : ElectionView) (rule : Rule) where
       are.in_order
 
   -- they are the losers that were asked about, and were searched in the election as it was before
-  pub these_found : {A : Type 0} (items : A → List Loser) (first : ℕ) (places : List ℕ) (r : Result A CountFault) (left : ElectionView) → left ≡ e → IsElection e
+  pub these_found : {A : Type 0} (items : A → List Loser) (first : ℕ) (places : List ℕ) (r : Result A NoMemory) (left : ElectionView) → left ≡ e → IsElection e
       → AreAsked e rule first places → IfOk r (λ x. map (λ l. l.place) (items x) ≡ places)
       → IfOk r (λ x. All (λ l. IsWhatIf left (about rule l.place) (cost_at (support_of left) l.place) l.found) (items x))
       → IfOk r (λ x. AreFound e rule first (items x))
@@ -162,9 +158,3 @@ module _ (e : ElectionView) (rule : Rule) where
         each = subst (λ (own : ElectionView). All (λ l. IsWhatIf own (about rule l.place) (cost_at (support_of own) l.place) l.found) (items x)) kept each;
       }
   these_found items first places (Err fault) left kept election asked same each = tt
-
-  pub stopped : {A : Type 0} (first : ℕ) (places : List ℕ) (r : Result A CountFault) → AreAsked e rule first places → IfErr r (IsStop (about rule 0))
-      → IfErr r (λ fault. fault ≢ NoMemory → IsFaultIn rule e fault)
-  stopped first places r asked stop =
-      let (x, count, asked_first) = asked.are in
-      stopped_after e x.election x.order (about rule 0) r count.1 stop

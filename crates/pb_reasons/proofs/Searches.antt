@@ -1,10 +1,11 @@
 -- Rows of a search, and what ends one.
 use Rattle.std.specs.Prelude.{IfErr, IfOk}
-use Rattle.std.proofs.Common.{◌≡◌, ◌≢◌, ◌<◌, ◌≤◌, ℕ, List, Ok, Err, Result, Bool, true, false, if◌then◌else◌, get_or, length, refl, sym, ◌∙◌, ap, arith}
+use Rattle.std.proofs.Common.{◌≡◌, ◌≢◌, ◌<◌, ◌≤◌, ℕ, List, None, Ok, Err, Result, Bool, true, false, if◌then◌else◌, get_or, length, refl, sym, ◌∙◌, ap, arith, inl, inr}
 use Rattle.pb_core.specs.Election.{ElectionView, IsElection, ProjectView}
 use Rattle.pb_core.specs.Order.{position_in}
 use Rattle.pb_reasons.specs.Counted.{counted, is_selected}
 use Rattle.pb_reasons.specs.CountedElection.{IsFaultIn}
+use Rattle.pb_rounds.specs.CountFault.{refusal_of}
 use Rattle.pb_rounds.specs.Counted.{IsCountFault, IsCountOf}
 use Rattle.pb_rounds.specs.Outcome.{OutcomeView}
 use Rattle.pb_rounds.specs.TieOrder.{IsSortedFor}
@@ -16,7 +17,8 @@ use Rattle.pb_reasons.specs.Inner.Searching.{AreEnds, AreNear, AreOpposed, HasWo
 use Rattle.pb_reasons.specs.declared.changes.change.Change.{Change}
 use Rattle.pb_reasons.specs.declared.changes.change.Change.TheVariants.{Cost, Voters}
 use Rattle.pb_reasons.specs.declared.changes.change.Row.{Row}
-use Rattle.pb_reasons.specs.declared.changes.change.Verdict.TheVariants.{Lost, Won}
+use Rattle.pb_reasons.specs.declared.changes.change.Verdict.{Verdict}
+use Rattle.pb_reasons.specs.declared.changes.change.Verdict.TheVariants.{Lost, Refused, Won}
 use Rattle.pb_reasons.specs.declared.changes.question.Question.{Question}
 use Rattle.pb_reasons.proofs.Changed.{known}
 
@@ -32,6 +34,7 @@ pub opposed_low : (s : Seen) (q : Question) (change : Change) (from to : ℕ) (l
     → AreOpposed s q change from to row high
 opposed_low s q change from to low high row are is above below alike = record {
   ends = record {
+    within = are.ends.within;
     low_is = is;
     high_is = are.ends.high_is;
     ordered = below;
@@ -48,6 +51,7 @@ pub opposed_high : (s : Seen) (q : Question) (change : Change) (from to : ℕ) (
     → AreOpposed s q change from to low row
 opposed_high s q change from to low high row are is above below apart = record {
   ends = record {
+    within = are.ends.within;
     low_is = are.ends.low_is;
     high_is = is;
     ordered = above;
@@ -91,42 +95,26 @@ found_same s q change low high a b a_is b_is a_at b_at same = record {
   differ = λ apart. absurd (apart same);
 }
 
--- a count's fault ends a search, but for raises that are spent; and what ends one is a fault of each count
+-- a count's fault that is none of its raises and amounts is one of the options
 pub stop_by : (e : ElectionView) (q : Question) (fault : CountFault) → fault ≢ RaisesSpent → fault ≢ TooFine
     → (fault ≢ NoMemory → IsFaultIn q.rule e fault) → IsStop q fault
-stop_by e q WorkerCount apart coarse is = record { out_of_range = λ unlike. let (order, sorted, is_put, out) = is unlike in out; not_spent = apart; not_fine = coarse }
-stop_by e q StepRange apart coarse is = record { out_of_range = λ unlike. let (order, sorted, is_put, out) = is unlike in out; not_spent = apart; not_fine = coarse }
-stop_by e q RaisesRange apart coarse is = record { out_of_range = λ unlike. let (order, sorted, is_put, out) = is unlike in out; not_spent = apart; not_fine = coarse }
+stop_by e q WorkerCount apart coarse is = record { out_of_range = λ unlike. let (order, sorted, is_put, out) = is unlike in out }
+stop_by e q StepRange apart coarse is = record { out_of_range = λ unlike. let (order, sorted, is_put, out) = is unlike in out }
+stop_by e q RaisesRange apart coarse is = record { out_of_range = λ unlike. let (order, sorted, is_put, out) = is unlike in out }
 stop_by e q RaisesSpent apart coarse is = absurd (apart refl)
 stop_by e q TooFine apart coarse is = absurd (coarse refl)
-stop_by e q NoMemory apart coarse is = record { out_of_range = λ unlike. absurd (unlike refl); not_spent = apart; not_fine = coarse }
+stop_by e q NoMemory apart coarse is = record { out_of_range = λ unlike. absurd (unlike refl) }
 
-fault_of : (e : ElectionView) (q : Question) (fault : CountFault) → IsStop q fault → fault ≢ NoMemory → IsCountFault e q.rule.options fault
-fault_of e q WorkerCount stop unlike = stop.out_of_range unlike
-fault_of e q StepRange stop unlike = stop.out_of_range unlike
-fault_of e q RaisesRange stop unlike = stop.out_of_range unlike
-fault_of e q RaisesSpent stop unlike = absurd (stop.not_spent refl)
-fault_of e q TooFine stop unlike = absurd (stop.not_fine refl)
-fault_of e q NoMemory stop unlike = absurd (unlike refl)
+-- where a count said something, the options are in their ranges
+served_by : (e : ElectionView) (q : Question) (verdict : Verdict) → Says e q verdict → refusal_of q.rule.options ≡ None
+served_by e q Lost (x, (by, is_put, (o, count, all)), won) = count.in_range.0
+served_by e q Won (x, (by, is_put, (o, count, all)), won) = count.in_range.0
+served_by e q Refused (inl (order, sorted, is_put, spent)) = spent.0
+served_by e q Refused (inr (order, sorted, is_put, fine)) = fine.0
 
-fault_of_stop : (e sorted : ElectionView) (order : List ℕ) (q : Question) (fault : CountFault) → IsSortedFor q.rule.ties e order sorted → IsStop q fault → fault ≢ NoMemory
-    → IsFaultIn q.rule e fault
-fault_of_stop e sorted order q fault is_put stop unlike = (order, sorted, is_put, fault_of sorted q fault stop unlike)
-
--- what ends a search of an election that was counted
-pub stopped_after : {A : Type 0} (e sorted : ElectionView) (order : List ℕ) (q : Question) (r : Result A CountFault) → IsSortedFor q.rule.ties e order sorted
-    → IfErr r (IsStop q) → IfErr r (λ fault. fault ≢ NoMemory → IsFaultIn q.rule e fault)
-stopped_after e sorted order q (Ok x) is_put stop = tt
-stopped_after e sorted order q (Err fault) is_put stop = fault_of_stop e sorted order q fault is_put stop
-
-pub memory_stops : (q : Question) → IsStop q NoMemory
-memory_stops q = record { out_of_range = λ unlike. absurd (unlike refl); not_spent = memory_spent; not_fine = memory_fine }
-  where
-    memory_fine : NoMemory ≢ TooFine
-    memory_fine same = cc
-
-    memory_spent : NoMemory ≢ RaisesSpent
-    memory_spent same = cc
+pub served : (s : Seen) (q : Question) (change : Change) (row : Row) → IsTrue s q change row → refusal_of q.rule.options ≡ None
+unfolding IsTrue
+served s q change row (e, is, read, says) = served_by e q row.verdict says
 
 -- what the count of a sorted election says of the project
 pub has_won_by : (e sorted : ElectionView) (q : Question) (order : List ℕ) (o : OutcomeView) (won : Bool) → IsSortedFor q.rule.ties e order sorted

@@ -11,6 +11,8 @@ pub mod counted_election;
 mod ending;
 mod exchange;
 mod fairness;
+mod first_ties;
+mod first_told;
 mod kept;
 pub mod laws;
 pub mod money_paid;

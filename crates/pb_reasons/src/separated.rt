@@ -14,6 +14,7 @@ ghost use Rattle.pb_rounds.specs.MostVotes.{is_taken, votes_at};
 use crate::changes::recounts::Recounts;
 use crate::counted_election::CountedElection;
 use crate::exchange::with_changes;
+use crate::first_told::{FirstTold, MOST_ROWS};
 use crate::raise_end::is_exhausted;
 use crate::replay::pay;
 use crate::tie::Tie;
@@ -34,9 +35,6 @@ use std::thread::Threads;
 
 /// The most runs whose ties are told.
 const MOST_RUNS: u32 = 1_000;
-
-/// The most ties that are told.
-const MOST_ROWS: usize = 100_000;
 
 /// All pairs of equal projects that the rule for ties separated, in each run of a count: all raises up to the
 /// answered one are run, and the one beyond it where that one ended the raises. None where these are more than a
@@ -104,12 +102,14 @@ fn separated<T: Threads + Sync, G: Gate>(
 {
     // What is true of every count is so of this one.
     let _election = count.election();
-    let mut told = Vec::new(recounts.alloc);
+    let mut told = FirstTold {
+        rows: Vec::new(recounts.alloc),
+    };
     for run in 0..runs {
         put_run(recounts, count, run, &mut told)?;
     }
     put_added(recounts.alloc, count, &mut told)?;
-    Ok(told)
+    Ok(told.rows)
 }
 
 /// Puts the ties of a run behind the others.
@@ -117,14 +117,13 @@ fn put_run<T: Threads + Sync, G: Gate>(
     recounts: &Recounts<T, G>,
     count: &CountedElection,
     run: u32,
-    told: &mut Vec<ToldTie>,
+    told: &mut FirstTold,
 ) -> Result<(), NoMemory>
     requires by { recounts.now.rule ≡ count.now.rule }
     requires made { run < runs_of count.now }
-    requires few { length told.old.items ≤ 100001 }
-    ensures { OnOk result (told.new.items ≡ take 100001 (told.old.items ++ run_ties count.now run)) }
+    ensures { OnOk result (told.new.rows.items ≡ take 100001 (told.old.rows.items ++ run_ties count.now run)) }
 {
-    if told.len() > MOST_ROWS {
+    if told.is_over() {
         return Ok(());
     }
     let (rt, alloc, options) = (recounts.rt, recounts.alloc, recounts.rule.options);
@@ -159,15 +158,14 @@ fn put_rounds(
     count: &CountedElection,
     run: u32,
     outcome: &Outcome,
-    told: &mut Vec<ToldTie>,
+    told: &mut FirstTold,
 ) -> Result<(), NoMemory>
     requires share { outcome.now.share ≡ share_by count.now.rule.options.completion count.now.rule.options.grain
         count.now.election (step_of count.now.election count.now.rule.options) run }
     requires small { outcome.now.share ≤ largest_share }
     requires is_run { IsRun count.now.rule.options.measure
         (support_in count.now.rule.options.grain count.now.election) outcome.now.share outcome.now.elected outcome.now.rests }
-    requires few { length told.old.items ≤ 100001 }
-    ensures { OnOk result (told.new.items ≡ take 100001 (told.old.items ++ run_ties count.now run)) }
+    ensures { OnOk result (told.new.rows.items ≡ take 100001 (told.old.rows.items ++ run_ties count.now run)) }
 {
     // What is true of every count is so of this one.
     let _election = count.election();
@@ -177,7 +175,7 @@ fn put_rounds(
     let mut queue = opening_queue(alloc, measure, supporters)?;
     let mut rests = opening_rests(alloc, outcome.share, supporters.voters())?;
     for (before, winner) in elected.iter().enumerate() {
-        if told.len() > MOST_ROWS {
+        if told.is_over() {
             return Ok(());
         }
         bounds[winner.place as usize] = None;
@@ -185,10 +183,11 @@ fn put_rounds(
             measure,
             supporters,
             elected: &elected[..before + 1],
+            rests: &rests,
             winner: *winner,
             number: before + 1,
         };
-        let others = round.others(alloc, &rests, &mut bounds, &mut queue)?;
+        let others = round.others(alloc, &mut bounds, &mut queue)?;
         let first = first_of(run, before + 1, Some(before + 1), winner.place);
         put_others(alloc, told, count, first, others.as_slice())?;
         drop(others);
@@ -220,13 +219,12 @@ fn first_of(run: u32, number: usize, round: Option<usize>, winner: u32) -> ToldT
 /// told, and one more.
 fn put_others(
     alloc: Global,
-    told: &mut Vec<ToldTie>,
+    told: &mut FirstTold,
     count: &CountedElection,
     first: ToldTie,
     others: &[u32],
 ) -> Result<(), NoMemory>
-    requires few { length told.old.items ≤ 100001 }
-    ensures { OnOk result (told.new.items ≡ take 100001 (told.old.items
+    ensures { OnOk result (told.new.rows.items ≡ take 100001 (told.old.rows.items
         ++ told_with count.now first (is_taken others.now))) }
 {
     if others.is_empty() {
@@ -237,19 +235,8 @@ fn put_others(
     for place in 0..projects {
         let position = count.position(place as u32);
         if ties[position as usize] {
-            tell_row(told, with_other(first, position))?;
+            told.tell(with_other(first, position))?;
         }
-    }
-    Ok(())
-}
-
-/// Puts a row behind the others, unless as many are told as are told at most, and one more.
-fn tell_row(told: &mut Vec<ToldTie>, row: ToldTie) -> Result<(), NoMemory>
-    requires { length told.old.items ≤ 100001 }
-    ensures { OnOk result (told.new.items ≡ take 100001 (told.old.items ++ row ∷ [])) }
-{
-    if told.len() <= MOST_ROWS {
-        told.push(row)?;
     }
     Ok(())
 }
@@ -270,13 +257,8 @@ fn with_other(first: ToldTie, other: u32) -> ToldTie
 }
 
 /// Puts the ties of the added behind the others.
-fn put_added(
-    alloc: Global,
-    count: &CountedElection,
-    told: &mut Vec<ToldTie>,
-) -> Result<(), NoMemory>
-    requires few { length told.old.items ≤ 100001 }
-    ensures { OnOk result (told.new.items ≡ take 100001 (told.old.items ++ added_ties count.now)) }
+fn put_added(alloc: Global, count: &CountedElection, told: &mut FirstTold) -> Result<(), NoMemory>
+    ensures { OnOk result (told.new.rows.items ≡ take 100001 (told.old.rows.items ++ added_ties count.now)) }
 {
     for number in 0..count.added().len() {
         put_one_added(alloc, count, number, told)?;
@@ -289,11 +271,10 @@ fn put_one_added(
     alloc: Global,
     count: &CountedElection,
     number: usize,
-    told: &mut Vec<ToldTie>,
+    told: &mut FirstTold,
 ) -> Result<(), NoMemory>
     requires known { number < length count.now.counted.added }
-    requires few { length told.old.items ≤ 100001 }
-    ensures { OnOk result (told.new.items ≡ take 100001 (told.old.items ++ ties_at_added count.now number)) }
+    ensures { OnOk result (told.new.rows.items ≡ take 100001 (told.old.rows.items ++ ties_at_added count.now number)) }
 {
     // What is true of every count is so of this one.
     let _election = count.election();

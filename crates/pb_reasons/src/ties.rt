@@ -8,10 +8,11 @@ ghost use Rattle.pb_reasons.specs.Inner.Rounds.{AreOpeningBounds, HasLosers, is_
 ghost use Rattle.pb_reasons.specs.Ties.{ties_in, ties_of, ties_with_added};
 
 use crate::counted_election::CountedElection;
+use crate::first_ties::FirstTies;
 use crate::replay::pay;
 use crate::tie::Tie;
 use crate::tie_queue::opening_queue;
-use crate::tied_round::{MOST_TIES, TiedRound, tell};
+use crate::tied_round::TiedRound;
 use pb_core::money::Money;
 use pb_core::no_memory::NoMemory;
 use pb_price::Price;
@@ -39,17 +40,16 @@ pub fn ties_of(alloc: Global, count: &CountedElection) -> Result<Vec<Tie>, NoMem
     let (supporters, measure) = (count.supporters(), rule.options.measure);
     let mut ties = replay_ties(alloc, supporters, measure, outcome.share, elected)?;
     put_added_ties(alloc, &mut ties, count)?;
-    Ok(ties)
+    Ok(ties.ties)
 }
 
 /// Puts the ties of filling up behind those of the rounds, as far as so many are told.
 fn put_added_ties(
     alloc: Global,
-    ties: &mut Vec<Tie>,
+    ties: &mut FirstTies,
     count: &CountedElection,
 ) -> Result<(), NoMemory>
-    requires { length ties.old.items ≤ 100 }
-    ensures { OnOk result (ties.new.items ≡ take 100 (ties.old.items ++ flat_map
+    ensures { OnOk result (ties.new.ties.items ≡ take 100 (ties.old.ties.items ++ flat_map
         (ties_with_added (support_of count.now.election) count.now.counted) count.now.counted.added)) }
 {
     // What is true of every count is true of the places of the added.
@@ -57,7 +57,7 @@ fn put_added_ties(
     let losers = losers(alloc, count)?;
     let added = count.added();
     for winner in added {
-        put_ties_if_any(ties, count, &losers, *winner)?;
+        put_ties_with(ties, count, &losers, *winner)?;
     }
     Ok(())
 }
@@ -87,36 +87,25 @@ fn votes_and_cost(supporters: &Supporters, place: u32) -> u128
     votes * 18_446_744_073_709_551_616 + u128::from(supporters.cost(place).0)
 }
 
-/// Puts the ties of the added project at this place behind the others, if a project that did not win has its votes
-/// and its cost.
-fn put_ties_if_any(
-    ties: &mut Vec<Tie>,
+/// Puts the ties of the added project at this place behind the others, as far as so many are told, if a project that
+/// did not win has its votes and its cost.
+fn put_ties_with(
+    ties: &mut FirstTies,
     count: &CountedElection,
     losers: &BTreeSet<u128>,
     winner: u32,
 ) -> Result<(), NoMemory>
     requires known { winner < length count.now.election.projects }
-    requires few { length ties.old.items ≤ 100 }
     requires losers { HasLosers (support_of count.now.election) count.now.counted
         (length (support_of count.now.election).costs) losers.now }
-    ensures { OnOk result (ties.new.items ≡ take 100 (ties.old.items
+    ensures { OnOk result (ties.new.ties.items ≡ take 100 (ties.old.ties.items
         ++ ties_with_added (support_of count.now.election) count.now.counted winner)) }
 {
-    let number = votes_and_cost(count.supporters(), winner);
-    if losers.contains(&number) {
-        put_ties_with(ties, count, winner)?;
+    if ties.is_full() {
+        return Ok(());
     }
-    Ok(())
-}
-
-/// Puts the ties of the added project at this place behind the others, as far as so many are told.
-fn put_ties_with(ties: &mut Vec<Tie>, count: &CountedElection, winner: u32) -> Result<(), NoMemory>
-    requires known { winner < length count.now.election.projects }
-    requires few { length ties.old.items ≤ 100 }
-    ensures { OnOk result (ties.new.items ≡ take 100 (ties.old.items
-        ++ ties_with_added (support_of count.now.election) count.now.counted winner)) }
-{
-    if ties.len() == MOST_TIES {
+    let number = votes_and_cost(count.supporters(), winner);
+    if !losers.contains(&number) {
         return Ok(());
     }
     let projects = count.supporters().projects();
@@ -127,7 +116,7 @@ fn put_ties_with(ties: &mut Vec<Tie>, count: &CountedElection, winner: u32) -> R
                 winner,
                 other: place,
             };
-            tell(ties, tie)?;
+            ties.tell(tie)?;
         }
     }
     Ok(())
@@ -152,26 +141,35 @@ fn replay_ties(
     measure: Measure,
     share: Money,
     elected: &[Elected],
-) -> Result<Vec<Tie>, NoMemory>
+) -> Result<FirstTies, NoMemory>
     requires known { All (λ w. w.place < length supporters.now.costs) elected.now }
     requires small { share ≤ largest_share }
     requires payers { All (λ w. HasPayers supporters.now w.exact) elected.now }
-    ensures { IfOk result (λ ties. ties.items ≡ take 100 (flat_map
+    ensures { IfOk result (λ ties. ties.ties.items ≡ take 100 (flat_map
         (ties_in measure supporters.now share elected.now) (range_with_len 0 (length elected.now)))) }
 {
     let mut bounds = opening_bounds(alloc, elected, supporters.projects() as usize)?;
     let mut queue = opening_queue(alloc, measure, supporters)?;
     let mut rests = opening_rests(alloc, share, supporters.voters())?;
-    let mut ties = Vec::new(alloc);
+    let mut ties = FirstTies {
+        ties: Vec::new(alloc),
+    };
     for (before, winner) in elected.iter().enumerate() {
+        if ties.is_full() {
+            return Ok(ties);
+        }
         let round = TiedRound {
             measure,
             supporters,
             elected,
+            rests: &rests,
             winner: *winner,
             number: before + 1,
         };
-        round.find(alloc, &rests, &mut bounds, &mut queue, &mut ties)?;
+        let others = round.others(alloc, &mut bounds, &mut queue)?;
+        let told = round.tell(others.as_slice(), &mut ties);
+        drop(others);
+        told?;
         pay(supporters.of(winner.place), winner.price, &mut rests);
     }
     Ok(ties)

@@ -1,18 +1,18 @@
 -- What the parts of the search for losers know.
-use Rattle.std.specs.Prelude.{◌≡◌, ℕ, ◌-◌, ◌<◌, All, IfErr, IfOk, List, Result, filter, length, map, min, not, slice_index}
+use Rattle.std.specs.Prelude.{◌≡◌, ℕ, ◌-◌, ◌<◌, All, IfOk, List, Result, filter, length, map, min, not, slice_index}
 use Rattle.std.specs.Prelude.{slice_index_or, take}
 use Rattle.std.specs.List.{range_with_len}
 use Rattle.std.specs.List.Sorted.{IsPermutation, IsSorted}
 use Rattle.std.specs.Ordering.{flip_args, nat_cmp, on, then_cmp}
 use Rattle.pb_core.specs.Election.{ElectionView, most_voters}
 use Rattle.pb_core.specs.Order.{position_in}
+use Rattle.pb_core.specs.declared.no_memory.NoMemory.{NoMemory}
 use Rattle.pb_price.specs.Supporters.{SupportView, support_of}
 use Rattle.pb_rounds.specs.MostVotes.{is_taken, votes_at}
-use Rattle.pb_rounds.specs.declared.count_fault.CountFault.{CountFault}
 use Rattle.pb_rounds.specs.declared.rule.Rule.{Rule}
 use Rattle.pb_reasons.specs.Counted.{CountedView, is_selected}
 use Rattle.pb_reasons.specs.CountedElection.{CountedElectionView, IsCountIn}
-use Rattle.pb_reasons.specs.Inner.Searching.{AreKnown, IsStop}
+use Rattle.pb_reasons.specs.Inner.Searching.{AreKnown}
 use Rattle.pb_reasons.specs.WhatIf.{IsFound, Says, Seen, seen}
 use Rattle.pb_reasons.specs.Inner.Doubling.{NoneWins}
 use Rattle.pb_reasons.specs.declared.changes.change.Change.TheVariants.{Cost, Voters}
@@ -44,9 +44,8 @@ abbrev pub about : Rule → ℕ → Question
 about rule place = record { rule = rule; place = place }
 
 -- what is known of a loser with its own cost, of what a count reads
-pub record IsLoser (s : Seen) (rule : Rule) (place : ℕ) : Type 0 where
-  pub within : place < length s.costs
-  pub known : AreKnown s (about rule place) (slice_index s.costs place) Lost
+abbrev pub IsLoser : Seen → Rule → (place : ℕ) → Type 0
+IsLoser s rule place = AreKnown s (about rule place) (slice_index s.costs place) Lost
 
 -- the same of a loser of an election
 pub record HasLost (e : ElectionView) (rule : Rule) (place : ℕ) : Type 0 where
@@ -66,13 +65,12 @@ pub record IsSearched (s : Seen) (rule : Rule) (l : Loser) : Type 0 where
   pub doubled : NoneWins s (about rule l.place) l.found.voters.second.value
 
 -- what the search of the loser at this place answers
-pub record IsAnswer (s : Seen) (rule : Rule) (place : ℕ) (answer : Result Loser CountFault) : Type 0 where
+pub record IsAnswer (s : Seen) (rule : Rule) (place : ℕ) (answer : Result Loser NoMemory) : Type 0 where
   pub about_it : IfOk answer (λ l. l.place ≡ place)
   pub searched : IfOk answer (IsSearched s rule)
-  pub stopped : IfErr answer (IsStop (about rule 0))
 
 -- the answers for these losers, each at its place
-pub record AreAnswers (s : Seen) (rule : Rule) (places : List ℕ) (answers : List (Result Loser CountFault)) : Type 0 where
+pub record AreAnswers (s : Seen) (rule : Rule) (places : List ℕ) (answers : List (Result Loser NoMemory)) : Type 0 where
   pub one_each : length answers ≡ length places
-  pub each : (i : ℕ) (d : Result Loser CountFault) → i < length answers
+  pub each : (i : ℕ) (d : Result Loser NoMemory) → i < length answers
       → IsAnswer s rule (slice_index places i) (slice_index_or answers i d)

@@ -6,7 +6,7 @@ use Rattle.pb_reasons.specs.Counted.{is_selected}
 use Rattle.pb_reasons.specs.CountedElection.{CountedElectionView, IsCountIn}
 use Rattle.pb_rounds.specs.CountFault.{refusal_of}
 use Rattle.pb_rounds.specs.declared.count_fault.CountFault.{CountFault}
-use Rattle.pb_rounds.specs.declared.count_fault.CountFault.TheVariants.{NoMemory, RaisesSpent, TooFine}
+use Rattle.pb_rounds.specs.declared.count_fault.CountFault.TheVariants.{NoMemory}
 use Rattle.pb_reasons.specs.Inner.Numbered.{AreNumbered}
 use Rattle.pb_reasons.specs.WhatIf.{CanBe, IsTrue, Says, Seen, changed, seen, wins}
 use Rattle.pb_reasons.specs.declared.changes.change.Change.{Change}
@@ -32,14 +32,13 @@ pub record IsLent (s : Seen) (change : Change) (place value : ℕ) (e : Election
   pub numbered : AreNumbered (length s.costs) (take (length s.ballots) e.voters)
   pub ballots : map (λ v. v.ballot) (take (length s.ballots) e.voters) ≡ s.ballots
 
--- a fault that ends a search: out of memory, or options that are out of their ranges
+-- a fault that leaves no verdict: out of memory, or options that are out of their ranges
 pub record IsStop (q : Question) (fault : CountFault) : Type 0 where
   pub out_of_range : fault ≢ NoMemory → refusal_of q.rule.options ≡ Some fault
-  pub not_spent : fault ≢ RaisesSpent
-  pub not_fine : fault ≢ TooFine
 
--- two true rows of one change, the smaller value first
+-- two true rows of one change of a project, the smaller value first
 pub record AreEnds (s : Seen) (q : Question) (change : Change) (low high : Row) : Type 0 where
+  pub within : q.place < length s.costs
   pub low_is : IsTrue s q change low
   pub high_is : IsTrue s q change high
   pub ordered : low.value < high.value
@@ -60,6 +59,7 @@ pub record AreNear (s : Seen) (q : Question) (change : Change) (least most : ℕ
 
 -- what is known of the election as it is, and of its project with its own cost
 pub record AreKnown (s : Seen) (q : Question) (cost : ℕ) (verdict : Verdict) : Type 0 where
+  pub within : q.place < length s.costs
   pub own : IsTrue s q Cost (record { value = cost; verdict = verdict })
   pub nobody : IsTrue s q Voters (record { value = 0; verdict = verdict })
   pub can_be : CanBe s Cost cost

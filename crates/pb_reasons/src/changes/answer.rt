@@ -5,22 +5,22 @@ ghost use Rattle.pb_core.specs.Election.{most_voters};
 ghost use Rattle.pb_core.specs.Money.{largest_money};
 ghost use Rattle.pb_price.specs.Supporters.{cost_at, support_of};
 ghost use Rattle.pb_rounds.specs.CountFault.{refusal_of};
-ghost use Rattle.pb_rounds.specs.declared.count_fault.CountFault.TheVariants.{NoMemory};
 ghost use Rattle.pb_reasons.specs.CountedElection.{IsFaultIn};
 ghost use Rattle.pb_reasons.specs.declared.changes.change.Change.TheVariants.{Cost, Voters};
 ghost use Rattle.pb_reasons.specs.declared.changes.change.Verdict.TheVariants.{Lost, Won};
 ghost use Rattle.pb_reasons.specs.WhatIf.{CanBe, IsFound, IsTrue, IsWhatIf, seen};
 ghost use Rattle.pb_reasons.specs.Inner.Doubling.{NoneWins};
-ghost use Rattle.pb_reasons.specs.Inner.Searching.{AreKnown, IsSaid, IsStop};
+ghost use Rattle.pb_reasons.specs.Inner.Searching.{AreKnown, IsSaid};
 
 use crate::changes::change::{Change, Row, Verdict};
 use crate::changes::changing::Changing;
 use crate::changes::found::{Found, WhatIf};
-use crate::changes::recount::{Recount, has_won};
+use crate::changes::recount::{Recount, has_won, verdict_of};
 use crate::changes::search::{between, doubled};
 use pb_core::election::{Election, MOST_VOTERS};
 use pb_core::gate::Gate;
 use pb_core::money::Money;
+use pb_core::no_memory::NoMemory;
 use pb_rounds::count_fault::CountFault;
 use std::thread::Threads;
 
@@ -38,13 +38,16 @@ pub fn what_if<T: Threads + Sync, G: Gate>(
     requires known { recount.now.question.place < length election.projects }
     ensures found { IfOk result (IsWhatIf election recount.now.question
         (cost_at (support_of election) recount.now.question.place)) }
-    ensures fault { IfErr result (λ fault. fault ≢ NoMemory
+    ensures fault { IfErr result (λ fault. fault ≢ CountFault.NoMemory
         → IsFaultIn recount.now.question.rule election fault) }
 {
     let mut election = election;
     let cost = election.projects()[recount.question.place as usize].cost();
     match has_won(recount, &mut election) {
-        Ok(won) => searched(recount, election, cost, won),
+        Ok(won) => {
+            let found = searched(recount, election, cost, won)?;
+            Ok(found)
+        }
         Err(fault) => {
             drop(election);
             Err(fault)
@@ -58,11 +61,9 @@ fn searched<T: Threads + Sync, G: Gate>(
     election: Election,
     cost: Money,
     won: bool,
-) -> Result<WhatIf, CountFault>
-    requires known { recount.now.question.place < length election.projects }
+) -> Result<WhatIf, NoMemory>
     requires said { IsSaid election recount.now.question cost won }
     ensures found { IfOk result (IsWhatIf election recount.now.question cost) }
-    ensures fault { IfErr result (IsStop recount.now.question) }
 {
     let mut changing = Changing::of(recount.alloc, election)?;
     let found = if won {
@@ -85,13 +86,19 @@ pub fn one_change<T: Threads + Sync, G: Gate>(
     requires can_be { CanBe (seen election) change value }
     ensures row { IfOk result (IsTrue (seen election) recount.now.question change) }
     ensures value { IfOk result (λ row. row.value ≡ value) }
-    ensures fault { IfErr result (λ fault. fault ≢ NoMemory
+    ensures fault { IfErr result (λ fault. fault ≢ CountFault.NoMemory
         → refusal_of recount.now.question.rule.options ≡ Some fault) }
 {
     let mut changing = Changing::of(recount.alloc, election)?;
-    let row = changing.row(recount, change, value);
+    let lent = changing.lend(recount.alloc, change, recount.question.place, value);
     drop(changing);
-    row
+    let mut changed = lent?;
+    let verdict = verdict_of(recount, &mut changed);
+    drop(changed);
+    Ok(Row {
+        value,
+        verdict: verdict?,
+    })
 }
 
 /// What is found for a winner.
@@ -99,15 +106,13 @@ fn winner<T: Threads + Sync, G: Gate>(
     recount: &Recount<T, G>,
     changing: &mut Changing,
     cost: Money,
-) -> Result<WhatIf, CountFault>
-    requires known { recount.now.question.place < length changing.old.costs }
+) -> Result<WhatIf, NoMemory>
     requires won { AreKnown changing.old recount.now.question cost Won }
     ensures cost { IfOk result (λ found.
         IsFound changing.old recount.now.question Cost cost (min (10 * cost) largest_money)
         found.cost.first found.cost.second) }
     ensures voters { IfOk result (λ found.
         IsFound changing.old recount.now.question Voters 0 0 found.voters.first found.voters.second) }
-    ensures fault { IfErr result (IsStop recount.now.question) }
 {
     let nobody = row_of(0, Verdict::Won);
     let found = dearer(recount, changing, cost)?;
@@ -122,13 +127,11 @@ fn dearer<T: Threads + Sync, G: Gate>(
     recount: &Recount<T, G>,
     changing: &mut Changing,
     cost: Money,
-) -> Result<Found, CountFault>
-    requires known { recount.now.question.place < length changing.old.costs }
+) -> Result<Found, NoMemory>
     requires won { AreKnown changing.old recount.now.question cost Won }
     ensures found { IfOk result (λ found.
         IsFound changing.old recount.now.question Cost cost (min (10 * cost) largest_money)
         found.first found.second) }
-    ensures fault { IfErr result (IsStop recount.now.question) }
 {
     let own = row_of(cost.0, Verdict::Won);
     let most = (10 * cost.0).min(Money::LARGEST.0);
@@ -145,8 +148,7 @@ pub(crate) fn loser<T: Threads + Sync, G: Gate>(
     recount: &Recount<T, G>,
     changing: &mut Changing,
     cost: Money,
-) -> Result<WhatIf, CountFault>
-    requires known { recount.now.question.place < length changing.old.costs }
+) -> Result<WhatIf, NoMemory>
     requires lost { AreKnown changing.old recount.now.question cost Lost }
     ensures cost { IfOk result (λ found.
         IsFound changing.old recount.now.question Cost 1 cost found.cost.first found.cost.second) }
@@ -155,8 +157,6 @@ pub(crate) fn loser<T: Threads + Sync, G: Gate>(
         found.voters.first found.voters.second) }
     ensures doubled { IfOk result (λ found.
         NoneWins changing.old recount.now.question found.voters.second.value) }
-    ensures kept { IfOk result (λ _. changing.new ≡ changing.old) }
-    ensures fault { IfErr result (IsStop recount.now.question) }
 {
     let found = cheaper(recount, changing, cost)?;
     let voters = changing.voters();
@@ -172,13 +172,11 @@ fn cheaper<T: Threads + Sync, G: Gate>(
     recount: &Recount<T, G>,
     changing: &mut Changing,
     cost: Money,
-) -> Result<Found, CountFault>
-    requires known { recount.now.question.place < length changing.old.costs }
+) -> Result<Found, NoMemory>
     requires lost { AreKnown changing.old recount.now.question cost Lost }
     ensures found { IfOk result (λ found.
         IsFound changing.old recount.now.question Cost 1 cost found.first found.second) }
     ensures kept { IfOk result (λ _. changing.new ≡ changing.old) }
-    ensures fault { IfErr result (IsStop recount.now.question) }
 {
     let own = row_of(cost.0, Verdict::Lost);
     if 1 < cost.0 {

@@ -1,11 +1,12 @@
 //! An election that is changed for one count at a time.
 
-ghost use Rattle.std.specs.Prelude.{◌≡◌, ◌<◌, ◌≤◌, [], IfErr, IfOk, OnOk, length, map};
+ghost use Rattle.std.specs.Prelude.{◌≡◌, ◌<◌, ◌≤◌, [], IfOk, None, OnOk, length, map};
 ghost use Rattle.std.specs.Prelude.{slice_index, take};
 ghost use Rattle.pb_core.specs.Election.{most_voters};
 ghost use Rattle.pb_reasons.specs.WhatIf.{CanBe, IsTrue, seen};
+ghost use Rattle.pb_rounds.specs.CountFault.{refusal_of};
 ghost use Rattle.pb_reasons.specs.Inner.Numbered.{AreNumbered};
-ghost use Rattle.pb_reasons.specs.Inner.Searching.{IsLent, IsStop, further_of};
+ghost use Rattle.pb_reasons.specs.Inner.Searching.{IsLent, further_of};
 
 use crate::changes::change::{Change, Row};
 use crate::changes::frame::changed_frame;
@@ -89,19 +90,19 @@ impl Changing {
         self.frame.projects()[place as usize].cost()
     }
 
-    /// Counts the election so changed, and changes it back.
+    /// Counts the election so changed, by options that are in their ranges, and changes it back.
     pub(crate) fn row<T: Threads + Sync, G: Gate>(
         &mut self,
         recount: &Recount<T, G>,
         change: Change,
         value: u64,
-    ) -> Result<Row, CountFault>
+    ) -> Result<Row, NoMemory>
         requires known { recount.now.question.place < length self.old.costs }
         requires can_be { CanBe self.old change value }
+        requires in_range { refusal_of recount.now.question.rule.options ≡ None }
         ensures is_true { IfOk result (IsTrue self.old recount.now.question change) }
         ensures value { IfOk result (λ row. row.value ≡ value) }
         ensures kept { IfOk result (λ _. self.new ≡ self.old) }
-        ensures fault { IfErr result (IsStop recount.now.question) }
     {
         let (alloc, place) = (recount.alloc, recount.question.place);
         let own = self.voters.len();
@@ -111,15 +112,17 @@ impl Changing {
                 self.take_back(alloc, changed, own);
                 Ok(Row { value, verdict })
             }
-            Err(fault) => {
+            Err(CountFault::NoMemory) => {
                 drop(changed);
-                Err(fault)
+                Err(NoMemory)
             }
+            // The options are in their ranges, so nothing but want of memory leaves no verdict.
+            Err(_) => unreachable!(),
         }
     }
 
     /// The election so changed, to which it lends its voters.
-    fn lend(
+    pub(crate) fn lend(
         &mut self,
         alloc: Global,
         change: Change,

@@ -10,7 +10,6 @@ ghost use Rattle.pb_reasons.specs.Losers.{AreFound};
 ghost use Rattle.pb_reasons.specs.WhatIf.{IsWhatIf};
 ghost use Rattle.pb_reasons.specs.Inner.Losers.{AreAnswers, AreAsked, AreFirst, HasLost, IsAnswer, IsLoser};
 ghost use Rattle.pb_reasons.specs.Inner.Losers.{IsSearched, about};
-ghost use Rattle.pb_reasons.specs.Inner.Searching.{IsStop};
 
 use crate::changes::answer::loser;
 use crate::changes::changing::Changing;
@@ -31,7 +30,7 @@ use std::alloc::Global;
 use std::thread::{self, Threads};
 
 /// What the search of a loser answers.
-type Answer = Result<Loser, CountFault>;
+type Answer = Result<Loser, NoMemory>;
 
 /// Searches what would have made each of the losers with most votes win, at most this many: as `what_if` does
 /// it for one.
@@ -51,7 +50,7 @@ pub fn what_if_losers<T: Threads + Sync, G: Gate + ProjectGate>(
         Ok(places) => {
             let found = searched(recounts, election, places.as_slice());
             drop(places);
-            found
+            Ok(found?)
         }
         Err(fault) => {
             drop(election);
@@ -109,12 +108,11 @@ fn searched<T: Threads + Sync, G: Gate + ProjectGate>(
     recounts: &Recounts<T, G>,
     election: Election,
     places: &[u32],
-) -> Result<Vec<Loser>, CountFault>
+) -> Result<Vec<Loser>, NoMemory>
     requires { All (HasLost election recounts.now.rule) places.now }
     ensures each { IfOk result (λ found. All (λ l. IsWhatIf election (about recounts.now.rule l.place)
         (cost_at (support_of election) l.place) l.found) found.items) }
     ensures places { IfOk result (λ found. map (λ l. l.place) found.items ≡ places.now) }
-    ensures fault { IfErr result (IsStop (about recounts.now.rule 0)) }
 {
     let changing = Changing::of(recounts.alloc, election)?;
     let found = search_each(recounts, &changing, places);
@@ -127,11 +125,10 @@ fn search_each<T: Threads + Sync, G: Gate + ProjectGate>(
     recounts: &Recounts<T, G>,
     changing: &Changing,
     places: &[u32],
-) -> Result<Vec<Loser>, CountFault>
+) -> Result<Vec<Loser>, NoMemory>
     requires { All (IsLoser changing.now recounts.now.rule) places.now }
     ensures each { IfOk result (λ found. All (IsSearched changing.now recounts.now.rule) found.items) }
     ensures places { IfOk result (λ found. map (λ l. l.place) found.items ≡ places.now) }
-    ensures fault { IfErr result (IsStop (about recounts.now.rule 0)) }
 {
     let answers = answers_of(recounts, changing, places)?;
     let mut found = Vec::new(recounts.alloc);
@@ -161,7 +158,7 @@ fn answers_of<T: Threads + Sync, G: Gate + ProjectGate>(
     ensures { IfOk result (λ answers. AreAnswers changing.now recounts.now.rule places.now answers.items) }
 {
     let mut answers = Vec::new(recounts.alloc);
-    answers.resize(places.len(), Err(CountFault::NoMemory))?;
+    answers.resize(places.len(), Err(NoMemory))?;
     search_beside(recounts, changing, places, answers.as_mut_slice());
     Ok(answers)
 }

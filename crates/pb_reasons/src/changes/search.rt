@@ -1,19 +1,19 @@
 //! Searches of one kind of change.
 
-ghost use Rattle.std.specs.Prelude.{◌≡◌, ◌≢◌, ◌+◌, ◌*◌, ◌<◌, ◌≤◌, IfErr, IfOk, false, length, max, min, true};
+ghost use Rattle.std.specs.Prelude.{◌≡◌, ◌≢◌, ◌+◌, ◌*◌, ◌<◌, ◌≤◌, IfOk, false, length, max, min, true};
 ghost use Rattle.pb_core.specs.Election.{most_voters};
 ghost use Rattle.pb_reasons.specs.declared.changes.change.Change.TheVariants.{Voters};
 ghost use Rattle.pb_reasons.specs.declared.changes.change.Verdict.TheVariants.{Lost};
 ghost use Rattle.pb_reasons.specs.WhatIf.{CanBe, IsFound, IsTrue, wins};
 ghost use Rattle.pb_reasons.specs.Inner.Doubling.{NoneWins};
-ghost use Rattle.pb_reasons.specs.Inner.Searching.{AreEnds, AreNear, IsStop};
+ghost use Rattle.pb_reasons.specs.Inner.Searching.{AreEnds, AreNear};
 
 use crate::changes::change::{Change, Row, Verdict};
 use crate::changes::changing::Changing;
 use crate::changes::found::Found;
 use crate::changes::recount::Recount;
 use pb_core::gate::Gate;
-use pb_rounds::count_fault::CountFault;
+use pb_core::no_memory::NoMemory;
 use std::thread::Threads;
 
 /// What is found between the ends of a range.
@@ -23,13 +23,11 @@ pub(crate) fn between<T: Threads + Sync, G: Gate>(
     change: Change,
     low: Row,
     high: Row,
-) -> Result<Found, CountFault>
-    requires known { recount.now.question.place < length changing.old.costs }
+) -> Result<Found, NoMemory>
     requires ends { AreEnds changing.old recount.now.question change low high }
     ensures found { IfOk result (λ found.
         IsFound changing.old recount.now.question change low.value high.value found.first found.second) }
     ensures kept { IfOk result (λ _. changing.new ≡ changing.old) }
-    ensures fault { IfErr result (IsStop recount.now.question) }
 {
     if is_alike(low.verdict, high.verdict) {
         return Ok(Found {
@@ -48,15 +46,13 @@ fn halved<T: Threads + Sync, G: Gate>(
     change: Change,
     low: Row,
     high: Row,
-) -> Result<Found, CountFault>
-    requires known { recount.now.question.place < length changing.old.costs }
+) -> Result<Found, NoMemory>
     requires ends { AreEnds changing.old recount.now.question change low high }
     requires one_wins { wins low.verdict ≢ wins high.verdict }
     ensures near { IfOk result (λ found.
         AreNear changing.old recount.now.question change low.value high.value found.first found.second) }
     ensures high { IfOk result (λ found. wins found.second.verdict ≡ wins high.verdict) }
     ensures kept { IfOk result (λ _. changing.new ≡ changing.old) }
-    ensures fault { IfErr result (IsStop recount.now.question) }
 {
     let (mut low, mut high) = (low, high);
     'halving: while low.value + 1 < high.value {
@@ -79,15 +75,13 @@ pub(crate) fn doubled<T: Threads + Sync, G: Gate>(
     recount: &Recount<T, G>,
     changing: &mut Changing,
     most: u64,
-) -> Result<Found, CountFault>
+) -> Result<Found, NoMemory>
     requires known { recount.now.question.place < length changing.old.costs }
     requires nobody { IsTrue changing.old recount.now.question Voters (record { value = 0; verdict = Lost }) }
     requires can_be { CanBe changing.old Voters most }
     ensures found { IfOk result (λ found.
         IsFound changing.old recount.now.question Voters 0 most found.first found.second) }
     ensures doubled { IfOk result (λ found. NoneWins changing.old recount.now.question found.second.value) }
-    ensures kept { IfOk result (λ _. changing.new ≡ changing.old) }
-    ensures fault { IfErr result (IsStop recount.now.question) }
 {
     let nobody = Row {
         value: 0,

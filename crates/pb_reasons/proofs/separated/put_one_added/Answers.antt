@@ -54,4 +54,4 @@ returns c =
     ap (λ (f : ToldTie). told_with x f (is_taken c.as_slice.result.now)) first_is
     ∙ ap (λ (others : List ℕ). told_with x (row x.counted.outcome.raised x.counted.added) (is_taken others)) others_are
     ∙ added_rows x is number winner taken taken_are refl in
-    subst (λ (rows : List ToldTie). OnOk c.put_others-put.result (c.put_others-put.new.told.items ≡ take 100001 (c.args.told.now.items ++ rows))) rows c.put_others-put.ensures
+    subst (λ (rows : List ToldTie). OnOk c.put_others-put.result (c.put_others-put.new.told.rows.items ≡ take 100001 (c.args.told.now.rows.items ++ rows))) rows c.put_others-put.ensures

@@ -8,10 +8,9 @@ use Rattle.pb_price.proofs.BuiltLists.{range_with_len_more}
 use Rattle.pb_reasons.specs.Inner.AllTies.{told_with, with_other}
 use Rattle.pb_reasons.specs.declared.told_tie.ToldTie.{ToldTie}
 use Rattle.pb_reasons.proofs.Far.{empty_is, far_none, far_passed, far_told, flag_is, none_pass}
-use Rattle.pb_reasons.proofs.TiedRounds.{short_take}
 use Rattle.pb_rounds.specs.MostVotes.{is_taken}
 use Rattle.pb_reasons.proofs.separated.put_others.Goals as goal
-use Rattle.pb_reasons.proofs.separated.put_others.Goals.{then-index+in_ok-tell_row, else-index}
+use Rattle.pb_reasons.proofs.separated.put_others.Goals.{then-index+in_ok-tell, else-index}
 
 pub returns-then-is_empty : goal.returns-then-is_empty
 returns-then-is_empty c =
@@ -20,20 +19,17 @@ returns-then-is_empty c =
     let rows : told_with x c.args.first (is_taken c.args.others.now) ≡ [] =
     ap (λ (others : List ℕ). told_with x c.args.first (is_taken others)) none
     ∙ ap (map (λ place. with_other c.args.first (position_in x.order place))) (none_pass (range_with_len 0 (length x.election.projects))) in
-    far_none 100001 c.args.told.now.items c.requires.few ∙ ap (λ (rows : List ToldTie). take 100001 (c.args.told.now.items ++ rows)) (sym rows)
+    far_none 100001 c.args.told.now.rows.items c.args.told.now.few ∙ ap (λ (rows : List ToldTie). take 100001 (c.args.told.now.rows.items ++ rows)) (sym rows)
 
 pub loop-place-init : goal.loop-place-init
-loop-place-init c = far_none 100001 c.args.told.now.items c.requires.few
-
-pub tell_row-requires : goal.tell_row-requires
-tell_row-requires c = short_take 100001 c.loop-place.told.items _ c.loop-place.invariant
+loop-place-init c = far_none 100001 c.args.told.now.rows.items c.args.told.now.few
 
 pub loop-place-preserved : goal.loop-place-preserved
 loop-place-preserved c =
     let x = c.args.count.now in
     let place = c.loop-place.place in
     let others = c.args.others.now in
-    let old = c.args.told.now.items in
+    let old = c.args.told.now.rows.items in
     let position = position_in x.order place in
     let test : ℕ → Bool = λ place. is_taken others (position_in x.order place) in
     let row : ℕ → ToldTie = λ place. with_other c.args.first (position_in x.order place) in
@@ -42,12 +38,12 @@ loop-place-preserved c =
     let is : c.index.result.now ≡ is_taken others c.position-position.result =
     flag_is c.in_ok-ties.ties.items others (length c.projects-projects.result.now) c.position-position.result c.index.result.now c.in_ok-ties.ensures known c.index.ensures in
     let here : c.index.result.now ≡ test place = is ∙ ap (is_taken others) c.position-position.ensures.position in
-    subst (λ (ps : List ℕ). c.if-index.told.items ≡ take 100001 (old ++ map row (filter test ps))) (sym (range_with_len_more place)) (elim c.if-index.branch [
-      | then-index+in_ok-tell_row w ↦
-          rw w.told-is (far_told 100001 test row (range_with_len 0 place) place old c.loop-place.told.items _ (sym here ∙ w.if-index.true) c.loop-place.invariant
-          (w.in_ok-tell_row.ensures ∙ ap (λ (r : ToldTie). take 100001 (c.loop-place.told.items ++ r ∷ [])) (w.with_other.ensures ∙ ap (with_other c.args.first) c.position-position.ensures.position)))
+    subst (λ (ps : List ℕ). c.if-index.told.rows.items ≡ take 100001 (old ++ map row (filter test ps))) (sym (range_with_len_more place)) (elim c.if-index.branch [
+      | then-index+in_ok-tell w ↦
+          rw w.told-is (far_told 100001 test row (range_with_len 0 place) place old c.loop-place.told.rows.items _ (sym here ∙ w.if-index.true) c.loop-place.invariant
+          (w.in_ok-tell.ensures ∙ ap (λ (r : ToldTie). take 100001 (c.loop-place.told.rows.items ++ r ∷ [])) (w.with_other.ensures ∙ ap (with_other c.args.first) c.position-position.ensures.position)))
       | else-index w ↦
-          rw w.told-is (far_passed 100001 test row (range_with_len 0 place) place old c.loop-place.told.items c.loop-place.told.items (sym here ∙ w.if-index.false) c.loop-place.invariant)
+          rw w.told-is (far_passed 100001 test row (range_with_len 0 place) place old c.loop-place.told.rows.items c.loop-place.told.rows.items (sym here ∙ w.if-index.false) c.loop-place.invariant)
     ])
 
 pub returns : goal.returns
@@ -56,4 +52,4 @@ returns c =
     let many : length c.projects-projects.result.now ≡ length x.election.projects = ap (λ (ps : List ProjectView). length ps) c.projects-projects.ensures.projects ∙ ap (λ (e : ElectionView). length e.projects) c.election.ensures.election in
     let all : c.loop-place.place ≡ length x.election.projects = omega (arith, many, c.loop-place-test.false, c.loop-place.auto.place-end) in
     c.loop-place.invariant
-    ∙ ap (λ n. take 100001 (c.args.told.now.items ++ map (λ place. with_other c.args.first (position_in x.order place)) (filter (λ place. is_taken c.args.others.now (position_in x.order place)) (range_with_len 0 n)))) all
+    ∙ ap (λ n. take 100001 (c.args.told.now.rows.items ++ map (λ place. with_other c.args.first (position_in x.order place)) (filter (λ place. is_taken c.args.others.now (position_in x.order place)) (range_with_len 0 n)))) all

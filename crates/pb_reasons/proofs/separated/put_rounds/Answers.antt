@@ -23,7 +23,7 @@ use Rattle.pb_reasons.proofs.Far.{far_full, far_none, far_rows}
 use Rattle.pb_reasons.proofs.Paying.{whole_part}
 use Rattle.pb_reasons.proofs.RoundTies.{round_rows, run_rows, winner_bounds, winner_known, winner_payers, winner_queued}
 use Rattle.pb_reasons.proofs.TieQueue.{opening_queued}
-use Rattle.pb_reasons.proofs.TiedRounds.{opening_are_bounds, short_take, tie_bounds_fall}
+use Rattle.pb_reasons.proofs.TiedRounds.{opening_are_bounds, tie_bounds_fall}
 use Rattle.pb_reasons.proofs.separated.put_rounds.Goals as goal
 
 pub loop-before-init : goal.loop-before-init
@@ -47,20 +47,19 @@ loop-before-init c =
           c.supporters-supporters.ensures elected (opening_are_bounds t (take 0 es) c.in_ok-rests.rests.items c.projects.ensures.is_support c.in_ok-bounds.bounds.items opening);
       queued = subst₂ (λ (m : Measure) (t : SupportView). AreQueued m t [] c.in_ok-bounds.bounds.items c.in_ok-queue.queue.keys) measure c.supporters-supporters.ensures
           (opening_queued c.rule.result.options.measure t (take 0 es) c.in_ok-bounds.bounds.items c.in_ok-queue.queue.keys opening c.in_ok-queue.ensures);
-      told = far_none 100001 c.args.told.now.items c.requires.few;
+      told = far_none 100001 c.args.told.now.rows.items c.args.told.now.few;
     }
 
-pub returns-then-len-gt-MOST_ROWS : goal.returns-then-len-gt-MOST_ROWS
-returns-then-len-gt-MOST_ROWS c =
+pub returns-then-is_over : goal.returns-then-is_over
+returns-then-is_over c =
     let x = c.args.count.now in
     let o = c.args.outcome.now in
     let i = c.loop-before.before in
-    let told = c.loop-before.told.items in
-    let old = c.args.told.now.items in
+    let told = c.loop-before.told.rows.items in
+    let old = c.args.told.now.rows.items in
     let elected : c.as_slice-elected.result.now ≡ o.elected = c.as_slice-elected.ensures.value ∙ ap (λ (v : OutcomeView). v.elected) c.outcome.view_is in
     let below : i < length o.elected = subst (λ (es : List ElectedView). i < length es) elected c.loop-before-test.true in
-    let short : length told ≤ 100001 = short_take 100001 told _ c.loop-before.invariant.told in
-    let full : length told ≡ 100001 = omega (arith, c.if-len-gt-MOST_ROWS.true, c.len.ensures, short) in
+    let full : length told ≡ 100001 = c.is_over.ensures c.if-is_over.true in
     let (more, all) : (more : ℕ) × (i + more ≡ length o.elected) = (length o.elected - i, omega (arith, below)) in
     far_full 100001 (round_ties x c.args.run o.share o.elected) old told i more full c.loop-before.invariant.told
     ∙ ap (λ n. take 100001 (old ++ flat_map (round_ties x c.args.run o.share o.elected) (range_with_len 0 n))) all
@@ -83,8 +82,8 @@ index_mut-requires c =
     let place : c.winner.inside.place ≡ w.place = ap (λ (v : ElectedView). v.place) c.winner.view_is in
     omega (arith, known, place, c.loop-before.invariant.bounds.one_each, c.loop-before.bounds.ok.0)
 
-pub others-requires-clause-winner : goal.others-requires-clause-winner
-others-requires-clause-winner c =
+pub invariant_of-round-clause-known : goal.invariant_of-round-clause-known
+invariant_of-round-clause-known c =
     let x = c.args.count.now in
     let o = c.args.outcome.now in
     let i = c.loop-before.before in
@@ -96,8 +95,8 @@ others-requires-clause-winner c =
     let place : c.winner.inside.place ≡ w.place = ap (λ (v : ElectedView). v.place) c.winner.view_is in
     subst (λ (t : SupportView). c.winner.inside.place < length t.costs) (sym c.supporters-supporters.ensures) (omega (arith, known, place))
 
-pub others-requires-clause-payers : goal.others-requires-clause-payers
-others-requires-clause-payers c =
+pub invariant_of-round-clause-payers : goal.invariant_of-round-clause-payers
+invariant_of-round-clause-payers c =
     let x = c.args.count.now in
     let o = c.args.outcome.now in
     let i = c.loop-before.before in
@@ -136,9 +135,6 @@ others-requires-clause-queued c =
     rw (c.rule.ensures, c.supporters-supporters.ensures, place)
     (winner_queued (support_in x.rule.options.grain x.election) o.elected i w below w_is c.loop-before.rests.items c.loop-before.bounds.items known c.loop-before.invariant.bounds
     x.rule.options.measure c.loop-before.queue.keys c.loop-before.invariant.queued)
-
-pub put_others-requires : goal.put_others-requires
-put_others-requires c = record { few = short_take 100001 c.loop-before.told.items _ c.loop-before.invariant.told }
 
 pub of-requires : goal.of-requires
 of-requires c =
@@ -227,8 +223,8 @@ loop-before-preserved c =
     ap (λ (f : ToldTie). told_with x f (is_taken c.as_slice.result.now)) first_is
     ∙ ap (λ (others : List ℕ). told_with x (first w.place) (is_taken others)) others_are
     ∙ round_rows x is c.args.run o.share o.elected i w below w_is rests c.loop-before.invariant.rests in
-    let put : c.put_others.new.told.items ≡ take 100001 (c.loop-before.told.items ++ round_ties x c.args.run o.share o.elected i) =
-    c.in_ok-put_others.ensures ∙ ap (λ (rows : List ToldTie). take 100001 (c.loop-before.told.items ++ rows)) rows in
+    let put : c.put_others.new.told.rows.items ≡ take 100001 (c.loop-before.told.rows.items ++ round_ties x c.args.run o.share o.elected i) =
+    c.in_ok-put_others.ensures ∙ ap (λ (rows : List ToldTie). take 100001 (c.loop-before.told.rows.items ++ rows)) rows in
     record {
       rests = rw whole (charged_is ∙ ap (charged (supporters_at s w.place) w.price) c.loop-before.invariant.rests
           ∙ sym (rests_more s start o.elected i w below w_is));
@@ -236,9 +232,9 @@ loop-before-preserved c =
       bounds = rw (whole, charged_is) (tie_bounds_fall s (take (i + 1) o.elected) rests (charged (supporters_at s w.place) w.price rests)
           (charged_falls (supporters_at s w.place) w.price rests) _ (rw (supporters, elected, c.deref.ensures.value) at c.in_ok-others.ensures.bounds));
       queued = rw (c.rule.ensures, supporters) at c.in_ok-others.ensures.queued;
-      told = subst (λ (ns : List ℕ). c.put_others.new.told.items ≡ take 100001 (c.args.told.now.items ++ flat_map (round_ties x c.args.run o.share o.elected) ns))
+      told = subst (λ (ns : List ℕ). c.put_others.new.told.rows.items ≡ take 100001 (c.args.told.now.rows.items ++ flat_map (round_ties x c.args.run o.share o.elected) ns))
           (sym (range_with_len_more i))
-          (far_rows 100001 (round_ties x c.args.run o.share o.elected) (range_with_len 0 i) i c.args.told.now.items c.loop-before.told.items _ c.loop-before.invariant.told put);
+          (far_rows 100001 (round_ties x c.args.run o.share o.elected) (range_with_len 0 i) i c.args.told.now.rows.items c.loop-before.told.rows.items _ c.loop-before.invariant.told put);
     }
 
 pub returns : goal.returns
@@ -249,6 +245,6 @@ returns c =
     let own : c.loop-before.before ≡ length c.as_slice-elected.result.now = omega (arith, c.loop-before-test.false, c.loop-before.auto.before-end) in
     let all : c.loop-before.before ≡ length o.elected = own ∙ ap (λ (es : List ElectedView). length es) elected in
     c.loop-before.invariant.told
-    ∙ ap (λ n. take 100001 (c.args.told.now.items ++ flat_map (round_ties x c.args.run o.share o.elected) (range_with_len 0 n))) all
-    ∙ ap (λ (rows : List ToldTie). take 100001 (c.args.told.now.items ++ rows))
+    ∙ ap (λ n. take 100001 (c.args.told.now.rows.items ++ flat_map (round_ties x c.args.run o.share o.elected) (range_with_len 0 n))) all
+    ∙ ap (λ (rows : List ToldTie). take 100001 (c.args.told.now.rows.items ++ rows))
     (run_rows x c.election-election.ensures.is_counted c.args.run o.share o.elected o.rests c.requires.is_run c.requires.share)

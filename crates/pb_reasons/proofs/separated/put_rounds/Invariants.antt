@@ -15,5 +15,5 @@ invariant-loop-before l = record {
   are_rests : AreRests (support_in l.count.rule.options.grain l.count.election).voters l.rests.items;
   bounds : AreTieBounds (support_in l.count.rule.options.grain l.count.election) (take l.before l.fn.outcome.elected) l.rests.items l.bounds.items;
   queued : AreQueued l.count.rule.options.measure (support_in l.count.rule.options.grain l.count.election) [] l.bounds.items l.queue.keys;
-  told : l.told.items ≡ take 100001 (l.fn.told.items ++ flat_map (round_ties l.count l.run l.fn.outcome.share l.fn.outcome.elected) (range_with_len 0 l.before));
+  told : l.told.rows.items ≡ take 100001 (l.fn.told.rows.items ++ flat_map (round_ties l.count l.run l.fn.outcome.share l.fn.outcome.elected) (range_with_len 0 l.before));
 }

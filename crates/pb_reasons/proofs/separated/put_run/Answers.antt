@@ -4,9 +4,8 @@ use Rattle.pb_price.specs.Price.{largest_share}
 use Rattle.pb_reasons.proofs.Runs.{small_run}
 use Rattle.pb_reasons.proofs.separated.put_run.Goals as goal
 
-pub returns-then-len-gt-MOST_ROWS : goal.returns-then-len-gt-MOST_ROWS
-returns-then-len-gt-MOST_ROWS g c =
-    sym (take_at c.args.told.now.items _ 100001 (omega (arith, c.if-len-gt-MOST_ROWS.true, c.len.ensures, c.requires.few, c.args.told.now.ok.0)))
+pub returns-then-is_over : goal.returns-then-is_over
+returns-then-is_over g c = sym (take_at c.args.told.now.rows.items _ 100001 (c.is_over.ensures c.if-is_over.true))
 
 pub put_rounds-put-requires-clause-small : goal.put_rounds-put-requires-clause-small
 put_rounds-put-requires-clause-small g c =

@@ -9,20 +9,14 @@ use Rattle.pb_reasons.specs.Inner.AllTies.{IsTieOf}
 use Rattle.pb_reasons.specs.declared.told_tie.ToldTie.{ToldTie}
 use Rattle.pb_reasons.proofs.Far.{far_rows}
 use Rattle.pb_reasons.proofs.KnownTies.{all_known}
-use Rattle.pb_reasons.proofs.TiedRounds.{short_take, take_again}
+use Rattle.pb_reasons.proofs.TiedRounds.{take_again}
 use Rattle.pb_reasons.proofs.separated.separated.Goals as goal
-
-pub put_run-requires-clause-few : goal.put_run-requires-clause-few
-put_run-requires-clause-few g c κs within = short_take 100001 c.loop-run.told.items _ c.loop-run.invariant
-
-pub put_added-requires : goal.put_added-requires
-put_added-requires g c = record { few = short_take 100001 c.loop-run.told.items _ c.loop-run.invariant }
 
 pub loop-run-preserved : goal.loop-run-preserved
 loop-run-preserved g c =
     let x = c.args.count.now in
-    subst (λ (runs : List ℕ). c.put_run.new.told.items ≡ take 100001 (flat_map (run_ties x) runs)) (sym (range_with_len_more c.loop-run.run))
-    (far_rows 100001 (run_ties x) (range_with_len 0 c.loop-run.run) c.loop-run.run [] c.loop-run.told.items _ c.loop-run.invariant c.in_ok-put_run.ensures)
+    subst (λ (runs : List ℕ). c.put_run.new.told.rows.items ≡ take 100001 (flat_map (run_ties x) runs)) (sym (range_with_len_more c.loop-run.run))
+    (far_rows 100001 (run_ties x) (range_with_len 0 c.loop-run.run) c.loop-run.run [] c.loop-run.told.rows.items _ c.loop-run.invariant c.in_ok-put_run.ensures)
 
 told_all : (x : CountedElectionView) (run : ℕ) (told new : List ToldTie) → run ≡ runs_of x → told ≡ take 100001 (flat_map (run_ties x) (range_with_len 0 run))
     → new ≡ take 100001 (told ++ added_ties x) → new ≡ take 100001 (all_ties x)
@@ -34,12 +28,12 @@ told_all x run told new all so_far put =
 pub returns-clause-told : goal.returns-clause-told
 returns-clause-told g c =
     let all : c.loop-run.run ≡ c.args.runs = omega (arith, c.loop-run-test.false, c.loop-run.auto.run-end) in
-    told_all c.args.count.now c.loop-run.run c.loop-run.told.items _ (all ∙ c.requires.runs) c.loop-run.invariant c.in_ok-put_added.ensures
+    told_all c.args.count.now c.loop-run.run c.loop-run.told.rows.items _ (all ∙ c.requires.runs) c.loop-run.invariant c.in_ok-put_added.ensures
 
 pub returns-clause-known : goal.returns-clause-known
 returns-clause-known g c =
     let x = c.args.count.now in
     let is : IsCountedElection x = c.election-election.ensures.is_counted in
     let all : c.loop-run.run ≡ c.args.runs = omega (arith, c.loop-run-test.false, c.loop-run.auto.run-end) in
-    let told = told_all x c.loop-run.run c.loop-run.told.items _ (all ∙ c.requires.runs) c.loop-run.invariant c.in_ok-put_added.ensures in
+    let told = told_all x c.loop-run.run c.loop-run.told.rows.items _ (all ∙ c.requires.runs) c.loop-run.invariant c.in_ok-put_added.ensures in
     subst (All (λ (t : ToldTie). IsTieOf x.election t.tie)) (sym told) (All-take (λ (t : ToldTie). IsTieOf x.election t.tie) 100001 (all_ties x) (all_known x is))

@@ -1,5 +1,5 @@
-use Rattle.std.proofs.Common.{◌≡◌, ℕ, ◌+◌, ◌++◌, drop, take, get_or, length, replicate, ◌∙◌, ap, subst, sym, arith}
-use Rattle.std.specs.Prelude.{flat_map}
+use Rattle.std.proofs.Common.{◌≡◌, ℕ, ◌+◌, ◌++◌, List, [], Some, drop, take, get_or, length, map, replicate, ◌∙◌, ap, subst, sym, arith}
+use Rattle.std.specs.Prelude.{◌-◌, filter, flat_map}
 use Rattle.std.specs.List.{range_with_len}
 use Rattle.pb_price.proofs.SupporterLists.{known_voters, supporters_increase}
 use Rattle.pb_price.specs.Price.{HasPayers}
@@ -8,12 +8,13 @@ use Rattle.pb_rounds.proofs.BoundQueue.{charged_falls, opening_rests}
 use Rattle.pb_rounds.proofs.Progress.{AreRests-charged}
 use Rattle.pb_rounds.specs.Run.{ElectedView, charged}
 use Rattle.pb_reasons.specs.Inner.Rounds.{ties_with}
-use Rattle.pb_reasons.specs.Ties.{ties_in}
+use Rattle.pb_reasons.specs.Ties.{is_tied, ties_in}
 use Rattle.pb_reasons.specs.declared.tie.Tie.{Tie}
 use Rattle.pb_reasons.proofs.AllTies.{rests_more, round_more}
+use Rattle.pb_reasons.proofs.Far.{far_full}
 use Rattle.pb_reasons.proofs.Paying.{whole_part}
 use Rattle.pb_reasons.proofs.TieQueue.{opening_queued}
-use Rattle.pb_reasons.proofs.TiedRounds.{opening_are_bounds, short_take, tie_bounds_fall}
+use Rattle.pb_reasons.proofs.TiedRounds.{opening_are_bounds, tie_bounds_fall}
 use Rattle.pb_reasons.proofs.ties.replay_ties.Goals as goal
 
 pub opening_bounds-requires : goal.opening_bounds-requires
@@ -28,26 +29,32 @@ loop-before-init c =
       are_rests = rw rests (opening_rests s c.args.share c.requires.small);
       bounds = opening_are_bounds s c.args.elected.now c.in_ok-rests.rests.items c.projects.ensures.is_support c.in_ok-bounds.bounds.items (rw c.projects.ensures.projects at c.in_ok-bounds.ensures);
       queued = opening_queued c.args.measure s c.args.elected.now c.in_ok-bounds.bounds.items c.in_ok-queue.queue.keys (rw c.projects.ensures.projects at c.in_ok-bounds.ensures) c.in_ok-queue.ensures;
-      ties = c.new-ties.ensures.items;
+      ties = c.new.ensures.items;
     }
 
-pub find-requires-clause-winner : goal.find-requires-clause-winner
-find-requires-clause-winner c =
+pub invariant_of-round-clause-known : goal.invariant_of-round-clause-known
+invariant_of-round-clause-known c =
     let w = c.index-elected-before.result in
     let place_is : c.winner.inside.place ≡ w.place = ap (λ (v : ElectedView). v.place) c.winner.view_is in
     let item : w.place ≡ (get_or c.args.elected.now c.loop-before.before w).place = ap (λ (v : ElectedView). v.place) c.index-elected-before.is in
     let known = c.requires.known c.loop-before.before w c.loop-before-test.true in
     omega (arith, place_is, item, known)
 
-pub find-requires-clause-payers : goal.find-requires-clause-payers
-find-requires-clause-payers c =
+pub invariant_of-round-clause-payers : goal.invariant_of-round-clause-payers
+invariant_of-round-clause-payers c =
     let s = c.args.supporters.now in
     let w = c.index-elected-before.result in
     subst (λ (v : ElectedView). HasPayers s v.exact) (sym c.winner.view_is)
     (subst (λ (v : ElectedView). HasPayers s v.exact) (sym c.index-elected-before.is) (c.requires.payers c.loop-before.before w c.loop-before-test.true))
 
-pub find-requires-clause-few : goal.find-requires-clause-few
-find-requires-clause-few c = short_take 100 c.loop-before.ties.items _ c.loop-before.invariant.ties
+pub returns-then-is_full : goal.returns-then-is_full
+returns-then-is_full c =
+    let elected = c.args.elected.now in
+    let rounds = ties_in c.args.measure c.args.supporters.now c.args.share elected in
+    let i = c.loop-before.before in
+    let (more, all) : (more : ℕ) × (i + more ≡ length elected) = (length elected - i, omega (arith, c.loop-before-test.true)) in
+    far_full 100 rounds [] c.loop-before.ties.ties.items i more (c.is_full.ensures c.if-is_full.true) c.loop-before.invariant.ties
+    ∙ ap (λ n. take {A = Tie} 100 (flat_map rounds (range_with_len 0 n))) all
 
 pub of-requires : goal.of-requires
 of-requires c =
@@ -88,17 +95,22 @@ loop-before-preserved c =
     let supporters_are : c.of.result.now ≡ supporters_at s w.place = c.of.ensures.supporters ∙ ap (supporters_at s) place_is in
     let charged_is : c.pay.new.rests ≡ charged (supporters_at s w.place) w.price rests =
     rw (supporters_are, price_is, c.deref_mut.ensures.value) at c.pay.ensures.rests in
+    let ties = c.loop-before.ties.ties.items in
+    let winner : ElectedView = record { place = c.winner.inside.place; price = c.winner.inside.price; exact = c.winner.inside.exact; collected = c.winner.inside.collected } in
+    let tie : ℕ → Tie = λ place. record { round = Some (c.loop-before.before + 1); winner = c.winner.inside.place; other = place } in
+    let tied : List ℕ → List ℕ = λ rests. filter (is_tied c.args.measure s elected rests winner) (range_with_len 0 (length s.costs)) in
+    let others : c.as_slice.result.now ≡ tied rests = c.as_slice.ensures.value ∙ c.in_ok-others.ensures.others ∙ ap tied c.deref.ensures.value in
     record {
       rests = rw whole (charged_is ∙ ap (charged (supporters_at s w.place) w.price) c.loop-before.invariant.rests
           ∙ sym (rests_more s start elected c.loop-before.before w c.loop-before-test.true c.index-elected-before.is));
       are_rests = rw (whole, charged_is) (AreRests-charged s.voters (supporters_at s w.place) w.price rests c.loop-before.invariant.are_rests);
       bounds = rw (whole, charged_is) (tie_bounds_fall s elected rests (charged (supporters_at s w.place) w.price rests) (charged_falls (supporters_at s w.place) w.price rests)
-          _ (rw c.deref.ensures.value at c.in_ok-find.ensures.bounds));
-      queued = c.in_ok-find.ensures.queued;
+          _ (rw c.deref.ensures.value at c.in_ok-others.ensures.bounds));
+      queued = c.in_ok-others.ensures.queued;
       ties = round_more c.args.measure s c.args.share elected c.loop-before.before w c.loop-before-test.true c.index-elected-before.is rests c.loop-before.invariant.rests
-          c.loop-before.ties.items _ c.loop-before.invariant.ties
-          ((rw c.deref.ensures.value at c.in_ok-find.ensures.ties)
-          ∙ ap (λ (v : ElectedView). take {A = Tie} 100 (c.loop-before.ties.items ++ ties_with c.args.measure s elected rests v (c.loop-before.before + 1) (length s.costs))) c.winner.view_is);
+          ties _ c.loop-before.invariant.ties
+          (c.in_ok-told.ensures ∙ ap (λ (os : List ℕ). take {A = Tie} 100 (ties ++ map tie os)) others
+          ∙ ap (λ (v : ElectedView). take {A = Tie} 100 (ties ++ ties_with c.args.measure s elected rests v (c.loop-before.before + 1) (length s.costs))) c.winner.view_is);
     }
 
 pub returns : goal.returns

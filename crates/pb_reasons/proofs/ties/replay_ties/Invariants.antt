@@ -14,5 +14,5 @@ invariant-loop-before l = record {
   are_rests : AreRests l.supporters.voters l.rests.items;
   bounds : AreTieBounds l.supporters l.elected l.rests.items l.bounds.items;
   queued : AreQueued l.fn.measure l.supporters [] l.bounds.items l.queue.keys;
-  ties : l.ties.items ≡ take 100 (flat_map (ties_in l.fn.measure l.supporters l.fn.share l.elected) (range_with_len 0 l.before));
+  ties : l.ties.ties.items ≡ take 100 (flat_map (ties_in l.fn.measure l.supporters l.fn.share l.elected) (range_with_len 0 l.before));
 }

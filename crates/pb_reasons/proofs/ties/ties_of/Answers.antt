@@ -7,7 +7,7 @@ use Rattle.pb_reasons.specs.Ties.{ties_in, ties_of, ties_with_added}
 use Rattle.pb_reasons.specs.declared.tie.Tie.{Tie}
 use Rattle.pb_reasons.proofs.AllTies.{elected_are_known, small_share}
 use Rattle.pb_reasons.proofs.RoundTies.{run_payers}
-use Rattle.pb_reasons.proofs.TiedRounds.{short_take, take_again}
+use Rattle.pb_reasons.proofs.TiedRounds.{take_again}
 use Rattle.pb_reasons.proofs.ties.ties_of.Goals as goal
 
 pub replay_ties-requires-clause-known : goal.replay_ties-requires-clause-known
@@ -34,9 +34,6 @@ replay_ties-requires-clause-payers c =
     c.as_slice-elected.ensures.value ∙ ap (λ (v : OutcomeView). v.elected) (c.outcome.view_is ∙ c.outcome-outcome.ensures.outcome) in
     rw (elected, c.supporters-supporters.ensures) (run_payers count.rule.options.measure (support_in count.rule.options.grain count.election) o.share o.elected o.rests is.is_count.run_is)
 
-pub put_added_ties-requires : goal.put_added_ties-requires
-put_added_ties-requires c = short_take 100 c.in_ok-ties.ties.items _ c.in_ok-ties.ensures
-
 pub returns : goal.returns
 unfolding ties_of
 returns c =
@@ -47,6 +44,6 @@ returns c =
     c.as_slice-elected.ensures.value ∙ ap (λ (v : OutcomeView). v.elected) (c.outcome.view_is ∙ c.outcome-outcome.ensures.outcome) in
     let share = ap (λ (v : OutcomeView). v.share) (c.outcome.view_is ∙ c.outcome-outcome.ensures.outcome) in
     let rounds = flat_map (ties_in x.rule.options.measure s o.share o.elected) (range_with_len 0 (length o.elected)) in
-    let told : c.in_ok-ties.ties.items ≡ take 100 rounds = rw (elected, c.supporters-supporters.ensures, share, c.rule-rule.ensures) at c.in_ok-ties.ensures in
+    let told : c.in_ok-ties.ties.ties.items ≡ take 100 rounds = rw (elected, c.supporters-supporters.ensures, share, c.rule-rule.ensures) at c.in_ok-ties.ensures in
     let more = flat_map (ties_with_added s x.counted) x.counted.added in
     c.in_ok-put_added_ties.ensures ∙ ap (λ (xs : List Tie). take 100 (xs ++ more)) told ∙ take_again 100 rounds more

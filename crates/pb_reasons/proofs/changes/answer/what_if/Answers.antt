@@ -1,10 +1,9 @@
 use Rattle.std.proofs.Common.{◌≡◌, ◌∙◌, ℕ, List, get_or, subst, sym}
 use Rattle.pb_core.specs.Election.{ElectionView, ProjectView}
-use Rattle.std.specs.Prelude.{IfOk}
 use Rattle.pb_reasons.specs.WhatIf.{IsWhatIf}
 use Rattle.pb_reasons.specs.Inner.Searching.{IsSaid}
 use Rattle.pb_reasons.proofs.Ranges.{cost_read}
-use Rattle.pb_reasons.proofs.Searches.{said, stopped_after}
+use Rattle.pb_reasons.proofs.Searches.{said}
 use Rattle.pb_reasons.proofs.changes.answer.what_if.Goals as goal
 
 -- the election is as it was before its count
@@ -18,16 +17,11 @@ searched-requires-clause-said g c κs within =
     (subst (λ (n : ℕ). IsSaid e q n c.in-Ok.won) (sym c.cost-cost.ensures.cost)
     (said e q p c.in-Ok.won c.projects.ensures.is_election c.requires.known read c.in-Ok.ensures.ok))
 
-pub returns-in-Ok-clause-found : goal.returns-in-Ok-clause-found
-returns-in-Ok-clause-found g c =
+pub returns-in_ok-found-in-Ok-clause-found : goal.returns-in_ok-found-in-Ok-clause-found
+returns-in_ok-found-in-Ok-clause-found g c =
     let e = c.args.election in
     let q = c.args.recount.now.question in
     let p : ProjectView = c.index-projects-recount.result in
     let read : p ≡ get_or e.projects q.place p = subst (λ (l : List ProjectView). p ≡ get_or l q.place p) c.projects.ensures.projects c.index-projects-recount.is in
-    subst (λ (n : ℕ). IfOk c.searched.result (IsWhatIf e q n)) (c.cost-cost.ensures.cost ∙ cost_read e q.place p c.requires.known read)
-    (subst (λ (counted : ElectionView). IfOk c.searched.result (IsWhatIf counted q c.cost-cost.result)) c.in-Ok.ensures.kept c.searched.ensures.found)
-
-pub returns-in-Ok-clause-fault : goal.returns-in-Ok-clause-fault
-returns-in-Ok-clause-fault g c =
-    let (x, is, won) = c.in-Ok.ensures.ok in
-    stopped_after c.args.election x.election x.order c.args.recount.now.question c.searched.result is.1 c.searched.ensures.fault
+    subst (λ (n : ℕ). IsWhatIf e q n c.in_ok-found-in-Ok.found) (c.cost-cost.ensures.cost ∙ cost_read e q.place p c.requires.known read)
+    (subst (λ (counted : ElectionView). IsWhatIf counted q c.cost-cost.result c.in_ok-found-in-Ok.found) c.in-Ok.ensures.kept c.in_ok-found-in-Ok.ensures.found)

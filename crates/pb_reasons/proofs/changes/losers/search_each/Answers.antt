@@ -2,7 +2,7 @@ use Rattle.std.proofs.Common.{◌≡◌, ◌∙◌, ◌++◌, ◌∷◌, ◌<◌
 use Rattle.std.specs.Prelude.{All, slice_index}
 use Rattle.std.proofs.lemmas.List.{map_push, take_more}
 use Rattle.std.proofs.lemmas.List.Elements.{All-push}
-use Rattle.pb_rounds.specs.declared.count_fault.CountFault.{CountFault}
+use Rattle.pb_core.specs.declared.no_memory.NoMemory.{NoMemory}
 use Rattle.pb_reasons.specs.WhatIf.{Seen}
 use Rattle.pb_reasons.specs.Inner.Losers.{IsAnswer, IsSearched}
 use Rattle.pb_reasons.specs.declared.changes.loser.Loser.{Loser}
@@ -19,7 +19,7 @@ loop-answer-preserved g c =
     let l : Loser = c.in_ok-loser.loser in
     let place_of : Loser → ℕ = λ f. f.place in
     let answers = c.in_ok-answers.answers.items in
-    let d : Result Loser CountFault = Ok l in
+    let d : Result Loser NoMemory = Ok l in
     let told : get_or answers i d ≡ Ok l = search rules in
     let within : i < length answers = search rules in
     let is : IsAnswer s rule (slice_index places i) (Ok l) = subst (IsAnswer s rule (slice_index places i)) told (c.in_ok-answers.ensures.each i d within) in

@@ -1,7 +1,11 @@
 use Rattle.std.proofs.Common.{◌≡◌, ◌∙◌, ◌*◌, max, subst, sym, false, arith, rules}
 use Rattle.pb_reasons.specs.WhatIf.{Seen, wins}
 use Rattle.pb_reasons.proofs.Doubling.{Fails, IsGap, Loses, gap_next, loses_next}
+use Rattle.pb_reasons.proofs.Searches.{served}
 use Rattle.pb_reasons.proofs.changes.search.doubled.Goals as goal
+
+pub row-requires-clause-in_range : goal.row-requires-clause-in_range
+row-requires-clause-in_range g c κs within = served _ _ _ _ c.requires.nobody
 
 pub doubling-preserved : goal.doubling-preserved
 doubling-preserved g c =
