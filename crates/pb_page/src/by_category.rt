@@ -1,6 +1,6 @@
 //! The money by category.
 
-ghost use Rattle.std.specs.Prelude.{◌≡◌, ◌<◌, ◌^◌, ◌==◌, IfOk, OnOk, Some, flat_map, if◌then◌else◌, length, map};
+ghost use Rattle.std.specs.Prelude.{◌≡◌, ◌<◌, ◌^◌, ◌==◌, IfOk, OnOk, flat_map, if◌then◌else◌, length, map};
 ghost use Rattle.std.specs.List.{range_with_len};
 ghost use Rattle.pb_page.specs.Content.{section};
 ghost use Rattle.pb_page.specs.Inner.Grown.{Grows};
@@ -35,33 +35,21 @@ pub(crate) fn put_categories(
         (flat_map (section facts.now.language) (categories facts.now count.now))) }
 {
     match &facts.categories {
-        Some(categories) => put_table(page, facts, count, categories),
+        Some(categories) => {
+            let language = &facts.language;
+            let heads = [
+                Value::Said(keys::CATEGORIES_HEADING),
+                Value::Said(keys::CATEGORIES_CAPTION),
+                Value::Said(keys::CATEGORY),
+                Value::Said(keys::CATEGORY_WON),
+                Value::Said(keys::CATEGORY_COST),
+            ];
+            put(page, language, CATEGORIES_OPENING, &heads)?;
+            put_rows(page, language, count, categories)?;
+            put_own(page, TABLE_CLOSING)
+        }
         None => Ok(()),
     }
-}
-
-/// The same, where these are the categories.
-fn put_table(
-    page: &mut Vec<u8>,
-    facts: &Facts,
-    count: &CountedElection,
-    all: &Categories,
-) -> Result<(), NoMemory>
-    requires { facts.now.categories ≡ Some all.now }
-    ensures { OnOk result (Grows page.old.items page.new.items
-        (flat_map (section facts.now.language) (categories facts.now count.now))) }
-{
-    let language = &facts.language;
-    let heads = [
-        Value::Said(keys::CATEGORIES_HEADING),
-        Value::Said(keys::CATEGORIES_CAPTION),
-        Value::Said(keys::CATEGORY),
-        Value::Said(keys::CATEGORY_WON),
-        Value::Said(keys::CATEGORY_COST),
-    ];
-    put(page, language, CATEGORIES_OPENING, &heads)?;
-    put_rows(page, language, count, all)?;
-    put_own(page, TABLE_CLOSING)
 }
 
 /// A row for each category.

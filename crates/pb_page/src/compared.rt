@@ -7,11 +7,12 @@ ghost use Rattle.pb_page.specs.Inner.Grown.{Grows};
 ghost use Rattle.pb_page.specs.Page.{besides, compared_row};
 ghost use Rattle.pb_reasons.specs.BesideVotes.{elected_by_votes};
 
-use crate::elected_only::{OnlyBy, put_only};
+use crate::elected_only::put_only;
 use crate::facts::Facts;
 use crate::keys;
 use crate::language::Language;
 use crate::markup::Value;
+use crate::projects_at::ProjectsAt;
 use crate::put::{put, put_own};
 use crate::templates::{COMPARED_OPENING, COMPARED_ROW, ROWS_CLOSING, SECTION_CLOSING};
 use pb_core::money::Money;
@@ -79,18 +80,22 @@ fn put_others(
 {
     // What is true of every count is true of its winners.
     let _election = count.election();
-    let by_shares = OnlyBy {
-        said: keys::ONLY_BY_SHARES,
-        winners: count.winners(),
-        other,
+    let by_shares = ProjectsAt {
+        count,
+        places: count.winners(),
     };
-    put_only(page, language, count, by_shares)?;
-    let by_votes = OnlyBy {
-        said: keys::ONLY_BY_VOTES,
-        winners: other,
-        other: count.winners(),
+    let by_votes = ProjectsAt {
+        count,
+        places: other,
     };
-    put_only(page, language, count, by_votes)
+    put_only(page, language, keys::ONLY_BY_SHARES, &by_shares, other)?;
+    put_only(
+        page,
+        language,
+        keys::ONLY_BY_VOTES,
+        &by_votes,
+        by_shares.places,
+    )
 }
 
 /// The row of a rule.

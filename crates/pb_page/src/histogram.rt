@@ -1,6 +1,6 @@
 //! How many of each voter's choices won.
 
-ghost use Rattle.std.specs.Prelude.{◌≡◌, ◌<◌, ◌^◌, IfOk, length, map};
+ghost use Rattle.std.specs.Prelude.{◌≡◌, IfOk, length, map};
 ghost use Rattle.std.specs.List.{range_with_len};
 ghost use Rattle.pb_page.specs.Inner.Counted.{at_least, exactly};
 ghost use Rattle.pb_price.specs.Supporters.{ballot_at};
@@ -46,7 +46,6 @@ fn choices_among(alloc: Global, election: &Election, places: &[u32]) -> Result<V
 
 /// On how many ballots so many choices won.
 pub(crate) fn exactly(number: u32, won: &[u32]) -> u64
-    requires { length won.now < 2 ^ 64 }
     ensures { result ≡ exactly number won.now }
 {
     won.iter().filter(|each| **each == number).count() as u64
@@ -54,7 +53,6 @@ pub(crate) fn exactly(number: u32, won: &[u32]) -> u64
 
 /// On how many ballots so many choices won, or more.
 pub(crate) fn at_least(number: u32, won: &[u32]) -> u64
-    requires { length won.now < 2 ^ 64 }
     ensures { result ≡ at_least number won.now }
 {
     won.iter().filter(|each| number <= **each).count() as u64

@@ -2,7 +2,6 @@
 
 ghost use Rattle.std.specs.Prelude.{◌≡◌, IfOk, OnOk};
 ghost use Rattle.pb_page.specs.Inner.Contents.{sections};
-ghost use Rattle.pb_page.specs.Inner.Counted.{KnowsPlaces};
 ghost use Rattle.pb_page.specs.Inner.Grown.{Grows};
 ghost use Rattle.pb_page.specs.Page.{IsPage, parts};
 ghost use Rattle.pb_reasons.specs.RaiseEnd.{IsRaiseEnd};
@@ -12,6 +11,7 @@ use crate::check::put_check;
 use crate::compared::put_besides;
 use crate::contents::put_contents;
 use crate::decided::put_decided;
+use crate::ended::Ended;
 use crate::facts::Facts;
 use crate::keys;
 use crate::markup::Value;
@@ -63,7 +63,8 @@ fn page_ended(
     let _election = count.election();
     let money = MoneyTeller::of(alloc, count)?;
     let mut page = Vec::new(alloc);
-    put_all(&mut page, facts, count, &money, end)?;
+    let ended = Ended { count, end };
+    put_all(&mut page, facts, &money, &ended)?;
     Ok(page)
 }
 
@@ -71,14 +72,14 @@ fn page_ended(
 fn put_all(
     page: &mut Vec<u8>,
     facts: &Facts,
-    count: &CountedElection,
     money: &MoneyTeller,
-    end: &RaiseEnd,
+    ended: &Ended,
 ) -> Result<(), NoMemory>
-    requires same { money.now ≡ count.now }
-    requires places { KnowsPlaces count.now.election end.now }
-    ensures { OnOk result (Grows page.old.items page.new.items (parts facts.now count.now end.now)) }
+    requires { money.now ≡ ended.now.count.now }
+    ensures { OnOk result (Grows page.old.items page.new.items
+        (parts facts.now ended.now.count.now ended.now.end.now)) }
 {
+    let count = ended.count;
     let language = &facts.language;
     let title = facts.title;
     let values = [
@@ -93,7 +94,7 @@ fn put_all(
     put_summary(page, language, count)?;
     put_contents(page, facts, count)?;
     put_own(page, MAIN)?;
-    put_sections(page, facts, count, money, end)?;
+    put_sections(page, facts, money, ended)?;
     put_own(page, CLOSING)
 }
 
@@ -101,24 +102,24 @@ fn put_all(
 fn put_sections(
     page: &mut Vec<u8>,
     facts: &Facts,
-    count: &CountedElection,
     money: &MoneyTeller,
-    end: &RaiseEnd,
+    ended: &Ended,
 ) -> Result<(), NoMemory>
-    requires same { money.now ≡ count.now }
-    requires places { KnowsPlaces count.now.election end.now }
-    ensures { OnOk result (Grows page.old.items page.new.items (sections facts.now count.now end.now)) }
+    requires { money.now ≡ ended.now.count.now }
+    ensures { OnOk result (Grows page.old.items page.new.items
+        (sections facts.now ended.now.count.now ended.now.end.now)) }
 {
+    let count = ended.count;
     let language = &facts.language;
     put_budget(page, language, count)?;
-    put_winners(page, facts, count, money)?;
-    put_added(page, facts, count, money)?;
-    put_others(page, facts, count, money)?;
+    put_winners(page, facts, money)?;
+    put_added(page, facts, money)?;
+    put_others(page, facts, money)?;
     put_categories(page, facts, count)?;
     put_voters(page, language, count)?;
     put_besides(page, facts, count)?;
     let rule = count.rule();
     put_decided(page, facts, &rule)?;
-    put_rule(page, language, count, end)?;
+    put_rule(page, language, ended)?;
     put_check(page, facts, &rule)
 }

@@ -50,14 +50,13 @@ pub struct ProjectRow<'a> {
 pub(crate) fn put_row(
     page: &mut Vec<u8>,
     facts: &Facts,
-    count: &CountedElection,
     money: &MoneyTeller,
     place: u32,
 ) -> Result<(), NoMemory>
-    requires known { place < length count.now.election.projects }
-    requires same { money.now ≡ count.now }
-    ensures { OnOk result (Grows page.old.items page.new.items (row_at facts.now count.now place)) }
+    requires { place < length money.now.election.projects }
+    ensures { OnOk result (Grows page.old.items page.new.items (row_at facts.now money.now place)) }
 {
+    let count = money.count();
     let election = count.election();
     let projects = election.projects();
     let project = &projects[place as usize];

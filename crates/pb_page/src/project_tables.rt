@@ -1,6 +1,6 @@
 //! The tables of projects: the elected, the added, and the others.
 
-ghost use Rattle.std.specs.Prelude.{◌≡◌, ◌<◌, [], All, OnOk, codes, false, flat_map, if◌then◌else◌, length, true};
+ghost use Rattle.std.specs.Prelude.{◌≡◌, ◌<◌, [], All, OnOk, codes, flat_map, if◌then◌else◌, length, true};
 ghost use Rattle.std.specs.Option.{option_map_or};
 ghost use Rattle.pb_page.specs.Content.{column, section};
 ghost use Rattle.pb_page.specs.Inner.Counted.{lost_row, others_opening};
@@ -23,7 +23,7 @@ use crate::templates::{
     PASSED_OVER_OPENING, TABLE_CLOSING, WINNERS_OPENING, WON_BY_VOTES_OPENING,
 };
 use pb_core::no_memory::NoMemory;
-use pb_reasons::{CountedElection, MoneyTeller};
+use pb_reasons::MoneyTeller;
 use pb_rounds::outcome::{Elected, Outcome};
 use pb_rounds::rule::FillUp;
 
@@ -31,31 +31,46 @@ use pb_rounds::rule::FillUp;
 pub(crate) fn put_winners(
     page: &mut Vec<u8>,
     facts: &Facts,
-    count: &CountedElection,
     money: &MoneyTeller,
 ) -> Result<(), NoMemory>
-    requires { money.now ≡ count.now }
     ensures { OnOk result (Grows page.old.items page.new.items
-        (section facts.now.language (winners facts.now count.now))) }
+        (section facts.now.language (winners facts.now money.now))) }
 {
-    if has_no_shares(&count.rule()) {
-        return put_won_by_votes(page, facts, count, money);
+    let count = money.count();
+    let rule = count.rule();
+    if has_no_shares(&rule) {
+        return put_won_by_votes(page, facts, money);
     }
-    put_won_by_shares(page, facts, count, money)
+    let elected = elected_of(count.outcome());
+    if elected.is_empty() {
+        let none = Value::Said(no_winners(rule.fill_up));
+        let said = [Value::Said(keys::WINNERS_HEADING), none];
+        return put(page, &facts.language, NONE_WON, &said);
+    }
+    let heads = [
+        Value::Said(keys::WINNERS_HEADING),
+        Value::Said(keys::WINNERS_CAPTION),
+        Value::Said(keys::ROUND),
+        Value::Said(keys::PROJECT),
+        Value::Said(keys::COST),
+        Value::Said(keys::VOTES),
+        Value::Said(keys::PRICE),
+        Value::Said(keys::IN_FULL),
+    ];
+    put(page, &facts.language, WINNERS_OPENING, &heads)?;
+    put_head_category(page, facts)?;
+    put_own(page, HEAD_CLOSING)?;
+    put_elected_rows(page, facts, money, elected)?;
+    put_own(page, TABLE_CLOSING)
 }
 
 /// The winners where nobody has a share: those that are added, in their order.
-fn put_won_by_votes(
-    page: &mut Vec<u8>,
-    facts: &Facts,
-    count: &CountedElection,
-    money: &MoneyTeller,
-) -> Result<(), NoMemory>
-    requires same { money.now ≡ count.now }
-    requires alone { no_shares count.now.rule.options.completion ≡ true }
+fn put_won_by_votes(page: &mut Vec<u8>, facts: &Facts, money: &MoneyTeller) -> Result<(), NoMemory>
+    requires { no_shares money.now.rule.options.completion ≡ true }
     ensures { OnOk result (Grows page.old.items page.new.items
-        (section facts.now.language (winners facts.now count.now))) }
+        (section facts.now.language (winners facts.now money.now))) }
 {
+    let count = money.count();
     let winners = count.added();
     if winners.is_empty() {
         let said = [
@@ -78,42 +93,7 @@ fn put_won_by_votes(
     put(page, &facts.language, WON_BY_VOTES_OPENING, &heads)?;
     put_head_category(page, facts)?;
     put_own(page, HEAD_CLOSING)?;
-    put_added_rows(page, facts, count, money, winners)?;
-    put_own(page, TABLE_CLOSING)
-}
-
-/// The winners by shares, in order of election.
-fn put_won_by_shares(
-    page: &mut Vec<u8>,
-    facts: &Facts,
-    count: &CountedElection,
-    money: &MoneyTeller,
-) -> Result<(), NoMemory>
-    requires same { money.now ≡ count.now }
-    requires shared { no_shares count.now.rule.options.completion ≡ false }
-    ensures { OnOk result (Grows page.old.items page.new.items
-        (section facts.now.language (winners facts.now count.now))) }
-{
-    let elected = elected_of(count.outcome());
-    if elected.is_empty() {
-        let none = Value::Said(no_winners(count.rule().fill_up));
-        let said = [Value::Said(keys::WINNERS_HEADING), none];
-        return put(page, &facts.language, NONE_WON, &said);
-    }
-    let heads = [
-        Value::Said(keys::WINNERS_HEADING),
-        Value::Said(keys::WINNERS_CAPTION),
-        Value::Said(keys::ROUND),
-        Value::Said(keys::PROJECT),
-        Value::Said(keys::COST),
-        Value::Said(keys::VOTES),
-        Value::Said(keys::PRICE),
-        Value::Said(keys::IN_FULL),
-    ];
-    put(page, &facts.language, WINNERS_OPENING, &heads)?;
-    put_head_category(page, facts)?;
-    put_own(page, HEAD_CLOSING)?;
-    put_elected_rows(page, facts, count, money, elected)?;
+    put_added_rows(page, facts, money, winners)?;
     put_own(page, TABLE_CLOSING)
 }
 
@@ -139,17 +119,15 @@ fn elected_of(outcome: &Outcome) -> &[Elected]
 fn put_elected_rows(
     page: &mut Vec<u8>,
     facts: &Facts,
-    count: &CountedElection,
     money: &MoneyTeller,
     elected: &[Elected],
 ) -> Result<(), NoMemory>
-    requires same { money.now ≡ count.now }
-    requires known { All (λ w. w.place < length count.now.election.projects) elected.now }
+    requires { All (λ w. w.place < length money.now.election.projects) elected.now }
     ensures { OnOk result (Grows page.old.items page.new.items
-        (flat_map (λ w. row_at facts.now count.now w.place) elected.now)) }
+        (flat_map (λ w. row_at facts.now money.now w.place) elected.now)) }
 {
     for winner in elected {
-        put_row(page, facts, count, money, winner.place)?;
+        put_row(page, facts, money, winner.place)?;
     }
     Ok(())
 }
@@ -159,13 +137,12 @@ fn put_elected_rows(
 pub(crate) fn put_added(
     page: &mut Vec<u8>,
     facts: &Facts,
-    count: &CountedElection,
     money: &MoneyTeller,
 ) -> Result<(), NoMemory>
-    requires { money.now ≡ count.now }
     ensures { OnOk result (Grows page.old.items page.new.items
-        (flat_map (section facts.now.language) (added_apart facts.now count.now))) }
+        (flat_map (section facts.now.language) (added_apart facts.now money.now))) }
 {
+    let count = money.count();
     if has_no_shares(&count.rule()) {
         return Ok(());
     }
@@ -187,7 +164,7 @@ pub(crate) fn put_added(
     put(page, &facts.language, ADDED_OPENING, &heads)?;
     put_head_category(page, facts)?;
     put_own(page, HEAD_CLOSING)?;
-    put_added_rows(page, facts, count, money, places)?;
+    put_added_rows(page, facts, money, places)?;
     put_own(page, TABLE_CLOSING)
 }
 
@@ -195,17 +172,15 @@ pub(crate) fn put_added(
 fn put_added_rows(
     page: &mut Vec<u8>,
     facts: &Facts,
-    count: &CountedElection,
     money: &MoneyTeller,
     places: &[u32],
 ) -> Result<(), NoMemory>
-    requires same { money.now ≡ count.now }
-    requires known { All (λ place. place < length count.now.election.projects) places.now }
+    requires { All (λ place. place < length money.now.election.projects) places.now }
     ensures { OnOk result (Grows page.old.items page.new.items
-        (flat_map (row_at facts.now count.now) places.now)) }
+        (flat_map (row_at facts.now money.now) places.now)) }
 {
     for place in places {
-        put_row(page, facts, count, money, *place)?;
+        put_row(page, facts, money, *place)?;
     }
     Ok(())
 }
@@ -214,13 +189,12 @@ fn put_added_rows(
 pub(crate) fn put_others(
     page: &mut Vec<u8>,
     facts: &Facts,
-    count: &CountedElection,
     money: &MoneyTeller,
 ) -> Result<(), NoMemory>
-    requires { money.now ≡ count.now }
     ensures { OnOk result (Grows page.old.items page.new.items
-        (section facts.now.language (others facts.now count.now))) }
+        (section facts.now.language (others facts.now money.now))) }
 {
+    let count = money.count();
     let winners = count.winners();
     let projects = count.election().projects();
     if winners.len() == projects.len() {
@@ -233,7 +207,7 @@ pub(crate) fn put_others(
     put_others_opening(page, &facts.language, short_key(count))?;
     put_head_category(page, facts)?;
     put_own(page, HEAD_CLOSING)?;
-    put_lost_rows(page, facts, count, money)?;
+    put_lost_rows(page, facts, money)?;
     put_own(page, TABLE_CLOSING)
 }
 
@@ -272,20 +246,15 @@ fn put_others_opening(
 }
 
 /// A row for each project that did not win.
-fn put_lost_rows(
-    page: &mut Vec<u8>,
-    facts: &Facts,
-    count: &CountedElection,
-    money: &MoneyTeller,
-) -> Result<(), NoMemory>
-    requires { money.now ≡ count.now }
+fn put_lost_rows(page: &mut Vec<u8>, facts: &Facts, money: &MoneyTeller) -> Result<(), NoMemory>
     ensures { OnOk result (Grows page.old.items page.new.items
-        (flat_map (lost_row facts.now count.now) (in_file count.now))) }
+        (flat_map (lost_row facts.now money.now) (in_file money.now))) }
 {
+    let count = money.count();
     let election = count.election();
     let projects = election.projects();
     for place in 0..projects.len() {
-        put_row_of_lost(page, facts, count, money, count.position(place as u32))?;
+        put_row_of_lost(page, facts, money, count.position(place as u32))?;
     }
     Ok(())
 }
@@ -295,18 +264,16 @@ fn put_lost_rows(
 fn put_row_of_lost(
     page: &mut Vec<u8>,
     facts: &Facts,
-    count: &CountedElection,
     money: &MoneyTeller,
     place: u32,
 ) -> Result<(), NoMemory>
-    requires same { money.now ≡ count.now }
-    requires known { place < length count.now.election.projects }
-    ensures { OnOk result (Grows page.old.items page.new.items (lost_row facts.now count.now place)) }
+    requires { place < length money.now.election.projects }
+    ensures { OnOk result (Grows page.old.items page.new.items (lost_row facts.now money.now place)) }
 {
-    if count.has_won(place) {
+    if money.count().has_won(place) {
         return Ok(());
     }
-    put_row(page, facts, count, money, place)
+    put_row(page, facts, money, place)
 }
 
 /// The head of the column of categories, where there are some.

@@ -1,40 +1,41 @@
 //! Why the raises ended.
 
-ghost use Rattle.std.specs.Prelude.{◌<◌, All, OnOk, length};
-ghost use Rattle.pb_page.specs.Inner.Counted.{KnowsPlaces, those_said};
+ghost use Rattle.std.specs.Prelude.{◌≡◌, OnOk};
+ghost use Rattle.pb_page.specs.Inner.Counted.{those_said};
 ghost use Rattle.pb_page.specs.Inner.Grown.{Grows};
 ghost use Rattle.pb_page.specs.Page.{beside, raises_ended};
 ghost use Rattle.pb_page.specs.declared.keys.TheConstants as key;
 ghost use Rattle.pb_reasons.specs.Counted.{winners_of};
 
 use crate::counted_in::counted_in;
-use crate::elected_only::{beside, put_entries};
+use crate::elected_only::put_entries;
+use crate::ended::Ended;
 use crate::keys;
 use crate::language::Language;
 use crate::markup::Value;
 use crate::place::Place;
+use crate::projects_at::ProjectsAt;
 use crate::put::{put, put_own};
 use crate::rule::put_item;
 use crate::sentences::say_item;
 use crate::templates::{LIST_CLOSING, THOSE_OPENING};
 use pb_core::no_memory::NoMemory;
-use pb_reasons::{CountedElection, NextRaise, RaiseEnd, Winners};
+use pb_reasons::{NextRaise, RaiseEnd};
 
 /// Why the raises ended; nothing where the count has none.
 #[tactic(auto, using(crate::proofs::Grown::none))]
 pub(crate) fn put_end(
     page: &mut Vec<u8>,
     language: &Language,
-    count: &CountedElection,
-    end: &RaiseEnd,
+    ended: &Ended,
 ) -> Result<(), NoMemory>
-    requires { KnowsPlaces count.now.election end.now }
-    ensures { OnOk result (Grows page.old.items page.new.items (raises_ended language.now count.now end.now)) }
+    ensures { OnOk result (Grows page.old.items page.new.items
+        (raises_ended language.now ended.now.count.now ended.now.end.now)) }
 {
-    match end {
+    match ended.end {
         RaiseEnd::Plain => Ok(()),
         RaiseEnd::Exhausted => put_item(page, language, keys::EXHAUSTED),
-        RaiseEnd::Over(next) => put_over(page, language, count, next),
+        RaiseEnd::Over(next) => put_over(page, language, ended, next),
     }
 }
 
@@ -43,14 +44,14 @@ pub(crate) fn put_end(
 fn put_over(
     page: &mut Vec<u8>,
     language: &Language,
-    count: &CountedElection,
+    ended: &Ended,
     next: &NextRaise,
 ) -> Result<(), NoMemory>
-    requires only_then { All (λ place. place < length count.now.election.projects) next.now.only_then.items }
-    requires no_more { All (λ place. place < length count.now.election.projects) next.now.no_more.items }
+    requires { ended.now.end.now ≡ RaiseEnd.Over next.now }
     ensures { OnOk result (Grows page.old.items page.new.items
-        (raises_ended language.now count.now (RaiseEnd.Over next.now))) }
+        (raises_ended language.now ended.now.count.now (RaiseEnd.Over next.now))) }
 {
+    let count = ended.count;
     let places = [
         Place::Parted(
             "next_share",
@@ -60,50 +61,50 @@ fn put_over(
         Place::Amount("next_cost", next.cost, language.costs),
     ];
     say_item(page, language, keys::OVER, &places)?;
-    let only_then = next.only_then.as_slice();
-    put_then(page, language, count, only_then)?;
-    let no_more = next.no_more.as_slice();
-    put_those(page, language, count, keys::NO_MORE, no_more)
+    let only_then = ProjectsAt {
+        count,
+        places: next.only_then.as_slice(),
+    };
+    put_then(page, language, &only_then)?;
+    let no_more = ProjectsAt {
+        count,
+        places: next.no_more.as_slice(),
+    };
+    put_those(page, language, keys::NO_MORE, &no_more)
 }
 
-/// The list of those of these places that are none of the winners.
-fn put_then(
-    page: &mut Vec<u8>,
-    language: &Language,
-    count: &CountedElection,
-    places: &[u32],
-) -> Result<(), NoMemory>
-    requires { All (λ place. place < length count.now.election.projects) places.now }
+/// The list of those of these projects that are none of the winners.
+fn put_then(page: &mut Vec<u8>, language: &Language, projects: &ProjectsAt) -> Result<(), NoMemory>
     ensures { OnOk result (Grows page.old.items page.new.items
-        (those_said language.now count.now key.ONLY_THEN
-        (beside (winners_of count.now.counted) places.now))) }
+        (those_said language.now projects.now.count.now key.ONLY_THEN
+        (beside (winners_of projects.now.count.now.counted) projects.now.places.now))) }
 {
-    let winners = Winners::of(*page.allocator(), count.election(), count.winners())?;
-    let new = beside(*page.allocator(), &winners, places);
-    drop(winners);
-    let new = new?;
-    let put = put_those(page, language, count, keys::ONLY_THEN, new.as_slice());
+    let count = projects.count;
+    let new = projects.beside(*page.allocator(), count.winners())?;
+    let at = ProjectsAt {
+        count,
+        places: new.as_slice(),
+    };
+    let put = put_those(page, language, keys::ONLY_THEN, &at);
     drop(new);
     put
 }
 
-/// Those projects, which are at these places, below what is said of them; nothing where there are none.
+/// Those projects below what is said of them; nothing where there are none.
 #[tactic(auto, using(crate::proofs::Grown::none))]
 fn put_those(
     page: &mut Vec<u8>,
     language: &Language,
-    count: &CountedElection,
     said: u16,
-    places: &[u32],
+    projects: &ProjectsAt,
 ) -> Result<(), NoMemory>
-    requires { All (λ place. place < length count.now.election.projects) places.now }
     ensures { OnOk result (Grows page.old.items page.new.items
-        (those_said language.now count.now said places.now)) }
+        (those_said language.now projects.now.count.now said projects.now.places.now)) }
 {
-    if places.is_empty() {
+    if projects.places.is_empty() {
         return Ok(());
     }
     put(page, language, THOSE_OPENING, &[Value::Said(said)])?;
-    put_entries(page, language, count, places)?;
+    put_entries(page, language, projects)?;
     put_own(page, LIST_CLOSING)
 }

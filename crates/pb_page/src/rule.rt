@@ -1,8 +1,8 @@
 //! How it was counted, sentence by sentence.
 
-ghost use Rattle.std.specs.Prelude.{◌≡◌, ◌==◌, [], None, OnOk, Some, false, if◌then◌else◌, true};
+ghost use Rattle.std.specs.Prelude.{◌≡◌, ◌==◌, [], None, OnOk, Some, if◌then◌else◌, true};
 ghost use Rattle.pb_page.specs.Content.{item, said, section};
-ghost use Rattle.pb_page.specs.Inner.Counted.{KnowsPlaces, filled_up, rounds_said, rounds_told, share_said};
+ghost use Rattle.pb_page.specs.Inner.Counted.{filled_up, rounds_said, rounds_told, share_said};
 ghost use Rattle.pb_page.specs.Inner.Grown.{Grows};
 ghost use Rattle.pb_page.specs.Page.{by_raises, rule, short_key};
 ghost use Rattle.pb_page.specs.declared.keys.TheConstants as key;
@@ -11,6 +11,7 @@ ghost use Rattle.pb_rounds.specs.Count.{no_shares};
 ghost use Rattle.pb_rounds.specs.RuleNames.{by_completion, by_grain, by_measure, by_ties};
 
 use crate::counted_in::counted_in;
+use crate::ended::Ended;
 use crate::keys;
 use crate::language::Language;
 use crate::markup::{Divided, Value};
@@ -24,7 +25,7 @@ use crate::works::put_works;
 use pb_core::money::Money;
 use pb_core::no_memory::NoMemory;
 use pb_price::Grain;
-use pb_reasons::{CountedElection, RaiseEnd};
+use pb_reasons::CountedElection;
 use pb_rounds::measure::Measure;
 use pb_rounds::options::Completion;
 use pb_rounds::outcome::Outcome;
@@ -34,16 +35,26 @@ use pb_rounds::rule::{FillUp, Rule};
 pub(crate) fn put_rule(
     page: &mut Vec<u8>,
     language: &Language,
-    count: &CountedElection,
-    end: &RaiseEnd,
+    ended: &Ended,
 ) -> Result<(), NoMemory>
-    requires { KnowsPlaces count.now.election end.now }
-    ensures { OnOk result (Grows page.old.items page.new.items (section language.now (rule language.now count.now end.now))) }
+    ensures { OnOk result (Grows page.old.items page.new.items (section language.now
+        (rule language.now ended.now.count.now ended.now.end.now))) }
 {
-    if has_no_shares(&count.rule()) {
+    let count = ended.count;
+    let rule = count.rule();
+    if has_no_shares(&rule) {
         return put_by_votes(page, language, count);
     }
-    put_by_shares(page, language, count, end)
+    let heading = [Value::Said(keys::RULE_HEADING)];
+    put(page, language, RULE_OPENING, &heading)?;
+    put_works(page, language, count)?;
+    put_own(page, LIST_OPENING)?;
+    put_voted(page, language, ended)?;
+    put_item(page, language, method_key(&rule))?;
+    put_filled_up(page, language, &rule)?;
+    put_fine(page, language, rule.options.grain)?;
+    put_ties(page, language, count)?;
+    put_own(page, RULE_CLOSING)
 }
 
 /// The same where nobody has a share.
@@ -66,62 +77,23 @@ fn put_by_votes(
     put_own(page, RULE_CLOSING)
 }
 
-/// The same where voters have shares.
-fn put_by_shares(
-    page: &mut Vec<u8>,
-    language: &Language,
-    count: &CountedElection,
-    end: &RaiseEnd,
-) -> Result<(), NoMemory>
-    requires places { KnowsPlaces count.now.election end.now }
-    requires shared { no_shares count.now.rule.options.completion ≡ false }
-    ensures { OnOk result (Grows page.old.items page.new.items (section language.now (rule language.now count.now end.now))) }
-{
-    let rule = count.rule();
-    put(
-        page,
-        language,
-        RULE_OPENING,
-        &[Value::Said(keys::RULE_HEADING)],
-    )?;
-    put_works(page, language, count)?;
-    put_own(page, LIST_OPENING)?;
-    put_voted(page, language, count, end)?;
-    put_item(page, language, method_key(&rule))?;
-    put_filled_up(page, language, &rule)?;
-    put_fine(page, language, rule.options.grain)?;
-    put_ties(page, language, count)?;
-    put_own(page, RULE_CLOSING)
-}
-
 /// How the projects were elected; nothing where nobody voted.
-fn put_voted(
-    page: &mut Vec<u8>,
-    language: &Language,
-    count: &CountedElection,
-    end: &RaiseEnd,
-) -> Result<(), NoMemory>
-    requires { KnowsPlaces count.now.election end.now }
+fn put_voted(page: &mut Vec<u8>, language: &Language, ended: &Ended) -> Result<(), NoMemory>
     ensures { OnOk result (Grows page.old.items page.new.items
-        (rounds_told language.now count.now end.now)) }
+        (rounds_told language.now ended.now.count.now ended.now.end.now)) }
 {
-    if count.election().voters().is_empty() {
+    if ended.count.election().voters().is_empty() {
         return Ok(());
     }
-    put_rounds(page, language, count, end)
+    put_rounds(page, language, ended)
 }
 
 /// The same where somebody voted: the share, the rounds, the raises, and why these ended.
-fn put_rounds(
-    page: &mut Vec<u8>,
-    language: &Language,
-    count: &CountedElection,
-    end: &RaiseEnd,
-) -> Result<(), NoMemory>
-    requires { KnowsPlaces count.now.election end.now }
+fn put_rounds(page: &mut Vec<u8>, language: &Language, ended: &Ended) -> Result<(), NoMemory>
     ensures { OnOk result (Grows page.old.items page.new.items
-        (rounds_said language.now count.now end.now)) }
+        (rounds_said language.now ended.now.count.now ended.now.end.now)) }
 {
+    let count = ended.count;
     let rule = count.rule();
     let share = counted_in(count, false, share_of(count.outcome()));
     let raised = raised_by(count.outcome());
@@ -129,7 +101,7 @@ fn put_rounds(
     put_item(page, language, keys::SUPPORTERS)?;
     put_item(page, language, order_key(&rule))?;
     put_item(page, language, raises_key(&rule, raised))?;
-    put_end(page, language, count, end)
+    put_end(page, language, ended)
 }
 
 /// Whether nobody has a share by this rule.

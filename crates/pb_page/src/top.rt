@@ -63,7 +63,15 @@ fn put_result(page: &mut Vec<u8>, language: &Language, figures: &Figures) -> Res
     ensures { OnOk result (Grows page.old.items page.new.items (result_said language.now figures.now)) }
 {
     if figures.won == 0 {
-        return put_none(page, language, figures);
+        let values = [
+            Value::Number(figures.won),
+            Value::Amount(figures.spent),
+            Value::Text(surplus_name(figures.grain)),
+            Value::Amount(figures.surplus),
+        ];
+        put(page, language, NOTHING, &values)?;
+        let left = Place::Amount("left", figures.left, language.costs);
+        return say(page, language, keys::NONE_WON, &[left]);
     }
     let places = [
         Place::Number("won", figures.won),
@@ -72,22 +80,6 @@ fn put_result(page: &mut Vec<u8>, language: &Language, figures: &Figures) -> Res
         Place::Noun(keys::WINNERS, figures.won),
     ];
     say(page, language, keys::WON, &places)
-}
-
-/// That no project won, where none did.
-fn put_none(page: &mut Vec<u8>, language: &Language, figures: &Figures) -> Result<(), NoMemory>
-    requires { figures.now.won ≡ 0 }
-    ensures { OnOk result (Grows page.old.items page.new.items (result_said language.now figures.now)) }
-{
-    let values = [
-        Value::Number(figures.won),
-        Value::Amount(figures.spent),
-        Value::Text(surplus_name(figures.grain)),
-        Value::Amount(figures.surplus),
-    ];
-    put(page, language, NOTHING, &values)?;
-    let left = Place::Amount("left", figures.left, language.costs);
-    say(page, language, keys::NONE_WON, &[left])
 }
 
 /// The picture of the budget.

@@ -1,6 +1,6 @@
 //! What the voters got.
 
-ghost use Rattle.std.specs.Prelude.{◌<◌, ◌^◌, OnOk, flat_map, length};
+ghost use Rattle.std.specs.Prelude.{OnOk, flat_map};
 ghost use Rattle.std.specs.List.{range_with_len};
 ghost use Rattle.pb_page.specs.Content.{section};
 ghost use Rattle.pb_page.specs.Inner.Counted.{ballots_end, exact_row, got_said, voters_told};
@@ -39,7 +39,6 @@ pub(crate) fn put_voters(
 
 /// The same, where so many choices of each voter won.
 fn put_won(page: &mut Vec<u8>, language: &Language, won: &[u32]) -> Result<(), NoMemory>
-    requires { length won.now < 2 ^ 64 }
     ensures { OnOk result (Grows page.old.items page.new.items (section language.now (voters language.now won.now))) }
 {
     let heading = [Value::Said(keys::VOTERS_HEADING)];
@@ -64,7 +63,6 @@ fn put_won(page: &mut Vec<u8>, language: &Language, won: &[u32]) -> Result<(), N
 
 /// How many voters have a winner among their choices.
 fn say_got(page: &mut Vec<u8>, language: &Language, won: &[u32]) -> Result<(), NoMemory>
-    requires { length won.now < 2 ^ 64 }
     ensures { OnOk result (Grows page.old.items page.new.items (got_said language.now won.now)) }
 {
     let with = at_least(1, won);
@@ -83,7 +81,6 @@ fn say_got(page: &mut Vec<u8>, language: &Language, won: &[u32]) -> Result<(), N
 
 /// A row for each number of winners below the last.
 fn put_rows(page: &mut Vec<u8>, language: &Language, won: &[u32]) -> Result<(), NoMemory>
-    requires { length won.now < 2 ^ 64 }
     ensures { OnOk result (Grows page.old.items page.new.items
         (flat_map (exact_row language.now won.now) (range_with_len 0 9))) }
 {
@@ -107,7 +104,6 @@ fn put_row(
     row: BallotsRow,
     won: &[u32],
 ) -> Result<(), NoMemory>
-    requires { length won.now < 2 ^ 64 }
     ensures { OnOk result (Grows page.old.items page.new.items
         (ballots_row language.now row.said row.number row.ballots won.now)) }
 {

@@ -1,5 +1,5 @@
 -- Words of private contracts on what is counted.
-use Rattle.std.specs.Prelude.{ℕ, ◌<◌, ◌-◌, ◌==◌, List, [], ◌∷◌, ◌++◌, All, ⊤, codes, decimal, filter}
+use Rattle.std.specs.Prelude.{◌≡◌, ℕ, ◌<◌, ◌-◌, ◌==◌, List, [], ◌∷◌, ◌++◌, All, codes, decimal, filter}
 use Rattle.std.specs.Prelude.{Option, count_by, flat_map, if◌then◌else◌, length, map, slice_index, sum_by, Bool, None, Some, false, nat_le, nat_lt, true}
 use Rattle.std.specs.Borrow.{Bor}
 use Rattle.std.specs.List.{range_with_len}
@@ -36,8 +36,9 @@ use Rattle.pb_reasons.specs.declared.payment.Payment.{Payment}
 use Rattle.pb_reasons.specs.declared.project_reason.Ending.{Ending}
 use Rattle.pb_reasons.specs.declared.project_reason.Ending.TheVariants as ending
 use Rattle.pb_reasons.specs.declared.project_reason.Lost.{Lost}
+use Rattle.pb_reasons.specs.declared.raise_end.NextRaise.{NextRaise}
 use Rattle.pb_reasons.specs.declared.raise_end.RaiseEnd.{RaiseEnd}
-use Rattle.pb_reasons.specs.declared.raise_end.RaiseEnd.TheVariants.{Plain, Exhausted, Over}
+use Rattle.pb_reasons.specs.declared.raise_end.RaiseEnd.TheVariants.{Over}
 use Rattle.pb_rounds.specs.Count.{no_shares}
 use Rattle.pb_rounds.specs.MostVotes.{is_taken}
 use Rattle.pb_rounds.specs.RuleNames.{by_completion, by_grain, by_measure, by_ties, completion_name, measure_name, ties_name}
@@ -238,9 +239,7 @@ lost_row facts x place = if is_taken (winners_of x.counted) place then [] else r
 
 -- the projects that a raise more would elect, and those that it would elect no more, are the election's
 abbrev pub KnowsPlaces : ElectionView → RaiseEnd → Type 0
-KnowsPlaces e Plain = ⊤
-KnowsPlaces e Exhausted = ⊤
-KnowsPlaces e (Over next) = All (λ place. place < length e.projects) next.only_then.items
+KnowsPlaces e end = (next : NextRaise) → end ≡ Over next → All (λ place. place < length e.projects) next.only_then.items
     × All (λ place. place < length e.projects) next.no_more.items
 
 -- which of these winners are of a category, and what it has of them

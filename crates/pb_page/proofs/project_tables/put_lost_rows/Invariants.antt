@@ -6,4 +6,4 @@ use Rattle.pb_page.specs.Inner.Counted.{lost_row}
 use Rattle.pb_page.proofs.project_tables.put_lost_rows.Given as goal
 
 abbrev pub invariant-loop-place : goal.invariant-loop-place
-invariant-loop-place l = Grows l.fn.page.items l.page.items (flat_map (lost_row l.facts l.count) (map (position_in l.count.order) (range_with_len 0 l.place)))
+invariant-loop-place l = Grows l.fn.page.items l.page.items (flat_map (lost_row l.facts l.money) (map (position_in l.money.order) (range_with_len 0 l.place)))
