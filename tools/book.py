@@ -47,9 +47,10 @@ COMPUTING_LAWS = {
 }
 # Words each of whose values a law pins in the words of a rule, for every input, or for each one that a definition gives them
 # (`last_given`: a voter whose ballot a legal journal leaves; `in_order`: an election and an order of its projects;
-# `totals_of`, `runs_of`: a count of an election; `voter_payments`: a voter of an election; `count_of`, `outcome_of`: an
-# election, and options in range; `elected_by_votes`: an election, which a rule without shares counts; `needed`: a project
-# with a supporter): whoever names them, the law says what they are, and nobody has to believe what computes them.
+# `totals_of`, `runs_of`, `all_payments`, `in_file`: a count of an election; `voter_reason`: a voter of it; `voter_payments`:
+# a voter of an election; `count_of`, `outcome_of`: an election, and options in range; `elected_by_votes`: an election, which
+# a rule without shares counts; `needed`: a project with a supporter): whoever names them, the law says what they are, and
+# nobody has to believe what computes them.
 PINNED = {
     ("pb_core", "Money", "money_of"): ("pb_core", "money_is_what_its_text_names"),
     ("pb_core", "Order", "position_in"): ("pb_core", "orders_are_their_words"),
@@ -65,6 +66,7 @@ PINNED = {
     ("pb_read", "Voting", "is_among"): ("pb_read", "a_vote_names_places"),
     ("pb_read", "Voting", "names_only"): ("pb_read", "a_vote_names_places"),
     ("pb_read", "Voting", "ballot_of"): ("pb_read", "a_vote_names_places"),
+    ("pb_rows", "ExactText", "exact_text"): ("pb_commands", "exact_amounts_are_their_words"),
     ("pb_price", "Supporters", "supporters_of"): ("pb_price", "supporters_approve"),
     ("pb_price", "Price", "price_at"): ("pb_price", "price_is_least_payment"),
     ("pb_rounds", "Count", "count_of"): ("pb_rounds", "count_is_computed"),
@@ -100,10 +102,14 @@ PINNED = {
     ("pb_reasons", "Reasons", "paid_for"): ("pb_reasons", "payments_of_a_voter_are_their_words"),
     ("pb_reasons", "Reasons", "round_of"): ("pb_reasons", "payments_of_a_voter_are_their_words"),
     ("pb_reasons", "Reasons", "project_reason"): ("pb_commands", "endings_are_their_words"),
+    ("pb_reasons", "Reasons", "voter_reason"): ("pb_commands", "voters_are_their_words"),
+    ("pb_reasons", "Reasons", "all_payments"): ("pb_commands", "voters_are_their_words"),
+    ("pb_reasons", "CountedElection", "in_file"): ("pb_commands", "file_order_is_that_of_places"),
     ("pb_reasons", "Fairness", "losers"): ("pb_reasons", "rows_of_fairness_are_their_words"),
     ("pb_reasons", "Fairness", "needed"): ("pb_reasons", "rows_of_fairness_are_their_words"),
     ("pb_reasons", "Fairness", "spent"): ("pb_reasons", "rows_of_fairness_are_their_words"),
     ("pb_desk", "Replay", "replay"): ("pb_commands", "replay_is_its_steps"),
+    ("pb_durable", "Opening", "cut_off"): ("pb_serving", "what_is_cut_off_is_its_words"),
     ("pb_script", "Admission", "open_to_all"): ("pb_script", "open_to_all_admits_all_rows"),
     ("pb_script", "ScriptFault", "at_row"): ("pb_commands", "rows_of_script_faults_are_their_words"),
     ("pb_faults", "Fault", "merged"): ("pb_commands", "out_of_memory_is_one_fault"),

@@ -35,6 +35,11 @@ known_has Counts Compares None faults result election handed has same = tt
 known_has Counts Compares (Some bytes) faults result election handed has same = λ none.
     handed_has Counts Compares (records_of bytes) faults election handed has (subst (λ (x : List ReadFault). x ≡ []) same none)
 
+-- both of what is known
+pub known_both : (P Q : List ℕ → Type 0) (known : Option (List ℕ)) → IfSome known P → IfSome known Q → IfSome known (λ bytes. P bytes × Q bytes)
+known_both P Q None one other = tt
+known_both P Q (Some bytes) one other = (one, other)
+
 -- the count of the file's election is refused
 fails_of : (records : List Fields) (faults : List ReadFault) (election : Option ElectionView) (rule : Rule) (app : AppFault) → IsHandedOut records faults election
     → CheckFails (λ e. election ≡ Some e) rule app → CheckFails (StandsFor records) rule app

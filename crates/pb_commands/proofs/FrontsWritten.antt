@@ -27,3 +27,8 @@ memory_refused X (Err fault) is = λ write. absurd (cc (sym is ∙ write))
 pub memory_alone : {T : Type 0} (X Y : Type 0) (r : Result T AppFault) → IsErrAnd r (λ app. app ≡ Memory) → OnOk r X × IfErr r (λ fault. fault ≡ Write → Y)
 memory_alone X Y (Ok done) is = absurd is
 memory_alone X Y (Err fault) is = (tt, λ write. absurd (cc (sym is ∙ write)))
+
+-- what is so anyway, is so where the writer fails
+pub so_anyway : (X : Type 0) (r : Result (Unit {0}) AppFault) → X → IfErr r (λ fault. fault ≡ Write → X)
+so_anyway X (Ok done) is = tt
+so_anyway X (Err fault) is = λ _. is

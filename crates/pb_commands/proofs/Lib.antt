@@ -16,6 +16,9 @@ pub mod Recounts
 pub mod TablesTell
 mod EndingWords
 mod MemoryTold
+mod VoterWords
+mod FilePlaces
+mod ExactWords
 pub mod TableColumns
 pub mod PaymentsInFile
 pub mod PaymentsText

@@ -1,11 +1,13 @@
 //! Laws of the definitions.
 
-ghost use Rattle.std.specs.Prelude.{◌≡◌, ◌≢◌, ◌↔◌, ◌⊎◌, ◌<◌, ◌==◌, ◌+◌, ◌-◌, ◌++◌, ℕ, All, Bool, Contains, List};
-ghost use Rattle.std.specs.Prelude.{[], ◌∷◌, ◌||◌, None, Option, Some, codes, count_by, false, filter, if◌then◌else◌};
-ghost use Rattle.std.specs.Prelude.{length, map, slice_index_or, true};
+ghost use Rattle.std.specs.Prelude.{◌≡◌, ◌≢◌, ◌↔◌, ◌⊎◌, ◌<◌, ◌≤◌, ◌==◌, ◌+◌, ◌-◌, ◌*◌, ◌++◌, ℕ, All, Bool, Contains, List};
+ghost use Rattle.std.specs.Prelude.{[], ◌∷◌, ◌||◌, None, Option, Some, codes, count_by, decimal, false, filter};
+ghost use Rattle.std.specs.Prelude.{if◌then◌else◌, length, map, max, slice_index, slice_index_or, true};
 ghost use Rattle.std.specs.Bool.{MatchBool};
+ghost use Rattle.std.specs.List.{range_with_len};
 ghost use Rattle.std.specs.Str.{bytes_eq};
 ghost use Rattle.pb_core.specs.Election.{ElectionView, IsElection};
+ghost use Rattle.pb_core.specs.MoneyText.{money_text};
 ghost use Rattle.pb_core.specs.Request.{EntryView, Cast, Replace, Shut};
 ghost use Rattle.pb_desk.specs.Audit.{IsSound};
 ghost use Rattle.pb_desk.specs.Desk.{DeskView, closed_election, standing_of};
@@ -14,17 +16,18 @@ ghost use Rattle.pb_desk.specs.Replay.{IsLegal, replay};
 ghost use Rattle.pb_desk.specs.Rows.{journal_text, ScriptRowView};
 ghost use Rattle.pb_desk.specs.Step.{step, voter_of};
 ghost use Rattle.pb_read.specs.StandsFor.{StandsFor, most_records};
+ghost use Rattle.pb_rows.specs.ExactText.{exact_text};
 ghost use Rattle.pb_rows.specs.Reading.{records_of};
 ghost use Rattle.pb_rows.specs.Writing.{text_of_row};
 ghost use Rattle.pb_price.specs.Grain.{in_parts};
 ghost use Rattle.pb_price.specs.Price.{total_rest};
-ghost use Rattle.pb_price.specs.Supporters.{cost_at, support_of, supporters_at};
+ghost use Rattle.pb_price.specs.Supporters.{ballot_at, cost_at, support_of, supporters_at};
 ghost use Rattle.pb_price.specs.declared.grain.Grain.{Grain};
-ghost use Rattle.pb_reasons.specs.Counted.{CountedView, is_selected};
-ghost use Rattle.pb_reasons.specs.CountedElection.{CountedElectionView, IsCountIn};
-ghost use Rattle.pb_reasons.specs.Reasons.{paid_for, project_reason};
+ghost use Rattle.pb_reasons.specs.Counted.{CountedView, is_selected, winners_of};
+ghost use Rattle.pb_reasons.specs.CountedElection.{CountedElectionView, IsCountIn, IsCountedElection, in_file};
+ghost use Rattle.pb_reasons.specs.Reasons.{all_payments, paid_for, project_reason, voter_reason};
 ghost use Rattle.pb_reasons.specs.declared.project_reason.Ending.TheVariants as ending;
-ghost use Rattle.pb_rounds.specs.MostVotes.{votes_at};
+ghost use Rattle.pb_rounds.specs.MostVotes.{is_taken, votes_at};
 ghost use Rattle.pb_rounds.specs.Run.{ElectedView, is_elected};
 ghost use Rattle.pb_rounds.specs.declared.rule.Rule.{Rule};
 ghost use Rattle.pb_script.specs.ScriptFault.{at_row};
@@ -165,6 +168,45 @@ pub fn endings_are_their_words()
           left = left;
           missing = in_parts grain (length e.voters) (cost_at (support_of e) place) - left;
         }) }
+{}
+
+/// What a voter's ballot came to in a count: how many projects it approves, how many of these won, what the voter has
+/// left, and that this and what the voter paid are the share. The payments of a count are, for each of the elected in
+/// order of election, what each voter paid for it.
+pub fn voters_are_their_words()
+    ensures votes { (e : ElectionView) (c : CountedView) (voter : ℕ)
+        → (voter_reason e c voter).votes ≡ length (ballot_at e voter) }
+    ensures won { (x : CountedElectionView) (voter : ℕ) → IsCountedElection x
+        → (voter_reason x.election x.counted voter).elected
+        ≡ count_by (is_taken (winners_of x.counted)) (ballot_at x.election voter) }
+    ensures left { (e : ElectionView) (c : CountedView) (voter : ℕ)
+        → (voter_reason e c voter).left ≡ slice_index c.outcome.rests voter }
+    ensures paid { (x : CountedElectionView) (voter : ℕ) → IsCountedElection x → voter < length x.election.voters
+        → (voter_reason x.election x.counted voter).paid + (voter_reason x.election x.counted voter).left
+        ≡ x.counted.outcome.share }
+    ensures payments { (x : CountedElectionView) → IsCountedElection x
+        → let each = range_with_len 0 (length x.election.voters) in all_payments x.election x.counted.outcome
+        ≡ map (λ w. map (paid_for x.election x.counted.outcome w.place) each) x.counted.outcome.elected }
+{}
+
+/// The order of the file: of the projects of a counted election all positions, such that their places in the file rise
+/// from 0, one by one.
+pub fn file_order_is_that_of_places()
+    ensures { (x : CountedElectionView) → IsCountedElection x
+        → All (λ position. position < length x.election.projects) (in_file x)
+        × (map (slice_index x.order) (in_file x) ≡ range_with_len 0 (length x.election.projects)) }
+{}
+
+/// How an amount in hundredths that is divided, by 0 as by 1, stands as text. Whole hundredths are written as any amount
+/// is. Any other amount is a fraction of a unit, p over q: of those that come to the same, with q above 0, the one with
+/// the least q.
+pub fn exact_amounts_are_their_words()
+    ensures whole { (amount divisor hundredths : ℕ) → hundredths * max 1 divisor ≡ amount
+        → exact_text amount divisor ≡ money_text hundredths }
+    ensures fraction { (amount divisor p q : ℕ) → ((hundredths : ℕ) → hundredths * max 1 divisor ≢ amount)
+        → 0 < q → p * (100 * max 1 divisor) ≡ amount * q
+        → ((r s : ℕ) → 0 < s → r * (100 * max 1 divisor) ≡ amount * s → q ≤ s)
+        → exact_text amount divisor ≡ decimal p ++ (codes "/" ++ decimal q) }
 {}
 
 /// Out of memory is one fault, whichever crate met it: each fault of which `NoMemory` is told by its name, or memory by

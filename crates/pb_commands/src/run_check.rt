@@ -103,9 +103,12 @@ pub fn run_check_against<T: Threads + Sync, R: Read + Drop, G: Gate, W: Write, N
         × Gives (IsFaultIn counting.now.rule.now) bytes None why))) }
     ensures unchanged { IfErr result (λ fault. fault ≢ AppFault.Write → writer.new ≡ writer.old) }
 
-    // Where the writer fails, what went out is the front of such a text.
+    // Where the writer fails, what went out is the front of such a text, after the same comparison.
     ensures front { IfErr result (λ fault. fault ≡ AppFault.Write → (faults : List ReadFault)
-        × IfSome (R.remaining reader) (λ bytes. AreListed 0 (records_of bytes) faults)
+        × IfSome (R.remaining reader) (λ bytes. AreListed 0 (records_of bytes) faults × (faults ≡ [] →
+        (e : ElectionView) × StandsFor (records_of bytes) e
+        × (x : CountedElectionView) × IsCountIn counting.now.rule.now e x × N.has_compared notes.new
+        (map (slice_index x.order) (winners_of x.counted))))
         × (text : List ℕ) × (n : ℕ) × IsTextOfCheck faults (N.warns notes.new) text
         × Appends (W.contents writer.old) (W.contents writer.new) (take n text)) }
 {
@@ -137,6 +140,9 @@ fn put_checked<T: Threads + Sync, G: Gate, W: Write, N: Compare>(
     ensures unchanged { IfErr result (λ fault. fault ≢ AppFault.Write → writer.new ≡ writer.old) }
     ensures front { IfErr result (λ fault. fault ≡ AppFault.Write
         → HasBegun (IsTextOfCheck faults.now (N.warns notes.new)) (W.contents writer.old) (W.contents writer.new)) }
+    ensures still { IfErr result (λ fault. fault ≡ AppFault.Write → IfSome election (λ e.
+        (x : CountedElectionView) × IsCountIn counting.now.rule.now e x
+        × N.has_compared notes.new (map (slice_index x.order) (winners_of x.counted)))) }
 {
     let warnings = warnings_against(counting, election, notes)?;
     let put = put_rows(counting.alloc, writer, faults, warnings.as_slice());

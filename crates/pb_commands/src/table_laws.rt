@@ -15,8 +15,8 @@ ghost use Rattle.pb_rounds.specs.PriceSystem.{IsPriceSystem};
 ghost use Rattle.pb_rounds.specs.Run.{ElectedView};
 ghost use Rattle.pb_reasons.specs.Totals.{totals_of};
 
-/// What the two tables of a count tell: a project that is neither elected nor added lacks something, and each
-/// voter has paid what is not left of the share; the payments that are told are a price system of the elected.
+/// What the two tables of a count tell: a project that is neither elected nor added lacks something, and the
+/// payments that are told are a price system of the elected.
 /// They agree with the report: the projects that it names as
 /// elected are so in the table of projects, with the same round, price and collected amount; and its spent
 /// and its surplus sum to what the voters paid, which is what was collected, and what the added projects
@@ -27,10 +27,6 @@ pub fn tables_tell()
         → (lost : Lost) × ((project_reason x.rule.options.grain x.election x.counted place).ending ≡ ending.Lost lost)
         × (0 < lost.missing)
         × (lost.left + lost.missing ≡ cost_in_parts (support_in x.rule.options.grain x.election) place) }
-    ensures share { (x : CountedElectionView) (voter : ℕ)
-        → IsCountedElection x → voter < length x.election.voters
-        → (voter_reason x.election x.counted voter).paid + (voter_reason x.election x.counted voter).left
-        ≡ x.counted.outcome.share }
     ensures payments { (x : CountedElectionView) → IsCountedElection x
         → IsPriceSystem (support_in x.rule.options.grain x.election) x.counted.outcome.share x.counted.outcome.elected
         x.counted.outcome.rests (all_payments x.election x.counted.outcome) }

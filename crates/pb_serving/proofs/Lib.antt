@@ -3,6 +3,7 @@ mod Answering
 mod Apart
 mod Batches
 mod Causes
+mod CutOff
 mod Handing
 mod Refusals
 mod Standings

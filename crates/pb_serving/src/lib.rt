@@ -6,6 +6,7 @@
 
 mod batch;
 mod heading;
+pub mod laws;
 mod paced;
 mod refused_rows;
 pub mod rows_at_hand;

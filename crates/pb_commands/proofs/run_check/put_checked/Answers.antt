@@ -2,6 +2,7 @@ use Rattle.std.proofs.lemmas.Result.{on_ok_weaker}
 use Rattle.pb_commands.proofs.CheckWritten.{warned}
 use Rattle.pb_commands.proofs.CheckedAgainst.{outside_refused}
 use Rattle.pb_commands.proofs.CheckWritten.{passed_unwritten, warned_front}
+use Rattle.pb_commands.proofs.FrontsWritten.{so_anyway}
 use Rattle.pb_commands.proofs.run_check.put_checked.Goals as goal
 
 pub returns-clause-compared : goal.returns-clause-compared
@@ -20,4 +21,11 @@ returns-clause-front g c =
 
 pub returns-in_err-warnings-clause-front : goal.returns-in_err-warnings-clause-front
 returns-in_err-warnings-clause-front g c =
+    passed_unwritten _ c.from_residual.result c.in_err-warnings.field-0.0 c.from_residual.ensures.1 c.in_err-warnings.ensures.reads
+
+pub returns-clause-still : goal.returns-clause-still
+returns-clause-still g c = so_anyway _ c.put_rows-put.result c.in_ok-warnings.ensures.compared
+
+pub returns-in_err-warnings-clause-still : goal.returns-in_err-warnings-clause-still
+returns-in_err-warnings-clause-still g c =
     passed_unwritten _ c.from_residual.result c.in_err-warnings.field-0.0 c.from_residual.ensures.1 c.in_err-warnings.ensures.reads
