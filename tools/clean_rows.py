@@ -25,6 +25,8 @@ CHANGED = re.compile(r'[0-9]+([.,][0-9]+)?E\+[0-9]+|[0-9]{15}0+|[0-9]{4}-[0-9]{2
 # A time, and how that begins which a log says was done to a vote.
 TIME = re.compile('[0-9]:[0-9]').search
 DONE = re.compile('insert|updat|delet|remov|cancel|revok|withdr', re.IGNORECASE).match
+# How a text begins that is signed with PGP, and how its signature begins and ends.
+SIGNED = [f'-----{it}-----' for it in ('begin pgp signed message', 'begin pgp signature', 'end pgp signature')]
 # What a count reads of META, and the columns that a section needs.
 NEEDED = 'budget', 'vote_type', 'max_length'
 COLUMNS = {'projects': [{'project_id', 'cost'}], 'votes': [{'voter_id', 'vote'}, {'voter_id', 'project_id'}]}
@@ -80,8 +82,8 @@ class Row:
     names: list = ()
 
     def edit(self, column, what, after):
-        """Changes a field, unless it says this already."""
-        if after != trimmed(self.fields[column]):
+        """Changes a field, if something was done that makes it another one."""
+        if what and after != trimmed(self.fields[column]):
             self.log = [*self.log, (label_of(self.names, column), what, self.fields[column], after)]
             self.fields[column] = after
 
@@ -133,10 +135,9 @@ class Cleaner:
             _, meta, self.projects, self.votes = parts.values()
             self.clean_meta(meta.above)
             for section in self.projects, self.votes:
-                for row in section.above:
-                    # In a table that was sorted rows of several fields are votes.
-                    if sum(map(bool, map(seen, row.fields))) == 1:
-                        row.leave_out('text above the columns')
+                # In a table that was sorted rows of several fields are votes.
+                for row in [it for it in section.above if sum(map(bool, map(seen, it.fields))) == 1]:
+                    row.leave_out('text above the columns')
                 # A spreadsheet fills the row of names up with empty ones.
                 self.refuse_cut(section.below, max(at for at, it in enumerate(section.names, 1) if it))
             below = [*self.projects.below, *self.votes.below]
@@ -150,10 +151,13 @@ class Cleaner:
 
     def parts(self):
         """The sections by their names, and what stands above META. Leaves out empty rows and column names again."""
-        parts, last = {'': Section()}, ''
+        parts, last, signed = {'': Section()}, '', ''
         for row in self.rows:
             section, name = parts[last], name_of(row.fields[0])
-            if not name and not any(map(seen, row.fields)):
+            before, signed = signed, name if name in (SIGNED if signed else SIGNED[:1]) else signed
+            if signed in SIGNED[1:]:
+                row.leave_out('signature' if before != SIGNED[2] else 'text behind the signature')
+            elif not name and not any(map(seen, row.fields)):
                 row.leave_out('empty row')
             # Of two tables the headings are those that were added.
             elif name in SECTIONS and name not in parts and (row.log or not self.given.projects):
@@ -163,6 +167,7 @@ class Cleaner:
                 row.leave_out('column names again')
             elif section.names:
                 row.names = section.names
+                row.edit(0, 'dash of a signed text' * bool(signed), trimmed(row.fields[0]).removeprefix('- '))
                 section.below.append(row)
             elif names := columns_of(row.fields, [last]):
                 section.head, section.names = row, names
@@ -189,10 +194,9 @@ class Cleaner:
 
     def refuse_cut(self, rows, width):
         """Refuses rows that a separator within a field has cut."""
-        for row in rows if self.is_cut else ():
-            if len(row.fields) > width and any(map(seen, row.fields[width:])):
-                row.refuse('the row has more fields than there are column names: put quotation marks around the field '
-                           'that has the separator in it')
+        for row in [it for it in rows if self.is_cut and any(map(seen, it.fields[width:]))]:
+            row.refuse('the row has more fields than there are column names: put quotation marks around the field '
+                       'that has the separator in it')
 
     def clean_amounts(self):
         """Takes groups of thousands out where only one reading is possible, and rounds what is asked for."""
@@ -289,8 +293,7 @@ class Cleaner:
                 faulty.append(row)
         for row in faulty:
             after, kinds = self.mended_vote(row.fields[self.vote])
-            if kinds:
-                row.edit(self.vote, ', '.join(kinds), after)
+            row.edit(self.vote, ', '.join(kinds), after)
         self.take_out(self.zero, '--drop-zero-cost')
         repeated = {name: same for name, same in voters.items() if name and len(same) > 1}
         # Where other rows of a voter differ, or the id is a time, equal rows may be of different people.
@@ -301,9 +304,8 @@ class Cleaner:
         kind = self.meta.get('vote_type', Row('', []))
         if self.given.single_choice and name_of(''.join(kind.fields[1:2])) == 'choose-1':
             kind.edit(1, '--single-choice', 'approval')
-            for row in self.votes.rows(self.vote):
-                if len({*ids_of(row.fields[self.vote])}) > 1:
-                    row.refuse('the vote names several projects, so the file is not choose-1')
+            for row in [it for it in self.votes.rows(self.vote) if len({*ids_of(it.fields[self.vote])}) > 1]:
+                row.refuse('the vote names several projects, so the file is not choose-1')
 
     def mended_vote(self, vote):
         """A vote as it is mended, and what had to be mended in it."""
@@ -334,13 +336,12 @@ class Cleaner:
         if name in self.ids and not any(seen(row.fields[self.vote]) for row in rows):
             first.refuse('the rows have no vote, and the voter is called as a project: each project of a ballot may '
                          'stand in a row of its own, below its voter. Look at the ballots')
-        columns = enumerate(itertools.zip_longest(*(row.fields for row in rows), fillvalue=''))
-        columns = ((at, [*map(seen, fields)]) for at, fields in columns if len({*fields}) > 1)
+        columns = enumerate(itertools.zip_longest(*(map(seen, row.fields) for row in rows), fillvalue=''))
         for at, said in (it for it in columns if len({*it[1]}) > 1):
             if (done := [*filter(DONE, said)]) and len({*map(str.lower, said)}) > 1:
                 first.refuse(f'a row says {shown(done[0])}, so the rows may be a log of what was done to votes: get '
                              'the votes as they are at its end')
-            if way == 'last' and all(TIME(it) and it[:4].isdigit() for it in said) and said == sorted(said)[::-1]:
+            if way == 'last' and all(TIME(it) and it[:4].isdigit() for it in said) and [*said] == sorted(said)[::-1]:
                 first.refuse(f'the column {shown(label_of(self.votes.names, at))} says that the rows go from the '
                              'latest to the earliest: `--repeated-voters first` keeps the latest')
             if way == 'merge' and at not in (self.voter, self.vote) and not all(map(TIME, said)):
