@@ -156,16 +156,31 @@ impl Copies {
     }
 
     /// Whether the chance is less than one in a hundred that so many rows come again, in any two places, if so many pairs of
-    /// rows say the same by chance.
+    /// rows say the same by chance; also if as many do as say the same as the row above.
     fn is_no_chance(&self, length: usize, equal: u64) -> bool {
         let count = self.rows.len() as u64;
-        let pairs = count.saturating_mul(count).max(1);
-        let mut chance = pairs.saturating_mul(3_200);
-        for _ in 0..length {
-            chance = chance.saturating_mul(equal).checked_div(pairs).unwrap_or(0);
+        let pairs = count.saturating_mul(count);
+        let (times, run) = (pairs.saturating_mul(50), length as u64);
+        if !is_no_chance(times, (equal, pairs), run) {
+            return false;
         }
-        chance < 64
+        let mut as_above = 0u64;
+        for (above, place) in (0..self.rows.len()).zip(1..self.rows.len()) {
+            as_above = as_above.saturating_add(u64::from(
+                self.said_at(above) == self.said_at(place),
+            ));
+        }
+        is_no_chance(times, (as_above, count), run)
     }
+}
+
+/// Whether so many times the chance that so many in turn are so is less than one, if of all this part is so by chance.
+pub(crate) fn is_no_chance(times: u64, (part, all): (u64, u64), length: u64) -> bool {
+    let mut chance = times.saturating_mul(64);
+    for _ in 0..length {
+        chance = chance.saturating_mul(part).checked_div(all).unwrap_or(0);
+    }
+    chance < 64
 }
 
 /// The place that a text has in a table; where it has none it is given this one.

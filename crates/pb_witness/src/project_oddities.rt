@@ -2,9 +2,9 @@
 
 use crate::approvals::Approvals;
 use crate::behind_vote::names_other;
-use crate::changed::{has_digit, has_one_of, is_one_of, is_power};
+use crate::changed::{has_digit, has_one_of, is_digits, is_one_of, is_power};
 use crate::columns::FurtherColumns;
-use crate::fields::has_lines;
+use crate::fields::{has_byte, has_lines};
 use crate::meta_oddities::{
     has_decimals, has_thousands_mark, may_be_sum, sum_of_costs, whole_number,
 };
@@ -142,10 +142,12 @@ impl ProjectOddities {
             found.take(odd.by(self.names as u64));
         }
         for place in 0..row.record.len() {
-            let value = row.at(place);
             let is_other = place != odd.id_place && place != odd.value_place;
-            let is_list = is_other && value.contains(',') && Money::read(value).is_err();
-            if is_list && names_other(value, &[], row.projects).is_some() {
+            if !is_other || !has_byte(bytes_at(row.record, place), b',') {
+                continue;
+            }
+            let value = row.at(place);
+            if Money::read(value).is_err() && names_other(value, &[], row.projects).is_some() {
                 found.take(odd.in_form(1).at(place));
             }
         }
@@ -306,7 +308,7 @@ fn take_comma(odd: Odd, id: &str, projects: &Firsts, found: &mut Oddities) {
 
 /// Whether a text has a word for a total.
 pub(crate) fn has_total(text: &str) -> bool {
-    has_one_of(TOTALS, text)
+    !is_digits(text) && has_one_of(TOTALS, text)
 }
 
 /// Whether the name of a project says that it is withdrawn or the like: with such a word at its start or in

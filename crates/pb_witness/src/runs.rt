@@ -2,6 +2,7 @@
 
 use crate::cause::comes_next;
 use crate::changed::has_digit;
+use crate::copies::is_no_chance;
 use crate::prelude::*;
 
 /// The fewest rows that go on so, one behind the other.
@@ -10,6 +11,9 @@ const FEWEST: u64 = 3;
 /// Rows that go on from the row above in one way.
 #[derive(Clone, Copy, Default)]
 struct Series {
+    /// How many there are, and how many at most stand one behind the other.
+    all: u64,
+    longest: u64,
     /// The first of those just above, measured by how many there are.
     open: Option<Odd>,
     /// The first of all that are enough, measured by how many there are.
@@ -21,17 +25,30 @@ impl Series {
     fn take(&mut self, odd: Odd) {
         let open = odd.behind(self.open);
         self.open = Some(open);
+        self.all = self.all.saturating_add(1);
+        self.longest = self.longest.max(open.number);
         if open.number >= FEWEST {
             let first = self.found.unwrap_or(open.by(0));
             let more = if open.number == FEWEST { FEWEST } else { 1 };
             self.found = Some(first.by(first.number.saturating_add(more)));
         }
     }
+
+    /// The first that are enough, if the chance is less than one in a thousand that so many stand one behind the other,
+    /// where as many of these rows go on by chance as go on elsewhere.
+    fn no_chance(self, rows: u64) -> Option<Odd> {
+        let odd = self.found?;
+        let elsewhere = self.all.saturating_sub(odd.number);
+        let is_odd = is_no_chance(rows.saturating_mul(1_000), (elsewhere, rows), self.longest);
+        is_odd.then_some(odd)
+    }
 }
 
 /// The rows of VOTES that go on from the row above.
 #[derive(Drop)]
 pub(crate) struct Runs {
+    /// How many rows there are.
+    rows: u64,
     /// The vote above, as long as the votes are in order: then it shows nothing that they go on.
     before: String,
     are_sorted: bool,
@@ -46,6 +63,7 @@ impl Runs {
     /// No row yet.
     pub(crate) fn new(alloc: Global) -> Runs {
         Runs {
+            rows: 0,
             before: String::new(alloc),
             are_sorted: true,
             are_placed: true,
@@ -56,6 +74,7 @@ impl Runs {
 
     /// Takes a row that is accepted.
     pub(crate) fn take(&mut self, row: &Row<'_>) -> Result<(), AllocError> {
+        self.rows = self.rows.saturating_add(1);
         if self.are_sorted {
             self.are_sorted = are_in_order(self.before.as_str(), row.value());
             self.before.clear();
@@ -81,8 +100,8 @@ impl Runs {
     /// Takes the end of the file.
     pub(crate) fn end(&self, found: &mut Oddities) {
         if !self.are_sorted && !self.are_placed {
-            found.take_some(self.grown.found);
-            found.take_some(self.counted.found);
+            found.take_some(self.grown.no_chance(self.rows));
+            found.take_some(self.counted.no_chance(self.rows));
         }
     }
 }

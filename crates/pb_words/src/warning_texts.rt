@@ -249,7 +249,8 @@ Look at some ballots and at your rules first. If these choices count as much as 
     then they do not count. If a reserve or a second choice counts in place of others, this program can't count the file. \
     If they are corrected votes, or `vote` says how many projects the voter chose, write them in its place. If `vote` says \
     yes or no of this project, write the id there where it says yes, and nothing where not. If they are another voter's, \
-    write a row for that voter. If they are numbers of another list, find out which projects they mean.",
+    write a row for that voter. If they are numbers of another list, find out which projects they mean. If they are the \
+    order in which a voter saw the projects, find out whether `vote` has ids or places in it.",
         "the vote is empty, but {value} stands in column {column}. This concerns {rows}
 the vote is empty, but another field of the row names projects. This concerns {rows}
 If the voter chose these projects, write their ids into the column `vote`. If not, and it is not the column `voter_id`, give it the name `comment`.",
@@ -282,7 +283,7 @@ A form may not have been cleared between voters, so that these votes have other 
     with the ballots, or ask the voters.",
         "the vote is the one above it but for one id, which is the next in number; and so is each of the next ones. This concerns {rows}
 a vote is the one above it but for one id, which is the next in number; and so is each of the next ones. This concerns {rows}
-A cell may have been copied downwards, and a spreadsheet counted on. Compare all of these votes with the ballots.",
+A cell may have been copied downwards, and a spreadsheet counted on. Compare all of these votes with the ballots. If they are test ballots of a scanner or a form, delete these rows, and one beside them that names all projects or none.",
     ],
     &[
         "{number} columns have this name, and only the first is read
