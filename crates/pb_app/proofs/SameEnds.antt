@@ -2,10 +2,9 @@
 use Rattle.std.proofs.Common.{◌≡◌, ◌≢◌, ◌∙◌, ◌++◌, ℕ, List, [], Option, None, Some, Ok, Err, inl, inr, refl, sym, subst}
 use Rattle.std.specs.Prelude.{◌⊎◌, IfSome}
 use Rattle.pb_core.specs.Election.{ElectionView}
-use Rattle.pb_read.specs.declared.warning.Warning.{Warning}
 use Rattle.pb_commands.specs.Ends.{Ends, IfBothKnown}
 use Rattle.pb_commands.specs.Inner.Written.{HasWritten}
-use Rattle.pb_commands.proofs.Endings.{given, known_map, memory_end, passed_on}
+use Rattle.pb_commands.proofs.Endings.{Look, given, known_map, memory_end, passed_on}
 use Rattle.pb_app.specs.Inner.Page.{FirstDiffers}
 use Rattle.pb_faults.specs.declared.fault.AppFault.{AppFault}
 use Rattle.pb_faults.specs.declared.fault.AppFault.TheVariants.{Read, Script, ClerkCount, Audit, OtherFile, OpenDesk, Count, TooManyRuns, Export, Open, Write, Memory, Warned, Roll, Serving}
@@ -28,24 +27,24 @@ is_write (Roll x) = inl (λ same. cc)
 is_write (Serving x) = inl (λ same. cc)
 
 module _ {X Y : Type 0} (Gives : List ℕ → X → Y → Type 0) (Refuses : List ℕ → X → ElectionView → AppFault → Type 0)
-    (files : Option (List ℕ)) (beside : Option X) (warning : Option Warning) where
+    (files : Option (List ℕ)) (beside : Option X) (look : Look) where
   abbrev EndsSo : (A : Type 0) → AppFault → Type 0
-  EndsSo A fault = Ends {T = A} Gives Refuses files beside warning (Err fault)
+  EndsSo A fault = Ends {T = A} Gives Refuses files beside look (Err fault)
 
   -- a fault, but that a text in memory is refused for memory alone
   pub refused_so : {T : Type 0} (fault result : AppFault) → (fault ≡ Write → result ≡ Memory) → (fault ≢ Write → result ≡ fault) → EndsSo (Unit {0}) fault
       → EndsSo T result
   refused_so {T = T} fault result write other ends = elim (is_write fault) [
     | inl apart ↦ subst (EndsSo T) (sym (other apart))
-        (passed_on (λ x. x) Gives Refuses Gives Refuses files beside beside warning {T = Unit {0}} {A = T} fault (λ x is. is) (λ bytes x e refused. refused)
+        (passed_on (λ x. x) Gives Refuses Gives Refuses files beside beside look {T = Unit {0}} {A = T} fault (λ x is. is) (λ bytes x e refused. refused)
         (λ bytes x y gives. (y, gives)) apart ends)
     | inr is ↦ subst (EndsSo T) (sym (write is))
-        (let failed = subst (EndsSo (Unit {0})) is ends in memory_end Gives Refuses files beside warning {T = T} failed.judges.0.1 failed.judges.0.0)
+        (let failed = subst (EndsSo (Unit {0})) is ends in memory_end Gives Refuses files beside look {T = T} failed.judges.0.1 failed.judges.0.0)
   ]
 
   -- something is said
-  pub said_so : {T : Type 0} (value : T) → Ends {T = Unit {0}} Gives Refuses files beside warning (Ok tt) → Ends {T = T} Gives Refuses files beside warning (Ok value)
-  said_so {T = T} value ends = given Gives Refuses files beside warning value ends.judges.1 ends.judges.0
+  pub said_so : {T : Type 0} (value : T) → Ends {T = Unit {0}} Gives Refuses files beside look (Ok tt) → Ends {T = T} Gives Refuses files beside look (Ok value)
+  said_so {T = T} value ends = given Gives Refuses files beside look value ends.judges.1 ends.judges.0
 
 module _ {X : Type 0} (IsText : List ℕ → X → List ℕ → Type 0) (files : Option (List ℕ)) (beside : Option X) (made published : List ℕ) where
   abbrev WasMade : List ℕ → X → Type 0

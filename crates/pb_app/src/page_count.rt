@@ -41,7 +41,7 @@ pub(crate) fn page_count<T: Threads + Sync, P: Read + Drop, J: Read + Drop, G: G
         (λ bytes journal. Leaves bytes journal e)) }
     ensures ends { Ends (Gives (IsCountFor counting.now.rule.now decide.now))
         (PageRefuses counting.now.rule.now decide.now) (P.remaining inputs.file)
-        (known J.remaining inputs.journal) (H.refused_for watch.new) result }
+        (known J.remaining inputs.journal) (H.refused_for watch.new, H.shown watch.old, H.shown watch.new) result }
     ensures reads { IfErr result (λ fault. fault ≢ AppFault.Write) }
 {
     match decide {
@@ -62,7 +62,7 @@ fn plain_count<T: Threads + Sync, P: Read + Drop, J: Read + Drop, G: Gate, H: He
         (λ bytes journal. Leaves bytes journal e)) }
     ensures ends { Ends (Gives (IsCountFor counting.now.rule.now None))
         (PageRefuses counting.now.rule.now None) (P.remaining inputs.file)
-        (known J.remaining inputs.journal) (H.refused_for watch.new) result }
+        (known J.remaining inputs.journal) (H.refused_for watch.new, H.shown watch.old, H.shown watch.new) result }
     ensures reads { IfErr result (λ fault. fault ≢ AppFault.Write) }
 {
     match count_inputs(counting, inputs, watch) {
@@ -87,7 +87,7 @@ fn decided_count<T: Threads + Sync, P: Read + Drop, J: Read + Drop, G: Gate, H: 
         (λ bytes journal. Leaves bytes journal e)) }
     ensures ends { Ends (Gives (IsCountFor counting.now.rule.now (Some decide.now)))
         (PageRefuses counting.now.rule.now (Some decide.now)) (P.remaining inputs.file)
-        (known J.remaining inputs.journal) (H.refused_for watch.new) result }
+        (known J.remaining inputs.journal) (H.refused_for watch.new, H.shown watch.old, H.shown watch.new) result }
     ensures reads { IfErr result (λ fault. fault ≢ AppFault.Write) }
 {
     match decided_inputs(counting, inputs, watch, decide) {

@@ -42,7 +42,8 @@ pub(crate) fn run_page<
     ensures runs { Runs (Gives (IsPageBy maker.now.run.now counting.now.rule.now maker.now.decide))
         (PageRefuses counting.now.rule.now maker.now.decide) (P.remaining inputs.file)
         (known J.remaining inputs.journal)
-        (H.refused_for watch.new.warnings.now) W.contents writer.old writer.new result }
+        (H.refused_for watch.new.warnings.now, H.shown watch.old.warnings.now, H.shown watch.new.warnings.now)
+        W.contents writer.old writer.new result }
 
     // Whether or not the bytes are known that were read.
     ensures written { OnOk result ((e : ElectionView) × HasWritten (IsPageBy maker.now.run.now counting.now.rule.now maker.now.decide e)

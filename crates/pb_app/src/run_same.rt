@@ -50,7 +50,8 @@ pub(crate) fn run_same<
         × IsPageBy maker.now.run.now counting.now.rule.now maker.now.decide e text × FirstDiffers text published.now at)) }
     ensures ends { Ends (Gives (IsPageBy maker.now.run.now counting.now.rule.now maker.now.decide))
         (PageRefuses counting.now.rule.now maker.now.decide) (P.remaining inputs.file)
-        (known J.remaining inputs.journal) (H.refused_for watch.new.warnings.now) result }
+        (known J.remaining inputs.journal)
+        (H.refused_for watch.new.warnings.now, H.shown watch.old.warnings.now, H.shown watch.new.warnings.now) result }
 {
     let mut made = Vec::new(counting.alloc);
     match run_page(counting, inputs, watch, &mut made, maker) {

@@ -2,14 +2,13 @@
 use Rattle.std.proofs.Common.{◌≡◌, ◌≢◌, ℕ, Bool, List, Option, None, Err, inl, inr}
 use Rattle.std.specs.Prelude.{IfSome}
 use Rattle.pb_core.specs.Election.{ElectionView}
-use Rattle.pb_read.specs.declared.warning.Warning.{Warning}
 use Rattle.pb_reasons.specs.CountedElection.{CountedElectionView, IsCountIn}
 use Rattle.pb_rounds.specs.declared.count_fault.CountFault.{CountFault}
 use Rattle.pb_rounds.specs.declared.count_fault.CountFault.TheVariants as count
 use Rattle.pb_rounds.specs.declared.rule.Rule.{Rule}
 use Rattle.pb_commands.proofs.Accepted.{count_again}
 use Rattle.pb_commands.proofs.CountEnds.{count_bars, count_late, none_counted}
-use Rattle.pb_commands.proofs.Endings.{Bars, FailsAs, IsElectionFile, given_end, known_map, late_end, passed_on}
+use Rattle.pb_commands.proofs.Endings.{Bars, FailsAs, IsElectionFile, IsHeard, Look, given_end, known_map, late_end, passed_on}
 use Rattle.pb_commands.proofs.InputEnds.{file_of}
 use Rattle.pb_commands.specs.Beside.{BesideRefuses, IsBeside}
 use Rattle.pb_commands.specs.Closed.{Gives, Leaves, LeavesNone}
@@ -34,12 +33,12 @@ beside_refuses rule other bytes journal file e fault named leaves (inl refused) 
 beside_refuses rule other bytes journal file e fault named leaves (inr (x, counts, refused)) = inr (x, (e, leaves, counts), (e, leaves, refused named))
 
 -- what a run says of an election that it counts by two rules
-module _ {Y : Type 0} (IsSuch : ElectionView → Y → Type 0) (rule other : Rule) (files : Option (List ℕ)) (journals : Option (Option (List ℕ))) (warning : Option Warning) where
+module _ {Y : Type 0} (IsSuch : ElectionView → Y → Type 0) (rule other : Rule) (files : Option (List ℕ)) (journals : Option (Option (List ℕ))) (look : Look) where
   -- what is read is refused
-  pub unread_ends : {T A : Type 0} (fault : AppFault) → fault ≢ Write → Ends {T = T} Leaves LeavesNone files journals warning (Err fault)
-      → Ends {T = A} (Gives IsSuch) (BesideRefuses rule other) files journals warning (Err fault)
+  pub unread_ends : {T A : Type 0} (fault : AppFault) → fault ≢ Write → Ends {T = T} Leaves LeavesNone files journals look (Err fault)
+      → Ends {T = A} (Gives IsSuch) (BesideRefuses rule other) files journals look (Err fault)
   unread_ends fault reads ends =
-      passed_on (λ (journal : Option (List ℕ)). journal) Leaves LeavesNone (Gives IsSuch) (BesideRefuses rule other) files journals journals warning fault
+      passed_on (λ (journal : Option (List ℕ)). journal) Leaves LeavesNone (Gives IsSuch) (BesideRefuses rule other) files journals journals look fault
       (λ journal is. is) (λ bytes journal e refused. inl (none_counted rule bytes journal e fault refused))
       (λ bytes journal y told. (told.0, told.1)) reads ends
 
@@ -62,18 +61,18 @@ module _ {Y : Type 0} (IsSuch : ElectionView → Y → Type 0) (rule other : Rul
     either_bars : (e : ElectionView) (fault : CountFault) (bytes : List ℕ) (journal : Option (List ℕ)) → IsRefusedBeside rule other e fault → Leaves bytes journal e
         → (y : Y) → Gives IsSuch bytes journal y → IsOutsideFault (merged (Count fault))
     either_bars e fault bytes journal (inl refused) leaves y told =
-        let x = own told.0 y told.2 in count_bars rule files journals warning e fault bytes journal refused leaves x.0 (told.0, told.1, x.1)
+        let x = own told.0 y told.2 in count_bars rule files journals look e fault bytes journal refused leaves x.0 (told.0, told.1, x.1)
     either_bars e fault bytes journal (inr (x, counts, refused)) leaves y told =
-        let x = others told.0 y told.2 in count_bars other files journals warning e fault bytes journal refused leaves x.0 (told.0, told.1, x.1)
+        let x = others told.0 y told.2 in count_bars other files journals look e fault bytes journal refused leaves x.0 (told.0, told.1, x.1)
 
     -- one of both counts is refused
     pub refused_ends : {T : Type 0} (e : ElectionView) (app : AppFault) (fault : CountFault) → app ≡ merged (Count fault)
-        → IfBothKnown files journals (λ bytes journal. Leaves bytes journal e) → IfSome files (λ bytes. IsElectionFile bytes) → warning ≡ None
+        → IfBothKnown files journals (λ bytes journal. Leaves bytes journal e) → IfSome files (λ bytes. IsElectionFile bytes) → IsHeard files look None
         → IsRefusedBeside rule other e fault
-        → Ends {T = T} (Gives IsSuch) (BesideRefuses rule other) files journals warning (Err app)
+        → Ends {T = T} (Gives IsSuch) (BesideRefuses rule other) files journals look (Err app)
     refused_ends e app fault is leaves file none refused =
-        given_end (Gives IsSuch) (BesideRefuses rule other) files journals warning (Err app) (merged (Count fault)) is
-        (late_end (Gives IsSuch) (BesideRefuses rule other) files journals warning (merged (Count fault)) (count_late fault) (count_again fault) file none
+        given_end (Gives IsSuch) (BesideRefuses rule other) files journals look (Err app) (merged (Count fault)) is
+        (late_end (Gives IsSuch) (BesideRefuses rule other) files journals look (merged (Count fault)) (count_late fault) (count_again fault) file none
         (known_map (λ bytes journal. Leaves bytes journal e) (FailsAs (Gives IsSuch) (BesideRefuses rule other) (merged (Count fault))) files journals
         (λ bytes journal leaves. either_fails e fault bytes journal refused leaves) leaves)
         (known_map (λ bytes journal. Leaves bytes journal e) (Bars (Gives IsSuch) (BesideRefuses rule other) (merged (Count fault))) files journals

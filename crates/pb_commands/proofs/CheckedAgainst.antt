@@ -1,8 +1,10 @@
 -- A check against a count: what it hands out is the election of the file, and how it fails.
-use Rattle.std.proofs.Common.{◌≡◌, ◌≢◌, ◌⊎◌, inl, inr, ℕ, List, [], Option, Some, None, Ok, Err, refl, subst, sym}
+use Rattle.std.proofs.Common.{◌≡◌, ◌≢◌, ◌<◌, ◌⊎◌, inl, inr, ℕ, List, [], length, Option, Some, None, Ok, Err, refl, subst, sym}
 use Rattle.std.specs.Prelude.{IfErr, IfSome, IsErrAnd, Result}
 use Rattle.pb_core.specs.Election.{ElectionView}
 use Rattle.pb_read.specs.Inner.Checking.{IsHandedOut}
+use Rattle.pb_read.specs.Listed.{AreListed}
+use Rattle.pb_read.specs.Shown.{IsAll, Sight, WereShown}
 use Rattle.pb_read.specs.StandsFor.{StandsFor}
 use Rattle.pb_read.specs.declared.fault.ReadFault.{ReadFault}
 use Rattle.pb_reasons.specs.CountedElection.{CountedElectionView, IsFaultIn}
@@ -39,6 +41,20 @@ known_has Counts Compares (Some bytes) faults result election handed has same = 
 pub known_both : (P Q : List ℕ → Type 0) (known : Option (List ℕ)) → IfSome known P → IfSome known Q → IfSome known (λ bytes. P bytes × Q bytes)
 known_both P Q None one other = tt
 known_both P Q (Some bytes) one other = (one, other)
+
+-- these faults of a file are listed, and who looks on was shown it with them
+abbrev pub IsListed : List ℕ → List ReadFault → (before after : Option (List Sight)) → Type 0
+IsListed bytes faults before after = AreListed 0 (records_of bytes) faults
+    × (length faults < 1000 → WereShown (records_of bytes) faults (IsAll (records_of bytes)) before after)
+
+-- who looks on has not forgotten it since
+pub known_listed : (known : Option (List ℕ)) (faults : List ReadFault) (before shown after : Option (List Sight)) → after ≡ shown
+    → IfSome known (λ bytes. AreListed 0 (records_of bytes) faults)
+    → IfSome known (λ bytes. length faults < 1000 → WereShown (records_of bytes) faults (IsAll (records_of bytes)) before shown)
+    → IfSome known (λ bytes. IsListed bytes faults before after)
+known_listed None faults before shown after same listed seen = tt
+known_listed (Some bytes) faults before shown after same listed seen =
+    (listed, subst (λ (x : Option (List Sight)). length faults < 1000 → WereShown (records_of bytes) faults (IsAll (records_of bytes)) before x) (sym same) seen)
 
 -- the count of the file's election is refused
 fails_of : (records : List Fields) (faults : List ReadFault) (election : Option ElectionView) (rule : Rule) (app : AppFault) → IsHandedOut records faults election

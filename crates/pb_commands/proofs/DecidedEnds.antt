@@ -6,7 +6,6 @@ use Rattle.pb_desk.specs.Desk.{DeskView, closed_election, standing_of}
 use Rattle.pb_export.specs.Export.{export_refusal}
 use Rattle.pb_export.specs.declared.export_fault.ExportFault.{ExportFault}
 use Rattle.pb_export.specs.declared.further.Further.{Further}
-use Rattle.pb_read.specs.declared.warning.Warning.{Warning}
 use Rattle.pb_reasons.specs.Comparison.{comparison_of}
 use Rattle.pb_reasons.specs.CountedElection.{CountedElectionView, IsCountIn, IsCountedElection}
 use Rattle.pb_rounds.specs.declared.count_fault.CountFault.{CountFault}
@@ -15,7 +14,7 @@ use Rattle.pb_rounds.specs.declared.rule.Rule.{Rule}
 use Rattle.pb_commands.proofs.Accepted.{counted_from_outside}
 use Rattle.pb_commands.proofs.BesideEnds.{beside_refuses}
 use Rattle.pb_commands.proofs.CountEnds.{none_counted}
-use Rattle.pb_commands.proofs.Endings.{FailsAs, passed_on}
+use Rattle.pb_commands.proofs.Endings.{FailsAs, Look, passed_on}
 use Rattle.pb_commands.proofs.ExportEnds.{not_exported as unexported}
 use Rattle.pb_commands.specs.Audited.{AuditWrites, IsDeskOf, IsTextOf}
 use Rattle.pb_commands.specs.Beside.{AreWinners, BesideRefuses}
@@ -68,12 +67,12 @@ refused_either rule other named e own winners fault wins same (inr is) refused =
     inr (wins.0, wins.1, subst (λ (r : Rule). IsRefused r e fault) is (subst (λ (f : ElectionView). IsRefused named f fault) same refused))
 
 -- what refuses the counts refuses a run that writes a report or a table by the rule that applies
-pub decided_pass : (table : Table) (decide : Decide) (rule : Rule) (files : Option (List ℕ)) (journals : Option (Option (List ℕ))) (warning : Option Warning)
-    → {T A : Type 0} (fault : AppFault) → fault ≢ Write → Ends {T = T} (Gives (Applies decide rule)) (BesideRefuses rule decide.other) files journals warning (Err fault)
-    → Ends {T = A} (Gives (IsDecided table decide rule)) (BesideRefuses rule decide.other) files journals warning (Err fault)
-decided_pass table decide rule files journals warning fault reads ends =
+pub decided_pass : (table : Table) (decide : Decide) (rule : Rule) (files : Option (List ℕ)) (journals : Option (Option (List ℕ))) (look : Look)
+    → {T A : Type 0} (fault : AppFault) → fault ≢ Write → Ends {T = T} (Gives (Applies decide rule)) (BesideRefuses rule decide.other) files journals look (Err fault)
+    → Ends {T = A} (Gives (IsDecided table decide rule)) (BesideRefuses rule decide.other) files journals look (Err fault)
+decided_pass table decide rule files journals look fault reads ends =
     passed_on (λ (journal : Option (List ℕ)). journal) (Gives (Applies decide rule)) (BesideRefuses rule decide.other) (Gives (IsDecided table decide rule)) (BesideRefuses rule decide.other)
-    files journals journals warning fault (λ journal is. is) (λ bytes journal e refused. refused)
+    files journals journals look fault (λ journal is. is) (λ bytes journal e refused. refused)
     (λ bytes journal text told. (told.2.0, (told.0, told.1, told.2.2))) reads ends
 
 -- what refuses the election refuses it

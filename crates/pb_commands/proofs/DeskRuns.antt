@@ -29,7 +29,7 @@ use Rattle.pb_faults.specs.Fault.{merged}
 use Rattle.pb_faults.specs.declared.fault.AppFault.{AppFault}
 use Rattle.pb_faults.specs.declared.fault.AppFault.TheVariants.{Script, Write}
 use Rattle.pb_commands.proofs.Accepted.{merged_again}
-use Rattle.pb_commands.proofs.Endings.{Bars, FailsAs, IsLate, given_end, late_end, passed_on}
+use Rattle.pb_commands.proofs.Endings.{Bars, FailsAs, IsLate, given_end, late_end, passed_on, unheard}
 use Rattle.pb_commands.proofs.InputEnds.{is_file}
 
 -- a row of a script that comes after others
@@ -94,10 +94,10 @@ module _ (rules : Rules) (clerks : ℕ) (shuts : Bool) (files scripts : Option (
   abbrev Refused : List ℕ → List ℕ → ElectionView → AppFault → Type 0
   Refused bytes rows = DeskRefuses rules rows clerks
 
-  pub own_passes : {T A : Type 0} (fault : AppFault) → fault ≢ Write → Ends {T = T} Leaves LeavesNone files (Some None) None (Err fault)
-      → Ends {T = A} (λ bytes rows. DeskWrites rules bytes rows clerks shuts) (λ _ rows. DeskRefuses rules rows clerks) files scripts None (Err fault)
+  pub own_passes : {T A : Type 0} (fault : AppFault) → fault ≢ Write → Ends {T = T} Leaves LeavesNone files (Some None) (None, None, None) (Err fault)
+      → Ends {T = A} (λ bytes rows. DeskWrites rules bytes rows clerks shuts) (λ _ rows. DeskRefuses rules rows clerks) files scripts (None, None, None) (Err fault)
   own_passes fault reads ends =
-      passed_on (λ (rows : List ℕ). None) Leaves LeavesNone Makes Refused files (Some None) scripts None fault (λ rows is. refl)
+      passed_on (λ (rows : List ℕ). None) Leaves LeavesNone Makes Refused files (Some None) scripts (None, None, None) fault (λ rows is. refl)
       (λ bytes rows e refused. own_refuses rules rows clerks bytes e fault refused) (λ bytes rows text writes. (writes.0, writes.1)) reads ends
 
   module _ (e : ElectionView) (stands : IfSome files (λ bytes. StandsFor (records_of bytes) e)) where
@@ -120,10 +120,10 @@ module _ (rules : Rules) (clerks : ℕ) (shuts : Bool) (files scripts : Option (
         from_outside fault bytes rows text writes (subst (λ (e : ElectionView). IsServeFault (admission_on rules e) clerks (records_of rows) fault) same fails)
 
     pub script_ends : {T : Type 0} (fault : ServeFault) (app : AppFault) → app ≡ unserved fault → IfSome scripts (λ rows. IsServeFault (admission_on rules e) clerks (records_of rows) fault)
-        → Ends {T = T} (λ bytes rows. DeskWrites rules bytes rows clerks shuts) (λ _ rows. DeskRefuses rules rows clerks) files scripts None (Err app)
+        → Ends {T = T} (λ bytes rows. DeskWrites rules bytes rows clerks shuts) (λ _ rows. DeskRefuses rules rows clerks) files scripts (None, None, None) (Err app)
     script_ends {T = T} fault app is fails =
-        given_end Makes Refused files scripts None (Err app) (unserved fault) is
-        (late_end Makes Refused files scripts None (unserved fault) (unserved_late fault) (unserved_again fault) (is_file files e stands) refl
+        given_end Makes Refused files scripts (None, None, None) (Err app) (unserved fault) is
+        (late_end Makes Refused files scripts (None, None, None) (unserved fault) (unserved_late fault) (unserved_again fault) (is_file files e stands) (unheard files)
         (both_known (λ bytes. StandsFor (records_of bytes) e) (λ _ rows. IsServeFault (admission_on rules e) clerks (records_of rows) fault) (FailsAs Makes Refused (unserved fault)) files scripts stands fails (not_served fault))
         (both_known (λ bytes. StandsFor (records_of bytes) e) (λ _ rows. IsServeFault (admission_on rules e) clerks (records_of rows) fault) (Bars Makes Refused (unserved fault)) files scripts stands fails (bars fault)))
 

@@ -7,11 +7,10 @@ use Rattle.pb_export.specs.Export.{export_refusal}
 use Rattle.pb_export.specs.declared.export_fault.ExportFault.{ExportFault}
 use Rattle.pb_export.specs.declared.export_fault.ExportFault.TheVariants as export
 use Rattle.pb_export.specs.declared.further.Further.{Further}
-use Rattle.pb_read.specs.declared.warning.Warning.{Warning}
 use Rattle.pb_reasons.specs.CountedElection.{CountedElectionView, IsCountIn}
 use Rattle.pb_rounds.specs.RuleNames.{rule_text}
 use Rattle.pb_rounds.specs.declared.rule.Rule.{Rule}
-use Rattle.pb_commands.proofs.Endings.{Bars, FailsAs, IsElectionFile, known_all, known_map, late_end, memory_end, passed_on}
+use Rattle.pb_commands.proofs.Endings.{Bars, FailsAs, IsElectionFile, IsHeard, Look, known_all, known_map, late_end, memory_end, passed_on}
 use Rattle.pb_commands.proofs.InputEnds.{file_of, one_left}
 use Rattle.pb_commands.specs.Closed.{CountRefuses, Gives, Leaves}
 use Rattle.pb_commands.specs.Ends.{Ends, IfBothKnown}
@@ -40,7 +39,7 @@ not_exported rule bytes (Some rows) e fault refused = refused
 
 -- such a file, of an election that is counted so
 module _ {X : Type 0} (IsCount : ElectionView → X → Type 0) (Refuses : List ℕ → Option (List ℕ) → ElectionView → AppFault → Type 0) (IsFile : Further → ElectionView → List ℕ → Type 0)
-    (files : Option (List ℕ)) (journals : Option (Option (List ℕ))) (warning : Option Warning) where
+    (files : Option (List ℕ)) (journals : Option (Option (List ℕ))) (look : Look) where
   -- what refuses the count
   module _ (counts : (kept : Further) (e : ElectionView) (text : List ℕ) → IsFile kept e text → (x : X) × IsCount e x) where
     passed : (none : (bytes : List ℕ) (journal : Option (List ℕ)) (e : ElectionView) (fault : ExportFault) → Refuses bytes journal e (Export fault) → ⊥)
@@ -49,15 +48,15 @@ module _ {X : Type 0} (IsCount : ElectionView → X → Type 0) (Refuses : List 
     passed none bytes journal e fault refused = refused
 
     pub exports_pass : (none : (bytes : List ℕ) (journal : Option (List ℕ)) (e : ElectionView) (fault : ExportFault) → Refuses bytes journal e (Export fault) → ⊥)
-        (kept : Further) {T A : Type 0} (fault : AppFault) → fault ≢ Write → Ends {T = T} (Gives IsCount) Refuses files journals warning (Err fault)
-        → Ends {T = A} (Gives (IsFile kept)) (ExportRefuses IsCount Refuses) files journals warning (Err fault)
+        (kept : Further) {T A : Type 0} (fault : AppFault) → fault ≢ Write → Ends {T = T} (Gives IsCount) Refuses files journals look (Err fault)
+        → Ends {T = A} (Gives (IsFile kept)) (ExportRefuses IsCount Refuses) files journals look (Err fault)
     exports_pass none kept fault reads ends =
-        passed_on (λ (journal : Option (List ℕ)). journal) (Gives IsCount) Refuses (Gives (IsFile kept)) (ExportRefuses IsCount Refuses) files journals journals warning fault
+        passed_on (λ (journal : Option (List ℕ)). journal) (Gives IsCount) Refuses (Gives (IsFile kept)) (ExportRefuses IsCount Refuses) files journals journals look fault
         (λ journal is. is) (λ bytes journal e refused. passed none bytes journal e fault refused)
         (λ bytes journal text writes. let x = counts kept writes.0 text writes.2 in (x.0, (writes.0, writes.1, x.1))) reads ends
 
     -- with whatever is kept
-    pub passed_bars : {T : Type 0} (fault : AppFault) → Ends {T = T} (Gives IsCount) Refuses files journals warning (Err fault) → warning ≡ None
+    pub passed_bars : {T : Type 0} (fault : AppFault) → Ends {T = T} (Gives IsCount) Refuses files journals look (Err fault) → look.0 ≡ None
         → IfBothKnown files journals (λ bytes journal. (kept : Further) (text : List ℕ) → Gives (IsFile kept) bytes journal text → IsOutsideFault fault)
     passed_bars fault ends none =
         known_map (Bars (Gives IsCount) Refuses fault)
@@ -95,11 +94,11 @@ module _ {X : Type 0} (IsCount : ElectionView → X → Type 0) (Refuses : List 
 
     -- no file would be read back as the election, or memory was refused
     pub stopped_ends : (kept : Further) {T : Type 0} (fault : AppFault) → IsStopped e fault → merged fault ≡ fault → IfBothKnown files journals (λ bytes journal. Leaves bytes journal e)
-        → IfSome files (λ bytes. IsElectionFile bytes) → warning ≡ None
-        → Ends {T = T} (Gives (IsFile kept)) (ExportRefuses IsCount Refuses) files journals warning (Err fault)
-    stopped_ends kept Memory stopped is leaves file none = memory_end (Gives (IsFile kept)) (ExportRefuses IsCount Refuses) files journals warning file none
+        → IfSome files (λ bytes. IsElectionFile bytes) → IsHeard files look None
+        → Ends {T = T} (Gives (IsFile kept)) (ExportRefuses IsCount Refuses) files journals look (Err fault)
+    stopped_ends kept Memory stopped is leaves file none = memory_end (Gives (IsFile kept)) (ExportRefuses IsCount Refuses) files journals look file none
     stopped_ends kept (Export fault) stopped is leaves file none =
-        late_end (Gives (IsFile kept)) (ExportRefuses IsCount Refuses) files journals warning (Export fault) tt is file none
+        late_end (Gives (IsFile kept)) (ExportRefuses IsCount Refuses) files journals look (Export fault) tt is file none
         (known_map (λ bytes journal. Leaves bytes journal e) (FailsAs (Gives (IsFile kept)) (ExportRefuses IsCount Refuses) (Export fault)) files journals
         (λ bytes journal leaves. let own = file_of bytes journal e leaves in (own.0, own.1, (e, leaves, ((x, is_count), stopped (has_name fault is))))) leaves)
         (known_map (λ bytes journal. Leaves bytes journal e) (Bars (Gives (IsFile kept)) (ExportRefuses IsCount Refuses) (Export fault)) files journals

@@ -1,5 +1,5 @@
 -- How the reading of an election ends, of a desk, and of the election that it leaves.
-use Rattle.std.proofs.Common.{◌≡◌, ◌≢◌, ℕ, List, Option, Some, None, Ok, Err, false, true, refl, sym, ◌∙◌, ap, subst}
+use Rattle.std.proofs.Common.{◌≡◌, ◌≢◌, ℕ, List, [], ◌∷◌, length, Option, Some, None, Ok, Err, false, true, refl, sym, ◌∙◌, ap, subst}
 use Rattle.std.specs.Prelude.{IfErr, IfOk, IfSome, IsErrAnd, Result}
 use Rattle.std.proofs.lemmas.Bool.{true≢false}
 use Rattle.std.proofs.lemmas.Option.{none-some}
@@ -11,6 +11,7 @@ use Rattle.pb_desk.specs.declared.audit_fault.AuditFault.{AuditFault}
 use Rattle.pb_desk.specs.declared.audit_fault.AuditFault.TheVariants as audit
 use Rattle.pb_read.proofs.Uniqueness.{one_election}
 use Rattle.pb_read.specs.FirstFault.{IsFaultAt, IsFromOutside}
+use Rattle.pb_read.specs.Shown.{WereShown}
 use Rattle.pb_read.specs.StandsFor.{StandsFor}
 use Rattle.pb_read.specs.declared.fault.ReadFault.{ReadFault}
 use Rattle.pb_read.specs.declared.fault.ReadKind.{ReadKind}
@@ -20,7 +21,7 @@ use Rattle.pb_rows.specs.Reading.{records_of}
 use Rattle.pb_script.specs.Serving.{program_room}
 use Rattle.pb_commands.proofs.Accepted.{audit_again, read_again, read_from_outside}
 use Rattle.pb_commands.proofs.AuditAccepted.{desk_of, journal_from_outside, one_desk}
-use Rattle.pb_commands.proofs.Endings.{Bars, FailsAs, IsElectionFile, IsLate, given, given_end, known_map, late_end, memory_end, passed_on}
+use Rattle.pb_commands.proofs.Endings.{Bars, FailsAs, IsElectionFile, IsHeard, IsLate, Look, given, given_end, known_map, late_end, memory_end, passed_on}
 use Rattle.pb_commands.specs.Audited.{IsDeskOf}
 use Rattle.pb_commands.specs.Closed.{Leaves, LeavesNone}
 use Rattle.pb_commands.specs.Ends.{Ends, IfBothKnown, Judges}
@@ -75,30 +76,36 @@ if_some P Q None each holds = tt
 if_some P Q (Some bytes) each holds = each bytes holds
 
 -- the file's own election
-module _ (files : Option (List ℕ)) (warning : Option Warning) where
-  read_judges : (T : Type 0) (kind : ReadKind) (at : ℕ) → IfSome files (λ bytes. IsFaultAt (records_of bytes) kind at) → Judges {T = T} Leaves LeavesNone files (Some None) warning (Err (merged (Read (record { kind = kind; at = at }))))
-  read_judges T NoMemory at fails = tt
-  read_judges T kind at fails = fails
+module _ (files : Option (List ℕ)) (look : Look) where
+  -- the fault was shown after what stands before it
+  abbrev pub WasShown : ReadFault → Type 0
+  WasShown fault = IfSome files (λ bytes. WereShown (records_of bytes) (fault ∷ []) (λ new. length new ≡ fault.at) look.1 look.2)
 
-  reader_end : {T : Type 0} (kind : ReadKind) (at : ℕ) → IfSome files (λ bytes. IsFaultAt (records_of bytes) kind at)
+  read_judges : (T : Type 0) (kind : ReadKind) (at : ℕ) → IfSome files (λ bytes. IsFaultAt (records_of bytes) kind at) → WasShown (record { kind = kind; at = at })
+      → Judges {T = T} Leaves LeavesNone files (Some None) look (Err (merged (Read (record { kind = kind; at = at }))))
+  read_judges T NoMemory at fails shown = tt
+  read_judges T kind at fails shown = (fails, shown)
+
+  reader_end : {T : Type 0} (kind : ReadKind) (at : ℕ) → IfSome files (λ bytes. IsFaultAt (records_of bytes) kind at) → WasShown (record { kind = kind; at = at })
       → IfSome files (λ bytes. (e : ElectionView) → StandsFor (records_of bytes) e → IsFromOutside kind)
-      → Ends {T = T} Leaves LeavesNone files (Some None) warning (Err (merged (Read (record { kind = kind; at = at }))))
-  reader_end {T = T} kind at fails accepts = record {
+      → Ends {T = T} Leaves LeavesNone files (Some None) look (Err (merged (Read (record { kind = kind; at = at }))))
+  reader_end {T = T} kind at fails shown accepts = record {
     accepts = λ _. if_some (λ bytes. (e : ElectionView) → StandsFor (records_of bytes) e → IsFromOutside kind) (λ bytes. Bars Leaves LeavesNone (merged (Read (record { kind = kind; at = at }))) bytes None)
         files (λ bytes accepts e leaves. read_from_outside kind at (accepts e leaves)) accepts;
-    judges = read_judges T kind at fails;
+    judges = read_judges T kind at fails shown;
     one_memory = read_again kind at;
   }
 
   pub reader_ends : {T : Type 0} (fault : ReadFault) (r : Result T AppFault) → IsErrAnd r (λ app. app ≡ merged (Read fault)) → IfSome files (λ bytes. IsFaultAt (records_of bytes) fault.kind fault.at)
-      → IfSome files (λ bytes. (e : ElectionView) → StandsFor (records_of bytes) e → IsFromOutside fault.kind) → Ends Leaves LeavesNone files (Some None) warning r
-  reader_ends fault r is fails accepts = given_end Leaves LeavesNone files (Some None) warning r (merged (Read fault)) is (reader_end fault.kind fault.at fails accepts)
+      → WasShown fault → IfSome files (λ bytes. (e : ElectionView) → StandsFor (records_of bytes) e → IsFromOutside fault.kind) → Ends Leaves LeavesNone files (Some None) look r
+  reader_ends fault r is fails shown accepts =
+      given_end Leaves LeavesNone files (Some None) look r (merged (Read fault)) is (reader_end fault.kind fault.at fails shown accepts)
 
   -- a warning refuses the file
-  pub warning_ends : {T : Type 0} (e : ElectionView) (other : Warning) → warning ≡ Some other → IfSome files (λ bytes. StandsFor (records_of bytes) e)
-      → Ends {T = T} Leaves LeavesNone files (Some None) warning (Err (Warned other))
+  pub warning_ends : {T : Type 0} (e : ElectionView) (other : Warning) → IsHeard files look (Some other) → IfSome files (λ bytes. StandsFor (records_of bytes) e)
+      → Ends {T = T} Leaves LeavesNone files (Some None) look (Err (Warned other))
   warning_ends e other is stands = record {
-    accepts = λ none. absurd (none-some other (sym none ∙ is));
+    accepts = λ none. absurd (none-some other (sym none ∙ is.0));
     judges = (is, is_file files e stands);
     one_memory = refl;
   }
@@ -108,11 +115,11 @@ own_refuses : (bytes rows : List ℕ) (e : ElectionView) (fault : AppFault) → 
 own_refuses bytes rows e fault refused = absurd refused
 
 -- the desk of a file and a journal
-module _ (files journals : Option (List ℕ)) (warning : Option Warning) where
-  pub desk_passes : {T A : Type 0} (fault : AppFault) → fault ≢ Write → Ends {T = T} Leaves LeavesNone files (Some None) warning (Err fault)
-      → Ends {T = A} IsDeskOf (λ bytes rows. LeavesNone bytes (Some rows)) files journals warning (Err fault)
+module _ (files journals : Option (List ℕ)) (look : Look) where
+  pub desk_passes : {T A : Type 0} (fault : AppFault) → fault ≢ Write → Ends {T = T} Leaves LeavesNone files (Some None) look (Err fault)
+      → Ends {T = A} IsDeskOf (λ bytes rows. LeavesNone bytes (Some rows)) files journals look (Err fault)
   desk_passes fault reads ends =
-      passed_on (λ rows. None) Leaves LeavesNone IsDeskOf (λ bytes rows. LeavesNone bytes (Some rows)) files (Some None) journals warning fault (λ rows is. refl)
+      passed_on (λ rows. None) Leaves LeavesNone IsDeskOf (λ bytes rows. LeavesNone bytes (Some rows)) files (Some None) journals look fault (λ rows is. refl)
       (λ bytes rows e refused. own_refuses bytes rows e fault refused) (λ bytes rows d is. (d.opening.election, is.stands)) reads ends
 
   journal_late : (fault : AuditFault) → IsLate (merged (Audit fault))
@@ -139,11 +146,11 @@ module _ (files journals : Option (List ℕ)) (warning : Option Warning) where
   both P e fault (Some bytes) (Some rows) stands fails each = each bytes rows stands fails
 
   pub journal_ends : {T : Type 0} (e : ElectionView) (fault : AuditFault) (r : Result T AppFault) → IsErrAnd r (λ app. app ≡ merged (Audit fault))
-      → IfSome files (λ bytes. StandsFor (records_of bytes) e) → IfSome journals (λ rows. IsFaultOfJournal e program_room (records_of rows) fault) → warning ≡ None
-      → Ends {T = T} IsDeskOf (λ bytes rows. LeavesNone bytes (Some rows)) files journals warning r
+      → IfSome files (λ bytes. StandsFor (records_of bytes) e) → IfSome journals (λ rows. IsFaultOfJournal e program_room (records_of rows) fault) → IsHeard files look None
+      → Ends {T = T} IsDeskOf (λ bytes rows. LeavesNone bytes (Some rows)) files journals look r
   journal_ends e fault r is stands fails none =
-      given_end IsDeskOf (λ bytes rows. LeavesNone bytes (Some rows)) files journals warning r (merged (Audit fault)) is
-      (late_end IsDeskOf (λ bytes rows. LeavesNone bytes (Some rows)) files journals warning (merged (Audit fault)) (journal_late fault) (audit_again fault) (is_file files e stands) none
+      given_end IsDeskOf (λ bytes rows. LeavesNone bytes (Some rows)) files journals look r (merged (Audit fault)) is
+      (late_end IsDeskOf (λ bytes rows. LeavesNone bytes (Some rows)) files journals look (merged (Audit fault)) (journal_late fault) (audit_again fault) (is_file files e stands) none
       (both (FailsAs IsDeskOf (λ bytes rows. LeavesNone bytes (Some rows)) (merged (Audit fault))) e fault files journals stands fails (journal_fails e fault))
       (both (Bars IsDeskOf (λ bytes rows. LeavesNone bytes (Some rows)) (merged (Audit fault))) e fault files journals stands fails (journal_bars e fault)))
 
@@ -158,14 +165,14 @@ module _ (files journals : Option (List ℕ)) (warning : Option Warning) where
       by (Some bytes) (Some rows) stands audited = desk_of bytes rows e d stands audited
 
 -- the election that a shut desk leaves
-module _ (files journals : Option (List ℕ)) (warning : Option Warning) where
+module _ (files journals : Option (List ℕ)) (look : Look) where
   abbrev pub IsLeft : List ℕ → List ℕ → ElectionView → Type 0
   IsLeft bytes rows = Leaves bytes (Some rows)
 
-  pub left_passes : {T A : Type 0} (fault : AppFault) → fault ≢ Write → Ends {T = T} IsDeskOf (λ bytes rows. LeavesNone bytes (Some rows)) files journals warning (Err fault)
-      → Ends {T = A} (λ bytes rows. Leaves bytes (Some rows)) (λ bytes rows. LeavesNone bytes (Some rows)) files journals warning (Err fault)
+  pub left_passes : {T A : Type 0} (fault : AppFault) → fault ≢ Write → Ends {T = T} IsDeskOf (λ bytes rows. LeavesNone bytes (Some rows)) files journals look (Err fault)
+      → Ends {T = A} (λ bytes rows. Leaves bytes (Some rows)) (λ bytes rows. LeavesNone bytes (Some rows)) files journals look (Err fault)
   left_passes fault reads ends =
-      passed_on (λ (rows : List ℕ). rows) IsDeskOf (λ bytes rows. LeavesNone bytes (Some rows)) (λ bytes rows. Leaves bytes (Some rows)) (λ bytes rows. LeavesNone bytes (Some rows)) files journals journals warning fault
+      passed_on (λ (rows : List ℕ). rows) IsDeskOf (λ bytes rows. LeavesNone bytes (Some rows)) (λ bytes rows. Leaves bytes (Some rows)) (λ bytes rows. LeavesNone bytes (Some rows)) files journals journals look fault
       (λ rows is. is) (λ bytes rows e refused. refused) (λ bytes rows e leaves. (leaves.0, leaves.1)) reads ends
 
   open_bars : (d : DeskView) → (standing_of d).is_shut ≡ false → (bytes rows : List ℕ) → IsDeskOf bytes rows d → (e : ElectionView) → Leaves bytes (Some rows) e → IsOutsideFault OpenDesk
@@ -174,21 +181,21 @@ module _ (files journals : Option (List ℕ)) (warning : Option Warning) where
       absurd (true≢false (sym leaves.2.0 ∙ ap (λ (d : DeskView). (standing_of d).is_shut) same ∙ unshut))
 
   pub open_ends : {T : Type 0} (d : DeskView) → IfBothKnown files journals (λ bytes rows. IsDeskOf bytes rows d) → (standing_of d).is_shut ≡ false
-      → IfSome files (λ bytes. IsElectionFile bytes) → warning ≡ None
-      → Ends {T = T} (λ bytes rows. Leaves bytes (Some rows)) (λ bytes rows. LeavesNone bytes (Some rows)) files journals warning (Err OpenDesk)
+      → IfSome files (λ bytes. IsElectionFile bytes) → IsHeard files look None
+      → Ends {T = T} (λ bytes rows. Leaves bytes (Some rows)) (λ bytes rows. LeavesNone bytes (Some rows)) files journals look (Err OpenDesk)
   open_ends d is unshut file none =
-      late_end (λ bytes rows. Leaves bytes (Some rows)) (λ bytes rows. LeavesNone bytes (Some rows)) files journals warning OpenDesk tt refl file none
+      late_end (λ bytes rows. Leaves bytes (Some rows)) (λ bytes rows. LeavesNone bytes (Some rows)) files journals look OpenDesk tt refl file none
       (known_map (λ bytes rows. IsDeskOf bytes rows d) (FailsAs (λ bytes rows. Leaves bytes (Some rows)) (λ bytes rows. LeavesNone bytes (Some rows)) OpenDesk) files journals
       (λ bytes rows is. (d.opening.election, is.stands, (d, is, unshut))) is)
       (known_map (λ bytes rows. IsDeskOf bytes rows d) (Bars (λ bytes rows. Leaves bytes (Some rows)) (λ bytes rows. LeavesNone bytes (Some rows)) OpenDesk) files journals (open_bars d unshut) is)
 
   -- the election itself, or memory was refused
-  pub left_ends : (d : DeskView) (r : Result ElectionView AppFault) → IfErr r (λ fault. fault ≡ Memory) → IfSome files (λ bytes. IsElectionFile bytes) → warning ≡ None
-      → Ends {T = ElectionView} (λ bytes rows. Leaves bytes (Some rows)) (λ bytes rows. LeavesNone bytes (Some rows)) files journals warning r
-  left_ends d (Ok e) is file none = given (λ bytes rows. Leaves bytes (Some rows)) (λ bytes rows. LeavesNone bytes (Some rows)) files journals warning e file none
+  pub left_ends : (d : DeskView) (r : Result ElectionView AppFault) → IfErr r (λ fault. fault ≡ Memory) → IfSome files (λ bytes. IsElectionFile bytes) → IsHeard files look None
+      → Ends {T = ElectionView} (λ bytes rows. Leaves bytes (Some rows)) (λ bytes rows. LeavesNone bytes (Some rows)) files journals look r
+  left_ends d (Ok e) is file none = given (λ bytes rows. Leaves bytes (Some rows)) (λ bytes rows. LeavesNone bytes (Some rows)) files journals look e file none
   left_ends d (Err fault) is file none =
-      subst (λ fault. Ends {T = ElectionView} (λ bytes rows. Leaves bytes (Some rows)) (λ bytes rows. LeavesNone bytes (Some rows)) files journals warning (Err fault)) (sym is)
-      (memory_end (λ bytes rows. Leaves bytes (Some rows)) (λ bytes rows. LeavesNone bytes (Some rows)) files journals warning file none)
+      subst (λ fault. Ends {T = ElectionView} (λ bytes rows. Leaves bytes (Some rows)) (λ bytes rows. LeavesNone bytes (Some rows)) files journals look (Err fault)) (sym is)
+      (memory_end (λ bytes rows. Leaves bytes (Some rows)) (λ bytes rows. LeavesNone bytes (Some rows)) files journals look file none)
 
   pub left_is : (d : DeskView) (r : Result ElectionView AppFault) → IfOk r (λ e. e ≡ closed_election d) → IfBothKnown files journals (λ bytes rows. IsDeskOf bytes rows d)
       → (standing_of d).is_shut ≡ true → IfOk r (λ e. IfBothKnown files journals (λ bytes rows. Leaves bytes (Some rows) e))

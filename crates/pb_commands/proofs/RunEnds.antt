@@ -3,13 +3,12 @@ use Rattle.std.proofs.Common.{◌≡◌, ◌≢◌, ◌∙◌, ℕ, List, Option
 use Rattle.std.specs.Prelude.{IfErr, IsErrAnd, Result}
 use Rattle.pb_core.specs.Election.{ElectionView}
 use Rattle.pb_desk.specs.Desk.{DeskView}
-use Rattle.pb_read.specs.declared.warning.Warning.{Warning}
 use Rattle.pb_reasons.specs.CountedElection.{CountedElectionView, IsCountIn}
 use Rattle.pb_rounds.specs.declared.count_fault.CountFault.{CountFault}
 use Rattle.pb_rounds.specs.TieOrder.{IsSortedFor}
 use Rattle.pb_rounds.specs.declared.rule.Rule.{Rule}
 use Rattle.pb_commands.proofs.CountEnds.{Outcomes, count_of_any}
-use Rattle.pb_commands.proofs.Endings.{known_map, passed_on}
+use Rattle.pb_commands.proofs.Endings.{Look, known_map, passed_on}
 use Rattle.pb_commands.specs.Audited.{IsDeskOf}
 use Rattle.pb_commands.specs.Inner.Ballots.{BallotsWrites}
 use Rattle.pb_commands.specs.Closed.{CountRefuses, Gives, Leaves, LeavesNone}
@@ -21,13 +20,13 @@ use Rattle.pb_faults.specs.declared.fault.AppFault.{AppFault}
 use Rattle.pb_faults.specs.declared.fault.AppFault.TheVariants.{OpenDesk, Count, Write}
 
 -- what a run says of the election that it counts
-module _ (IsSuch : ElectionView → List ℕ → Type 0) (rule : Rule) (files : Option (List ℕ)) (journals : Option (Option (List ℕ))) (warning : Option Warning)
+module _ (IsSuch : ElectionView → List ℕ → Type 0) (rule : Rule) (files : Option (List ℕ)) (journals : Option (Option (List ℕ))) (look : Look)
     (counts : (e : ElectionView) (text : List ℕ) → IsSuch e text → (x : CountedElectionView) × IsCountIn rule e x) where
   -- the count's fault is that of the run
-  pub counts_pass : {T A : Type 0} (fault : AppFault) → fault ≢ Write → Ends {T = T} (Outcomes rule) (CountRefuses rule) files journals warning (Err fault)
-      → Ends {T = A} (Gives IsSuch) (CountRefuses rule) files journals warning (Err fault)
+  pub counts_pass : {T A : Type 0} (fault : AppFault) → fault ≢ Write → Ends {T = T} (Outcomes rule) (CountRefuses rule) files journals look (Err fault)
+      → Ends {T = A} (Gives IsSuch) (CountRefuses rule) files journals look (Err fault)
   counts_pass fault reads ends =
-      passed_on (λ (journal : Option (List ℕ)). journal) (Outcomes rule) (CountRefuses rule) (Gives IsSuch) (CountRefuses rule) files journals journals warning fault
+      passed_on (λ (journal : Option (List ℕ)). journal) (Outcomes rule) (CountRefuses rule) (Gives IsSuch) (CountRefuses rule) files journals journals look fault
       (λ journal is. is) (λ bytes journal e refused. refused)
       (λ bytes journal text writes. let o = counts writes.0 text writes.2 in (o.0, (writes.0, writes.1, o.1))) reads ends
 
@@ -45,11 +44,11 @@ pub table_counts : (table : Table) (rule : Rule) (e : ElectionView) (text : List
 table_counts table rule e text told = (told.0, told.2)
 
 -- an audit, and its ballots
-module _ (files journals : Option (List ℕ)) (warning : Option Warning) where
-  pub ballots_pass : (table : DeskView → List ℕ) {T A : Type 0} (fault : AppFault) → fault ≢ Write → Ends {T = T} IsDeskOf (λ bytes rows. LeavesNone bytes (Some rows)) files journals warning (Err fault)
-      → Ends {T = A} (BallotsWrites table) (λ bytes rows. LeavesNone bytes (Some rows)) files journals warning (Err fault)
+module _ (files journals : Option (List ℕ)) (look : Look) where
+  pub ballots_pass : (table : DeskView → List ℕ) {T A : Type 0} (fault : AppFault) → fault ≢ Write → Ends {T = T} IsDeskOf (λ bytes rows. LeavesNone bytes (Some rows)) files journals look (Err fault)
+      → Ends {T = A} (BallotsWrites table) (λ bytes rows. LeavesNone bytes (Some rows)) files journals look (Err fault)
   ballots_pass table fault reads ends =
-      passed_on (λ (rows : List ℕ). rows) IsDeskOf (λ bytes rows. LeavesNone bytes (Some rows)) (BallotsWrites table) (λ bytes rows. LeavesNone bytes (Some rows)) files journals journals warning fault
+      passed_on (λ (rows : List ℕ). rows) IsDeskOf (λ bytes rows. LeavesNone bytes (Some rows)) (BallotsWrites table) (λ bytes rows. LeavesNone bytes (Some rows)) files journals journals look fault
       (λ rows is. is) (λ bytes rows e refused. refused) (λ bytes rows text writes. (writes.0, writes.1)) reads ends
 
   pub ballots_known : (d : DeskView) → IfBothKnown files journals (λ bytes rows. IsDeskOf bytes rows d) → (table : DeskView → List ℕ) (text : List ℕ) → text ≡ table d

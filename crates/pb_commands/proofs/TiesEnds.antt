@@ -2,7 +2,6 @@
 use Rattle.std.proofs.Common.{◌≡◌, ◌≢◌, ◌∙◌, ◌<◌, ◌≤◌, ℕ, List, Option, Some, None, Err, ap, arith, refl, subst, sym}
 use Rattle.std.specs.Prelude.{IfSome}
 use Rattle.pb_core.specs.Election.{ElectionView}
-use Rattle.pb_read.specs.declared.warning.Warning.{Warning}
 use Rattle.pb_reasons.specs.AllTies.{runs_of}
 use Rattle.pb_reasons.specs.Counted.{counted}
 use Rattle.pb_reasons.specs.CountedElection.{CountedElectionView, IsCountIn}
@@ -11,7 +10,7 @@ use Rattle.pb_rounds.specs.Counted.{IsCountOf}
 use Rattle.pb_rounds.specs.declared.rule.Rule.{Rule}
 use Rattle.pb_commands.proofs.Accepted.{one_sorted}
 use Rattle.pb_commands.proofs.CountEnds.{Outcomes}
-use Rattle.pb_commands.proofs.Endings.{Bars, FailsAs, IsElectionFile, known_map, late_end, memory_end, passed_on}
+use Rattle.pb_commands.proofs.Endings.{Bars, FailsAs, IsElectionFile, IsHeard, Look, known_map, late_end, memory_end, passed_on}
 use Rattle.pb_commands.proofs.InputEnds.{file_of, one_left}
 use Rattle.pb_commands.specs.AllTies.{IsTiesOf, TiesRefuse}
 use Rattle.pb_commands.specs.Closed.{CountRefuses, Gives, Leaves}
@@ -33,17 +32,17 @@ one_runs rule e x y is other =
     ∙ ap (λ (s : ElectionView). runs_of (record y { election = s; rule = rule; counted = counted s rule.fill_up p })) sorted
     ∙ sym (ap (λ r. runs_of (record y { rule = r })) other.0 ∙ ap (λ c. runs_of (record y { rule = rule; counted = c })) other_filled)
 
-module _ (rule : Rule) (files : Option (List ℕ)) (journals : Option (Option (List ℕ))) (warning : Option Warning) where
+module _ (rule : Rule) (files : Option (List ℕ)) (journals : Option (Option (List ℕ))) (look : Look) where
   counted_ties : (bytes : List ℕ) (journal : Option (List ℕ)) (e : ElectionView) (fault : AppFault) → CountRefuses rule bytes journal e fault → TiesRefuse rule bytes journal e fault
   counted_ties bytes None e TooManyRuns refused = absurd refused
   counted_ties bytes (Some rows) e TooManyRuns refused = absurd refused
   counted_ties bytes journal e fault refused = refused
 
   -- the count's fault is that of the run
-  pub ties_pass : {T A : Type 0} (fault : AppFault) → fault ≢ Write → Ends {T = T} (Outcomes rule) (CountRefuses rule) files journals warning (Err fault)
-      → Ends {T = A} (Gives (IsTiesOf rule)) (TiesRefuse rule) files journals warning (Err fault)
+  pub ties_pass : {T A : Type 0} (fault : AppFault) → fault ≢ Write → Ends {T = T} (Outcomes rule) (CountRefuses rule) files journals look (Err fault)
+      → Ends {T = A} (Gives (IsTiesOf rule)) (TiesRefuse rule) files journals look (Err fault)
   ties_pass fault reads ends =
-      passed_on (λ (journal : Option (List ℕ)). journal) (Outcomes rule) (CountRefuses rule) (Gives (IsTiesOf rule)) (TiesRefuse rule) files journals journals warning fault
+      passed_on (λ (journal : Option (List ℕ)). journal) (Outcomes rule) (CountRefuses rule) (Gives (IsTiesOf rule)) (TiesRefuse rule) files journals journals look fault
       (λ journal is. is) (λ bytes journal e refused. counted_ties bytes journal e fault refused)
       (λ bytes journal text writes. (writes.2.0, (writes.0, writes.1, writes.2.1))) reads ends
 
@@ -58,10 +57,10 @@ module _ (rule : Rule) (files : Option (List ℕ)) (journals : Option (Option (L
 
     -- the count rests on too many runs, or memory was refused
     pub untold_ends : {T : Type 0} (fault : AppFault) → AreUntold x fault → IfBothKnown files journals (λ bytes journal. Leaves bytes journal e)
-        → IfSome files (λ bytes. IsElectionFile bytes) → warning ≡ None → Ends {T = T} (Gives (IsTiesOf rule)) (TiesRefuse rule) files journals warning (Err fault)
-    untold_ends Memory untold leaves file none = memory_end (Gives (IsTiesOf rule)) (TiesRefuse rule) files journals warning file none
+        → IfSome files (λ bytes. IsElectionFile bytes) → IsHeard files look None → Ends {T = T} (Gives (IsTiesOf rule)) (TiesRefuse rule) files journals look (Err fault)
+    untold_ends Memory untold leaves file none = memory_end (Gives (IsTiesOf rule)) (TiesRefuse rule) files journals look file none
     untold_ends TooManyRuns untold leaves file none =
-        late_end (Gives (IsTiesOf rule)) (TiesRefuse rule) files journals warning TooManyRuns tt refl file none
+        late_end (Gives (IsTiesOf rule)) (TiesRefuse rule) files journals look TooManyRuns tt refl file none
         (known_map (λ bytes journal. Leaves bytes journal e) (FailsAs (Gives (IsTiesOf rule)) (TiesRefuse rule) TooManyRuns) files journals
         (λ bytes journal leaves. let own = file_of bytes journal e leaves in (own.0, own.1, (x, (e, leaves, (is_count, untold))))) leaves)
         (known_map (λ bytes journal. Leaves bytes journal e) (Bars (Gives (IsTiesOf rule)) (TiesRefuse rule) TooManyRuns) files journals

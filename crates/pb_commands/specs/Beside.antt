@@ -21,9 +21,8 @@ AreWinners rule e places = (x : CountedElectionView) × IsCountIn rule e x × (p
 
 -- what a rule is called beside another: by its method, or, where that is the other's too, by its name
 abbrev pub called : (shares votes : List ℕ) → (rule other : Rule) → List ℕ
-called shares votes rule other = let name = profile_name rule in
-    if no_shares rule.options.completion then (if no_shares other.options.completion then name else votes) else
-    (if no_shares other.options.completion then shares else name)
+called shares votes rule other = let is_votes = λ (r : Rule). no_shares r.options.completion in let name = profile_name rule in
+    if is_votes rule then (if is_votes other then name else votes) else (if is_votes other then shares else name)
 
 -- two rules by these winners: a row for each rule; or one for each project, at its end 1 or 0 for each rule, as the
 -- project wins by it or not

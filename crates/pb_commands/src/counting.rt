@@ -46,7 +46,7 @@ pub fn count_inputs<T: Threads + Sync, P: Read + Drop, J: Read + Drop, G: Gate, 
         (λ bytes journal. Leaves bytes journal e)) }
     ensures ends { Ends (Gives (IsCountIn counting.now.rule.now))
         (CountRefuses counting.now.rule.now) (P.remaining inputs.file)
-        (known J.remaining inputs.journal) (H.refused_for watch.new) result }
+        (known J.remaining inputs.journal) (H.refused_for watch.new, H.shown watch.old, H.shown watch.new) result }
     ensures reads { IfErr result (λ fault. fault ≢ AppFault.Write) }
 {
     let election = match election_of(counting.alloc, inputs, watch) {

@@ -35,7 +35,7 @@ pub fn election_of<P: Read + Drop, J: Read + Drop, H: Heed>(
     ensures ok { IfOk result (λ e. IfBothKnown (P.remaining inputs.file) (known J.remaining inputs.journal)
         (λ bytes journal. Leaves bytes journal e)) }
     ensures ends { Ends Leaves LeavesNone (P.remaining inputs.file) (known J.remaining inputs.journal)
-        (H.refused_for watch.new) result }
+        (H.refused_for watch.new, H.shown watch.old, H.shown watch.new) result }
     ensures reads { IfErr result (λ fault. fault ≢ AppFault.Write) }
 {
     let Inputs { file, journal } = inputs;
@@ -53,7 +53,8 @@ pub(crate) fn own_election<P: Read + Drop, H: Heed>(
 ) -> Result<Election, AppFault>
     ensures ok { IfOk result (λ e. IfBothKnown (P.remaining file) (Some None)
         (λ bytes journal. Leaves bytes journal e)) }
-    ensures ends { Ends Leaves LeavesNone (P.remaining file) (Some None) (H.refused_for watch.new) result }
+    ensures ends { Ends Leaves LeavesNone (P.remaining file) (Some None)
+        (H.refused_for watch.new, H.shown watch.old, H.shown watch.new) result }
     ensures any { IfErr result (λ fault. fault ≢ AppFault.OpenDesk) }
     ensures reads { IfErr result (λ fault. fault ≢ AppFault.Write) }
 {
@@ -75,7 +76,7 @@ pub(crate) fn audited_desk<P: Read + Drop, J: Read + Drop, H: Heed>(
     ensures ok { IfOk result (λ d. IfBothKnown (P.remaining file) (J.remaining journal) (λ bytes rows.
         IsDeskOf bytes rows d)) }
     ensures ends { Ends IsDeskOf (λ bytes rows. LeavesNone bytes (Some rows)) (P.remaining file)
-        (J.remaining journal) (H.refused_for watch.new) result }
+        (J.remaining journal) (H.refused_for watch.new, H.shown watch.old, H.shown watch.new) result }
     ensures any { IfErr result (λ fault. fault ≢ AppFault.OpenDesk) }
     ensures reads { IfErr result (λ fault. fault ≢ AppFault.Write) }
 {
@@ -97,7 +98,7 @@ fn left_election<P: Read + Drop, J: Read + Drop, H: Heed>(
     ensures ok { IfOk result (λ e. IfBothKnown (P.remaining file) (J.remaining journal) (λ bytes rows.
         Leaves bytes (Some rows) e)) }
     ensures ends { Ends (λ bytes rows. Leaves bytes (Some rows)) (λ bytes rows. LeavesNone bytes (Some rows))
-        (P.remaining file) (J.remaining journal) (H.refused_for watch.new) result }
+        (P.remaining file) (J.remaining journal) (H.refused_for watch.new, H.shown watch.old, H.shown watch.new) result }
     ensures reads { IfErr result (λ fault. fault ≢ AppFault.Write) }
 {
     let desk = match audited_desk(alloc, file, journal, watch) {

@@ -64,7 +64,7 @@ pub fn run_audit<T: Threads + Sync, P: Read + Drop, J: Read + Drop, W: Write>(
 ) -> Result<(), AppFault>
     ensures runs { Runs (AuditWrites Any (IsReport (record { options = options.now; fill_up = Nothing; ties = by_file })))
         (λ bytes rows. CountRefuses (record { options = options.now; fill_up = Nothing; ties = by_file }) bytes (Some rows)) (P.remaining file) (J.remaining journal)
-        None W.contents writer.old writer.new result }
+        (None, None, None) W.contents writer.old writer.new result }
 
     // An open desk is not refused.
     ensures any { IfErr result (λ fault. fault ≢ AppFault.OpenDesk) }
@@ -108,7 +108,7 @@ pub fn run_audit_watched<
 ) -> Result<(), AppFault>
     ensures runs { Runs (AuditWrites inputs.demand (IsReport counting.now.rule.now))
         (λ bytes rows. CountRefuses counting.now.rule.now bytes (Some rows))
-        (P.remaining inputs.file) (J.remaining inputs.journal) (H.refused_for watch.new)
+        (P.remaining inputs.file) (J.remaining inputs.journal) (H.refused_for watch.new, H.shown watch.old, H.shown watch.new)
         W.contents writer.old writer.new result }
 
     // The counts are those of the desk that was audited.

@@ -30,7 +30,7 @@ pub fn run_ballots<P: Read + Drop, J: Read + Drop, W: Write>(
 ) -> Result<(), AppFault>
     ensures runs { Runs (λ bytes rows text. (d : DeskView) × IsDeskOf bytes rows d
         × (text ≡ ballots_table (option_copied voter.entry) d))
-        (λ bytes rows. LeavesNone bytes (Some rows)) (P.remaining file) (J.remaining journal) None
+        (λ bytes rows. LeavesNone bytes (Some rows)) (P.remaining file) (J.remaining journal) (None, None, None)
         W.contents writer.old writer.new result }
 
     // An open desk is not refused.

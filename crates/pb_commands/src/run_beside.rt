@@ -43,7 +43,7 @@ pub fn run_beside<T: Threads + Sync, P: Read + Drop, J: Read + Drop, G: Gate, H:
     ensures { Runs (Gives (IsBeside beside.now.by_project counting.now.rule.now beside.now.rule))
         (BesideRefuses counting.now.rule.now beside.now.rule) (P.remaining inputs.file)
         (known J.remaining inputs.journal)
-        (H.refused_for watch.new) W.contents writer.old writer.new result }
+        (H.refused_for watch.new, H.shown watch.old, H.shown watch.new) W.contents writer.old writer.new result }
 {
     let election = match election_of(counting.alloc, inputs, watch) {
         Ok(election) => election,

@@ -1,7 +1,7 @@
 //! The command `check`: all that is wrong with a file, and what is probably not meant.
 
-ghost use Rattle.std.specs.Prelude.{◌≡◌, ◌≢◌, ◌⊎◌, ◌++◌, ℕ, List, [], None, Some, IfErr, IfOk, IfSome, OnOk, map};
-ghost use Rattle.std.specs.Prelude.{slice_index, take};
+ghost use Rattle.std.specs.Prelude.{◌≡◌, ◌≢◌, ◌⊎◌, ◌++◌, ◌<◌, ℕ, List, [], None, Some, IfErr, IfOk, IfSome, OnOk, map};
+ghost use Rattle.std.specs.Prelude.{length, slice_index, take};
 ghost use Rattle.std.specs.Io.KnownBytes.{Appends};
 ghost use Rattle.pb_core.specs.Election.{ElectionView};
 ghost use Rattle.pb_reasons.specs.Counted.{winners_of};
@@ -9,6 +9,7 @@ ghost use Rattle.pb_reasons.specs.CountedElection.{CountedElectionView, IsCountI
 ghost use Rattle.pb_rows.specs.Reading.{records_of};
 ghost use Rattle.pb_rows.specs.Writing.{text_of_row, text_of_rows};
 ghost use Rattle.pb_read.specs.Listed.{AreListed};
+ghost use Rattle.pb_read.specs.Shown.{IsAll, WereShown};
 ghost use Rattle.pb_read.specs.StandsFor.{StandsFor};
 ghost use Rattle.pb_commands.specs.Checked.{IsTextOfCheck, warning_row};
 ghost use Rattle.pb_commands.specs.Closed.{Gives};
@@ -40,10 +41,12 @@ pub fn run_check<R: Read + Drop, W: Write, N: Warn>(
     writer: &mut W,
     notes: &mut N,
 ) -> Result<Vec<ReadFault>, AppFault>
-    // Where the reader's bytes are known, the faults that are answered are theirs. The rows are those of the
-    // faults, and of the warnings that who looks on has answered.
-    ensures faults { IfSome (R.remaining reader) (λ bytes.
-        IfOk result (λ faults. AreListed 0 (records_of bytes) faults.items)) }
+    // Where the reader's bytes are known, the faults that are answered are theirs, and who looks on was shown
+    // the file with them; of 1,000 faults that is not said. The rows are those of the faults, and of the
+    // warnings that who looks on has answered.
+    ensures faults { IfSome (R.remaining reader) (λ bytes. IfOk result (λ faults.
+        AreListed 0 (records_of bytes) faults.items × (length faults.items < 1000
+        → WereShown (records_of bytes) faults.items (IsAll (records_of bytes)) (N.shown notes.old) (N.shown notes.new)))) }
     ensures written { IfOk result (λ faults.
         (text : List ℕ) × IsTextOfCheck faults.items (N.warns notes.new) text
         × Appends (W.contents writer.old) (W.contents writer.new) text) }
@@ -55,7 +58,8 @@ pub fn run_check<R: Read + Drop, W: Write, N: Warn>(
 
     // Where the writer fails, what went out is the front of such a text.
     ensures front { IfErr result (λ fault. fault ≡ AppFault.Write → (faults : List ReadFault)
-        × IfSome (R.remaining reader) (λ bytes. AreListed 0 (records_of bytes) faults)
+        × IfSome (R.remaining reader) (λ bytes. AreListed 0 (records_of bytes) faults × (length faults < 1000
+        → WereShown (records_of bytes) faults (IsAll (records_of bytes)) (N.shown notes.old) (N.shown notes.new)))
         × (text : List ℕ) × (n : ℕ) × IsTextOfCheck faults (N.warns notes.new) text
         × Appends (W.contents writer.old) (W.contents writer.new) (take n text)) }
 {
@@ -81,10 +85,12 @@ pub fn run_check_against<T: Threads + Sync, R: Read + Drop, G: Gate, W: Write, N
     writer: &mut W,
     notes: &mut N,
 ) -> Result<Vec<ReadFault>, AppFault>
-    // Where the reader's bytes are known, the faults that are answered are theirs. The rows are those of the
-    // faults, and of the warnings that who looks on has answered.
-    ensures faults { IfSome (R.remaining reader) (λ bytes.
-        IfOk result (λ faults. AreListed 0 (records_of bytes) faults.items)) }
+    // Where the reader's bytes are known, the faults that are answered are theirs, and who looks on was shown
+    // the file with them; of 1,000 faults that is not said. The rows are those of the faults, and of the
+    // warnings that who looks on has answered.
+    ensures faults { IfSome (R.remaining reader) (λ bytes. IfOk result (λ faults.
+        AreListed 0 (records_of bytes) faults.items × (length faults.items < 1000
+        → WereShown (records_of bytes) faults.items (IsAll (records_of bytes)) (N.shown notes.old) (N.shown notes.new)))) }
     ensures written { IfOk result (λ faults.
         (text : List ℕ) × IsTextOfCheck faults.items (N.warns notes.new) text
         × Appends (W.contents writer.old) (W.contents writer.new) text) }
@@ -105,8 +111,9 @@ pub fn run_check_against<T: Threads + Sync, R: Read + Drop, G: Gate, W: Write, N
 
     // Where the writer fails, what went out is the front of such a text, after the same comparison.
     ensures front { IfErr result (λ fault. fault ≡ AppFault.Write → (faults : List ReadFault)
-        × IfSome (R.remaining reader) (λ bytes. AreListed 0 (records_of bytes) faults × (faults ≡ [] →
-        (e : ElectionView) × StandsFor (records_of bytes) e
+        × IfSome (R.remaining reader) (λ bytes. (AreListed 0 (records_of bytes) faults × (length faults < 1000
+        → WereShown (records_of bytes) faults (IsAll (records_of bytes)) (N.shown notes.old) (N.shown notes.new)))
+        × (faults ≡ [] → (e : ElectionView) × StandsFor (records_of bytes) e
         × (x : CountedElectionView) × IsCountIn counting.now.rule.now e x × N.has_compared notes.new
         (map (slice_index x.order) (winners_of x.counted))))
         × (text : List ℕ) × (n : ℕ) × IsTextOfCheck faults (N.warns notes.new) text
@@ -143,6 +150,7 @@ fn put_checked<T: Threads + Sync, G: Gate, W: Write, N: Compare>(
     ensures still { IfErr result (λ fault. fault ≡ AppFault.Write → IfSome election (λ e.
         (x : CountedElectionView) × IsCountIn counting.now.rule.now e x
         × N.has_compared notes.new (map (slice_index x.order) (winners_of x.counted)))) }
+    ensures shown { N.shown notes.new ≡ N.shown notes.old }
 {
     let warnings = warnings_against(counting, election, notes)?;
     let put = put_rows(counting.alloc, writer, faults, warnings.as_slice());
@@ -162,6 +170,7 @@ fn warnings_against<T: Threads + Sync, G: Gate, N: Compare>(
     ensures rows { IfOk result (λ rows. N.warns notes.new rows.items) }
     ensures fault { IfErr result (CheckFails (λ e. election ≡ Some e) counting.now.rule.now) }
     ensures reads { IfErr result (λ fault. fault ≢ AppFault.Write) }
+    ensures shown { N.shown notes.new ≡ N.shown notes.old }
 {
     let Some(election) = election else {
         return Ok(notes.warnings()?);
@@ -187,6 +196,7 @@ fn put_out<W: Write, N: Warn>(
     ensures unchanged { IfErr result (λ fault. fault ≢ AppFault.Write → writer.new ≡ writer.old) }
     ensures front { IfErr result (λ fault. fault ≡ AppFault.Write
         → HasBegun (IsTextOfCheck faults.now (N.warns notes.new)) (W.contents writer.old) (W.contents writer.new)) }
+    ensures shown { N.shown notes.new ≡ N.shown notes.old }
 {
     let warnings = notes.warnings()?;
     let put = put_rows(alloc, writer, faults, warnings.as_slice());

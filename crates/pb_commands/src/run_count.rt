@@ -36,7 +36,7 @@ pub fn run_count<T: Threads + Sync, R: Read + Drop, W: Write>(
 ) -> Result<(), AppFault>
     ensures { Runs (Gives (IsTableOf Report (record { options = options.now; fill_up = Nothing; ties = by_file })))
         (CountRefuses (record { options = options.now; fill_up = Nothing; ties = by_file }))
-        (R.remaining reader) (Some None) None W.contents writer.old writer.new result }
+        (R.remaining reader) (Some None) (None, None, None) W.contents writer.old writer.new result }
 {
     let rule = Rule {
         options: *options,

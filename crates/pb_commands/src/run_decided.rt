@@ -37,7 +37,7 @@ pub fn run_decided<T: Threads + Sync, P: Read + Drop, J: Read + Drop, G: Gate, H
     ensures { Runs (Gives (IsDecided asked.now.table asked.now.decide counting.now.rule.now))
         (BesideRefuses counting.now.rule.now asked.now.decide.other) (P.remaining inputs.file)
         (known J.remaining inputs.journal)
-        (H.refused_for watch.new) W.contents writer.old writer.new result }
+        (H.refused_for watch.new, H.shown watch.old, H.shown watch.new) W.contents writer.old writer.new result }
 {
     let decided = match decided_inputs(counting, inputs, watch, &asked.decide) {
         Ok(decided) => decided,

@@ -58,7 +58,7 @@ pub fn run_decided_audit<
 ) -> Result<(), AppFault>
     ensures runs { Runs (AuditWrites audit.inputs.demand (IsDecided Report audit.decide counting.now.rule.now))
         (λ bytes rows. BesideRefuses counting.now.rule.now audit.decide.other bytes (Some rows))
-        (P.remaining audit.inputs.file) (J.remaining audit.inputs.journal) (H.refused_for watch.new)
+        (P.remaining audit.inputs.file) (J.remaining audit.inputs.journal) (H.refused_for watch.new, H.shown watch.old, H.shown watch.new)
         W.contents writer.old writer.new result }
 
     // The counts are those of the desk that was audited.

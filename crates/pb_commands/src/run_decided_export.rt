@@ -51,7 +51,7 @@ pub fn run_decided_export<
         (ExportRefuses (Applies decide.now counting.now.rule.now) (BesideRefuses counting.now.rule.now decide.now.other))
         (P.remaining inputs.file)
         (known J.remaining inputs.journal)
-        (H.refused_for watch.new) W.contents writer.old writer.new result }
+        (H.refused_for watch.new, H.shown watch.old, H.shown watch.new) W.contents writer.old writer.new result }
 
     // What can be exported with whatever further keys and columns is, unless a fault comes from outside, or a
     // warning.

@@ -62,7 +62,7 @@ pub fn run_desk<T: Threads + Sync, P: Read + Drop, S: Read + Drop, G: Gate, W: W
     ensures { Runs (λ bytes rows. DeskWrites
         (record { by_id = false; keeps_file = false; admission = open_to_all }) bytes rows clerks shuts)
         (λ _ rows. DeskRefuses (record { by_id = false; keeps_file = false; admission = open_to_all }) rows clerks)
-        (P.remaining file) (S.remaining script) None W.contents writer.old writer.new result }
+        (P.remaining file) (S.remaining script) (None, None, None) W.contents writer.old writer.new result }
 {
     let open = Rules {
         by_id: false,
@@ -109,7 +109,7 @@ pub fn run_admitted_desk<
 ) -> Result<(), AppFault>
     ensures runs { Runs (λ bytes rows. DeskWrites rules bytes rows clerks shuts)
         (λ _ rows. DeskRefuses rules rows clerks)
-        (P.remaining file) (S.remaining script) None W.contents writer.old writer.new result }
+        (P.remaining file) (S.remaining script) (None, None, None) W.contents writer.old writer.new result }
 
     // The counts are those of the journal that is written, which also where the writer does not tell its bytes is
     // one that file and script allow.

@@ -43,7 +43,7 @@ pub fn run_export<
     ensures runs { Runs (Gives (IsExportOf counting.now.rule.now (rule_text counting.now.rule.now) (H.keeps watch.new)))
         (ExportRefuses (IsCountIn counting.now.rule.now) (CountRefuses counting.now.rule.now)) (P.remaining inputs.file)
         (known J.remaining inputs.journal)
-        (H.refused_for watch.new) W.contents writer.old writer.new result }
+        (H.refused_for watch.new, H.shown watch.old, H.shown watch.new) W.contents writer.old writer.new result }
 
     // What can be exported with whatever further keys and columns is, unless a fault comes from outside, or a
     // warning.

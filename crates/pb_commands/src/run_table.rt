@@ -39,7 +39,7 @@ pub fn run_table<T: Threads + Sync, P: Read + Drop, J: Read + Drop, G: Gate, H: 
     ensures { Runs (Gives (IsTableOf table counting.now.rule.now))
         (CountRefuses counting.now.rule.now) (P.remaining inputs.file)
         (known J.remaining inputs.journal)
-        (H.refused_for watch.new) W.contents writer.old writer.new result }
+        (H.refused_for watch.new, H.shown watch.old, H.shown watch.new) W.contents writer.old writer.new result }
 {
     let count = match count_inputs(counting, inputs, watch) {
         Ok(count) => count,

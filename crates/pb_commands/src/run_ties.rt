@@ -29,7 +29,7 @@ pub fn run_ties<T: Threads + Sync, P: Read + Drop, J: Read + Drop, G: Gate, H: H
     ensures { Runs (Gives (IsTiesOf counting.now.rule.now))
         (TiesRefuse counting.now.rule.now) (P.remaining inputs.file)
         (known J.remaining inputs.journal)
-        (H.refused_for watch.new) W.contents writer.old writer.new result }
+        (H.refused_for watch.new, H.shown watch.old, H.shown watch.new) W.contents writer.old writer.new result }
 {
     let count = match count_inputs(counting, inputs, watch) {
         Ok(count) => count,

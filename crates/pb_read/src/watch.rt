@@ -64,7 +64,8 @@ pub trait Warn: Watch {
 
     /// The warnings of what was seen, in the order in which they are written.
     fn warnings(&mut self) -> Result<Vec<WarningRow>, NoMemory>
-        ensures { IfOk result (λ rows. warns self.new rows.items) };
+        ensures rows { IfOk result (λ rows. warns self.new rows.items) }
+        ensures shown { Self.shown self.new ≡ Self.shown self.old };
 }
 
 /// Who looks on at a check, and then also warns of claims in the file that differ from a count.
@@ -77,7 +78,8 @@ pub trait Compare: Warn {
     /// the added in theirs.
     fn warnings_beside(&mut self, winners: &[u32]) -> Result<Vec<WarningRow>, NoMemory>
         ensures compared { OnOk result (has_compared self.new winners.now) }
-        ensures rows { IfOk result (λ rows. Self.warns self.new rows.items) };
+        ensures rows { IfOk result (λ rows. Self.warns self.new rows.items) }
+        ensures shown { Self.shown self.new ≡ Self.shown self.old };
 }
 
 /// Who looks on at the file of a count, and may refuse it for a warning.

@@ -15,7 +15,7 @@ returns-clause-ends g c =
 
 pub returns-clause-ok : goal.returns-clause-ok
 returns-clause-ok g c =
-    desk_is (g.P.Read.remaining c.args.file) (g.J.Read.remaining c.args.journal) None c.in-Ok.election c.in_ok-audit.field-0
+    desk_is (g.P.Read.remaining c.args.file) (g.J.Read.remaining c.args.journal) (None, None, None) c.in-Ok.election c.in_ok-audit.field-0
     c.in-Ok.ensures.ok c.in_ok-audit.ensures.audited
 
 pub returns-in_err-audit-clause-ends : goal.returns-in_err-audit-clause-ends

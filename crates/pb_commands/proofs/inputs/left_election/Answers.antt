@@ -9,7 +9,7 @@ returns-in-Err-clause-ends g c = left_passes _ _ _ c.in-Err.fault c.in-Err.ensur
 pub returns-then-is_shut-clause-ok : goal.returns-then-is_shut-clause-ok
 returns-then-is_shut-clause-ok g c =
     let shut : (standing_of c.in-Ok.desk).is_shut ≡ true = search rules in
-    left_is (g.P.Read.remaining c.args.file) (g.J.Read.remaining c.args.journal) None c.in-Ok.desk c.left_by.result c.left_by.ensures.ok c.in-Ok.ensures.ok shut
+    left_is (g.P.Read.remaining c.args.file) (g.J.Read.remaining c.args.journal) (None, None, None) c.in-Ok.desk c.left_by.result c.left_by.ensures.ok c.in-Ok.ensures.ok shut
 
 pub returns-then-is_shut-clause-ends : goal.returns-then-is_shut-clause-ends
 returns-then-is_shut-clause-ends g c =

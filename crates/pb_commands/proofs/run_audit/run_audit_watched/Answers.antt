@@ -57,7 +57,7 @@ returns-clause-runs g c =
     let text = c.in_ok-text.text.items in
     run_written (AuditWrites demand (IsReport rule)) (λ bytes rows. CountRefuses rule bytes (Some rows)) files journals _ g.W.Write.contents _ _ text _
     (rw c.as_slice.ensures.value at c.write_out.ensures.ok) c.write_out.ensures.fault (rw c.as_slice.ensures.value at c.write_out.ensures.front) file.1 file.0
-    (audit_known (IsReport rule) (CountRefuses rule) demand files journals None c.in-Ok.desk c.in-Ok.ensures.ok (c.is_refused.ensures.passed c.if-is_refused.false) text c.in_ok-text.ensures.ok)
+    (audit_known (IsReport rule) (CountRefuses rule) demand files journals (None, None, None) c.in-Ok.desk c.in-Ok.ensures.ok (c.is_refused.ensures.passed c.if-is_refused.false) text c.in_ok-text.ensures.ok)
 
 pub returns-in-Err-clause-demanded : goal.returns-in-Err-clause-demanded
 returns-in-Err-clause-demanded g c = λ is. absurd (c.in-Err.ensures.any is)

@@ -13,8 +13,8 @@ returns-in-Err-clause-runs g c =
     let table = ballots_table (option_copied c.args.voter) in
     let files = g.P.Read.remaining c.args.file in
     let journals = g.J.Read.remaining c.args.journal in
-    run_ended (BallotsWrites table) (λ bytes rows. LeavesNone bytes (Some rows)) files journals None g.W.Write.contents _ c.in-Err.fault
-    (ballots_pass files journals None table c.in-Err.fault c.in-Err.ensures.reads c.in-Err.ensures.ends)
+    run_ended (BallotsWrites table) (λ bytes rows. LeavesNone bytes (Some rows)) files journals (None, None, None) g.W.Write.contents _ c.in-Err.fault
+    (ballots_pass files journals (None, None, None) table c.in-Err.fault c.in-Err.ensures.reads c.in-Err.ensures.ends)
 
 pub returns-in_err-text-clause-runs : goal.returns-in_err-text-clause-runs
 returns-in_err-text-clause-runs g c =
@@ -22,8 +22,8 @@ returns-in_err-text-clause-runs g c =
     let files = g.P.Read.remaining c.args.file in
     let journals = g.J.Read.remaining c.args.journal in
     let file = c.in-Ok.ensures.ends.judges in
-    run_given (BallotsWrites table) (λ bytes rows. LeavesNone bytes (Some rows)) files journals None g.W.Write.contents _ _ Memory c.from_residual.ensures.1
-    (memory_end (BallotsWrites table) (λ bytes rows. LeavesNone bytes (Some rows)) files journals None file.1 file.0)
+    run_given (BallotsWrites table) (λ bytes rows. LeavesNone bytes (Some rows)) files journals (None, None, None) g.W.Write.contents _ _ Memory c.from_residual.ensures.1
+    (memory_end (BallotsWrites table) (λ bytes rows. LeavesNone bytes (Some rows)) files journals (None, None, None) file.1 file.0)
 
 pub returns-clause-runs : goal.returns-clause-runs
 returns-clause-runs g c =
@@ -32,9 +32,9 @@ returns-clause-runs g c =
     let journals = g.J.Read.remaining c.args.journal in
     let file = c.in-Ok.ensures.ends.judges in
     let text = c.in_ok-text.text.items in
-    run_written (BallotsWrites table) (λ bytes rows. LeavesNone bytes (Some rows)) files journals None g.W.Write.contents _ _ text _
+    run_written (BallotsWrites table) (λ bytes rows. LeavesNone bytes (Some rows)) files journals (None, None, None) g.W.Write.contents _ _ text _
     (rw c.as_slice.ensures.value at c.write_out.ensures.ok) c.write_out.ensures.fault (rw c.as_slice.ensures.value at c.write_out.ensures.front) file.1 file.0
-    (ballots_known files journals None c.in-Ok.desk c.in-Ok.ensures.ok table text c.in_ok-text.ensures)
+    (ballots_known files journals (None, None, None) c.in-Ok.desk c.in-Ok.ensures.ok table text c.in_ok-text.ensures)
 
 pub returns-in_err-text-clause-any : goal.returns-in_err-text-clause-any
 returns-in_err-text-clause-any g c = not_that _ Memory OpenDesk c.from_residual.ensures.1 (λ is. cc)

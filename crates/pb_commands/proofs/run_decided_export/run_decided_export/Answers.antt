@@ -49,7 +49,7 @@ returns-in-Ok-text_of-clause-accepts g c = λ none.
     let decide = c.args.decide.now in
     let files = g.P.Read.remaining c.args.inputs.file in
     let journals = known g.J.Read.remaining c.args.inputs.journal in
-    writer_bars (Applies decide rule) (BesideRefuses rule decide.other) (IsDecidedExport decide rule) files journals None c.write_out.result c.write_out.ensures.fault
+    writer_bars (Applies decide rule) (BesideRefuses rule decide.other) (IsDecidedExport decide rule) files journals (None, None, None) c.write_out.result c.write_out.ensures.fault
 
 pub returns-in-Err-text_of-clause-runs : goal.returns-in-Err-text_of-clause-runs
 returns-in-Err-text_of-clause-runs g c =
@@ -75,5 +75,5 @@ returns-in-Err-text_of-clause-accepts g c = λ none.
     let it = c.in-Ok.decided in
     let x = it.count in
     let (e, election, counts, applies, leaves) = c.in-Ok.ensures.given in
-    stopped_bars (Applies decide rule) (BesideRefuses rule decide.other) (IsDecidedExport decide rule) files journals None (export_can decide rule) e (x.rule, it.own, it.other) applies c.in-Err-text_of.fault
+    stopped_bars (Applies decide rule) (BesideRefuses rule decide.other) (IsDecidedExport decide rule) files journals (None, None, None) (export_can decide rule) e (x.rule, it.own, it.other) applies c.in-Err-text_of.fault
     (c.in-Err-text_of.ensures.fault e election (sorted_by_own x.rule e x counts)) c.in-Err-text_of.ensures.merged leaves

@@ -15,7 +15,7 @@ pub returns-in-Err-clause-runs : goal.returns-in-Err-clause-runs
 returns-in-Err-clause-runs g c =
     let files = g.P.Read.remaining c.args.file in
     let scripts = g.S.Read.remaining c.args.script in
-    run_ended (λ bytes rows. DeskWrites c.args.rules bytes rows c.args.clerks c.args.shuts) (λ _ rows. DeskRefuses c.args.rules rows c.args.clerks) files scripts None g.W.Write.contents _ c.in-Err.fault
+    run_ended (λ bytes rows. DeskWrites c.args.rules bytes rows c.args.clerks c.args.shuts) (λ _ rows. DeskRefuses c.args.rules rows c.args.clerks) files scripts (None, None, None) g.W.Write.contents _ c.in-Err.fault
     (own_passes c.args.rules c.args.clerks c.args.shuts files scripts c.in-Err.fault c.in-Err.ensures.reads c.in-Err.ensures.ends)
 
 pub returns-in-Err-admission_of-clause-runs : goal.returns-in-Err-admission_of-clause-runs
@@ -23,8 +23,8 @@ returns-in-Err-admission_of-clause-runs g c =
     let files = g.P.Read.remaining c.args.file in
     let scripts = g.S.Read.remaining c.args.script in
     let file = c.in-Ok.ensures.ends.judges in
-    run_ended (λ bytes rows. DeskWrites c.args.rules bytes rows c.args.clerks c.args.shuts) (λ _ rows. DeskRefuses c.args.rules rows c.args.clerks) files scripts None g.W.Write.contents _ Memory
-    (memory_end (λ bytes rows. DeskWrites c.args.rules bytes rows c.args.clerks c.args.shuts) (λ _ rows. DeskRefuses c.args.rules rows c.args.clerks) files scripts None file.1 file.0)
+    run_ended (λ bytes rows. DeskWrites c.args.rules bytes rows c.args.clerks c.args.shuts) (λ _ rows. DeskRefuses c.args.rules rows c.args.clerks) files scripts (None, None, None) g.W.Write.contents _ Memory
+    (memory_end (λ bytes rows. DeskWrites c.args.rules bytes rows c.args.clerks c.args.shuts) (λ _ rows. DeskRefuses c.args.rules rows c.args.clerks) files scripts (None, None, None) file.1 file.0)
 
 pub returns-in-Err-served-clause-runs : goal.returns-in-Err-served-clause-runs
 returns-in-Err-served-clause-runs g c =
@@ -32,7 +32,7 @@ returns-in-Err-served-clause-runs g c =
     let scripts = g.S.Read.remaining c.args.script in
     let e = c.in-Ok.election in
     let fault = c.in-Err-served.fault in
-    run_ended (λ bytes rows. DeskWrites c.args.rules bytes rows c.args.clerks c.args.shuts) (λ _ rows. DeskRefuses c.args.rules rows c.args.clerks) files scripts None g.W.Write.contents _ c.unserved.result
+    run_ended (λ bytes rows. DeskWrites c.args.rules bytes rows c.args.clerks c.args.shuts) (λ _ rows. DeskRefuses c.args.rules rows c.args.clerks) files scripts (None, None, None) g.W.Write.contents _ c.unserved.result
     (script_ends c.args.rules c.args.clerks c.args.shuts files scripts e c.in-Ok.ensures.ok fault c.unserved.result c.unserved.ensures
     (subst (λ (a : Admission). IfSome scripts (λ rows. IsServeFault a c.args.clerks (records_of rows) fault)) c.in-Ok-admission_of.ensures c.in-Err-served.ensures.fault))
 
@@ -43,7 +43,7 @@ returns-clause-runs g c =
     let e = c.in-Ok.election in
     let file = c.in-Ok.ensures.ends.judges in
     let text = c.in-Ok-served.field-0.text.items in
-    run_written (λ bytes rows. DeskWrites c.args.rules bytes rows c.args.clerks c.args.shuts) (λ _ rows. DeskRefuses c.args.rules rows c.args.clerks) files scripts None g.W.Write.contents _ _ text _
+    run_written (λ bytes rows. DeskWrites c.args.rules bytes rows c.args.clerks c.args.shuts) (λ _ rows. DeskRefuses c.args.rules rows c.args.clerks) files scripts (None, None, None) g.W.Write.contents _ _ text _
     (rw c.as_slice.ensures.value at c.write_out.ensures.ok) c.write_out.ensures.fault (rw c.as_slice.ensures.value at c.write_out.ensures.front) file.1 file.0
     (desk_known c.args.rules c.args.clerks c.args.shuts files scripts e c.in-Ok.ensures.ok text
     (subst (λ (a : Admission). IfSome scripts (λ rows. IsServed a e c.args.clerks c.args.shuts (records_of rows) text)) c.in-Ok-admission_of.ensures c.in-Ok-served.ensures.ok))

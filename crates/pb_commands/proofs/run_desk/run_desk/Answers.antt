@@ -12,5 +12,5 @@ by_places a = record { by_id = false; keeps_file = false; admission = a }
 pub returns : goal.returns
 returns g c =
     subst (λ (a : Admission). Runs (λ bytes rows. DeskWrites (by_places a) bytes rows c.args.clerks c.args.shuts) (λ _ rows. DeskRefuses (by_places a) rows c.args.clerks)
-    (g.P.Read.remaining c.args.file) (g.S.Read.remaining c.args.script) None g.W.Write.contents c.args.writer.now c.run_admitted_desk.new.writer c.run_admitted_desk.result)
+    (g.P.Read.remaining c.args.file) (g.S.Read.remaining c.args.script) (None, None, None) g.W.Write.contents c.args.writer.now c.run_admitted_desk.new.writer c.run_admitted_desk.result)
     c.open.ensures c.run_admitted_desk.ensures.runs

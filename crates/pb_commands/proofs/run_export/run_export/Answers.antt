@@ -44,7 +44,7 @@ returns-in-Ok-export_text-clause-accepts g c = λ none.
     let rule = c.args.counting.now.rule.now in
     let files = g.P.Read.remaining c.args.inputs.file in
     let journals = known g.J.Read.remaining c.args.inputs.journal in
-    writer_bars (IsCountIn rule) (CountRefuses rule) (IsExportOf rule (rule_text rule)) files journals None c.write_out.result c.write_out.ensures.fault
+    writer_bars (IsCountIn rule) (CountRefuses rule) (IsExportOf rule (rule_text rule)) files journals (None, None, None) c.write_out.result c.write_out.ensures.fault
 
 pub returns-in-Err-export_text-clause-runs : goal.returns-in-Err-export_text-clause-runs
 returns-in-Err-export_text-clause-runs g c =
@@ -65,4 +65,4 @@ returns-in-Err-export_text-clause-accepts g c = λ none.
     let journals = known g.J.Read.remaining c.args.inputs.journal in
     let x = c.in-Ok.count in
     let (e, election, counts, leaves) = c.in-Ok.ensures.given in
-    stopped_bars (IsCountIn rule) (CountRefuses rule) (IsExportOf rule (rule_text rule)) files journals None (export_can rule) e x counts c.in-Err-export_text.fault (c.in-Err-export_text.ensures.fault e election (sorted_by_own rule e x counts)) c.in-Err-export_text.ensures.merged leaves
+    stopped_bars (IsCountIn rule) (CountRefuses rule) (IsExportOf rule (rule_text rule)) files journals (None, None, None) (export_can rule) e x counts c.in-Err-export_text.fault (c.in-Err-export_text.ensures.fault e election (sorted_by_own rule e x counts)) c.in-Err-export_text.ensures.merged leaves
