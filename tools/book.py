@@ -88,6 +88,8 @@ PINNED = {
     ("pb_page", "Markup", "written"): ("pb_page", "texts_stay_texts"),
     ("pb_page", "Amount", "grouped"): ("pb_page", "digits_stand_in_threes"),
     ("pb_page", "Amount", "shown"): ("pb_page", "amounts_stand_by_digits"),
+    ("pb_page", "Amount", "rounded"): ("pb_page", "amounts_are_rounded"),
+    ("pb_page", "Page", "width"): ("pb_page", "bars_are_ten_thousandths"),
     ("pb_reasons", "BesideVotes", "elected_by_votes"): ("pb_reasons", "most_votes_is_its_rule"),
     ("pb_reasons", "Counted", "is_selected"): ("pb_reasons", "winners_share_the_budget"),
     ("pb_reasons", "Totals", "totals_of"): ("pb_reasons", "winners_share_the_budget"),

@@ -17,3 +17,5 @@ mod Threes
 mod Shown
 mod Divisors
 mod WonPayers
+mod Rounding
+mod Choices

@@ -1,7 +1,6 @@
 -- The parts of a page that are put in several pieces.
 use Rattle.std.proofs.Common.{◌≡◌, ◌∙◌, ℕ, false, true, List, [], ◌∷◌, ◌++◌, ap, arith, append-nil, append_assoc, inl, inr, length, refl, subst, sym}
 use Rattle.std.specs.Prelude.{◌==◌, Bool, None, Option, Some, codes, decimal, flat_map, if◌then◌else◌, is_some, map}
-use Rattle.std.specs.List.{range_with_len}
 use Rattle.std.proofs.lemmas.Bool.{cases_Bool, eq-eqb, ne_eqb}
 use Rattle.std.proofs.lemmas.Grind.{flat_map-append}
 use Rattle.pb_core.specs.Election.{ElectionView}
@@ -23,9 +22,9 @@ use Rattle.pb_page.specs.declared.markup.divided.Divided.{Divided}
 use Rattle.pb_page.specs.declared.style.TheConstants.{META, STYLE}
 use Rattle.pb_page.specs.declared.templates.TheConstants.{BLOCKS_CLOSING, BLOCKS_OPENING, BUDGET_CLOSING, BUDGET_OPENING, CHECK_CLOSING, CHECK_OPENING, CLOSING, COMMAND_CLOSING, COMMAND_OPENING, CONTENTS_CLOSING, CONTENTS_OPENING, FIGURE_CLOSING, FIGURE_OPENING, HEAD_OPENING, LEAD, LEAD_CLOSING, LEAD_NEXT, LIST_CLOSING, LIST_OPENING, MAIN, NOTHING, OPTIONS, PARAGRAPH, RULE_CLOSING, RULE_OPENING, SOURCES_CLOSING, THOSE_OPENING, TIES_OPENING, TITLE, TOP}
 use Rattle.pb_page.proofs.Grown.{before, before_more, heads}
+use Rattle.pb_reasons.specs.Comparison.{choices_of}
 use Rattle.pb_reasons.specs.Counted.{winners_of}
 use Rattle.pb_reasons.specs.CountedElection.{CountedElectionView}
-use Rattle.pb_reasons.specs.Reasons.{voter_reason}
 use Rattle.pb_reasons.specs.Ties.{ties_of}
 use Rattle.pb_reasons.specs.declared.raise_end.NextRaise.{NextRaise}
 use Rattle.pb_reasons.specs.declared.raise_end.RaiseEnd.{RaiseEnd}
@@ -440,7 +439,7 @@ in_order : (f : Section → List Part) (b w o v r k : Section) (a c s d : List S
 in_order f b w o v r k a c s d = simp (flat_map-append, append-nil)
 
 abbrev each_won : CountedElectionView → List ℕ
-each_won x = map (λ voter. (voter_reason x.election x.counted voter).elected) (range_with_len 0 (length x.election.voters))
+each_won x = map (λ v. choices_of (winners_of x.counted) v.ballot) x.election.voters
 
 abbrev all_sections : Facts → CountedElectionView → RaiseEnd → List Section
 all_sections facts x end = let l = facts.language in budget l x ∷ winners facts x ∷ (added_apart facts x ++ (others facts x

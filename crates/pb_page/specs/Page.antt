@@ -16,10 +16,11 @@ use Rattle.pb_price.specs.Grain.{in_parts}
 use Rattle.pb_price.specs.Supporters.{cost_at, support_in, support_of}
 use Rattle.pb_reasons.specs.BesideVotes.{beside_votes, elected_by_votes}
 use Rattle.pb_reasons.specs.Counted.{winners_of}
+use Rattle.pb_reasons.specs.Comparison.{choices_of}
 use Rattle.pb_reasons.specs.CountedElection.{CountedElectionView, in_file}
 use Rattle.pb_reasons.specs.Money.{MoneyView, money_of, paid_together}
 use Rattle.pb_reasons.specs.RaiseEnd.{IsRaiseEnd}
-use Rattle.pb_reasons.specs.Reasons.{project_reason, voter_reason}
+use Rattle.pb_reasons.specs.Reasons.{project_reason}
 use Rattle.pb_reasons.specs.Ties.{ties_of}
 use Rattle.pb_reasons.specs.Totals.{totals_of}
 use Rattle.pb_reasons.specs.declared.raise_end.RaiseEnd.{RaiseEnd}
@@ -325,10 +326,9 @@ module _ (facts : Facts) (x : CountedElectionView) where
 
   -- all parts of a page, where the raises ended so: the sentences on the whole, a link to each section, and the sections
   unfoldable pub parts : RaiseEnd → List Part
-  parts end = let l = facts.language in let title = text facts.title.now in let each_won = map
-      (λ voter. (voter_reason x.election x.counted voter).elected) (range_with_len 0 (length x.election.voters)) in
-      let sections = budget l x ∷ winners ∷ (added_apart ++ (others ∷ (categories ++ (voters l each_won ∷ (besides ++ (decided facts x.rule
-      ++ (rule l x end ∷ check facts x.rule ∷ []))))))) in
+  parts end = let l = facts.language in let title = text facts.title.now in
+      let each_won = map (λ v. choices_of (winners_of x.counted) v.ballot) x.election.voters in let sections = budget l x ∷ winners
+      ∷ (added_apart ++ (others ∷ (categories ++ (voters l each_won ∷ (besides ++ (decided facts x.rule ++ (rule l x end ∷ check facts x.rule ∷ []))))))) in
       fill (codes "<!DOCTYPE html>\n<html lang='~' dir='~'>\n<head>\n~<title>~</title>\n<style>~</style>\n</head>\n<body>\n"
       ++ codes "<header>\n<h1 dir='auto'>~</h1>\n~<nav aria-label='~'>\n<ul>\n~</ul>\n</nav>\n</header>\n<main>\n~</main>\n</body>\n</html>\n")
       (said l key.LANG ∷ said l key.DIR ∷ (META.now ∷ []) ∷ title ∷ (STYLE.now ∷ []) ∷ title ∷ summary l x ∷ said l key.CONTENTS

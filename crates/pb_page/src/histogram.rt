@@ -5,7 +5,7 @@ ghost use Rattle.std.specs.List.{range_with_len};
 ghost use Rattle.pb_page.specs.Inner.Counted.{at_least, exactly};
 ghost use Rattle.pb_price.specs.Supporters.{ballot_at};
 ghost use Rattle.pb_reasons.specs.Comparison.{choices_of};
-ghost use Rattle.pb_reasons.specs.Reasons.{voter_reason};
+ghost use Rattle.pb_reasons.specs.Counted.{winners_of};
 
 use pb_core::election::Election;
 use pb_core::no_memory::NoMemory;
@@ -26,8 +26,7 @@ pub struct BallotsRow {
 /// How many of each voter's choices won, voters in the order of the file.
 pub(crate) fn won_by_voter(alloc: Global, count: &CountedElection) -> Result<Vec<u32>, NoMemory>
     ensures { IfOk result (λ won. won.items
-        ≡ map (λ voter. (voter_reason count.now.election count.now.counted voter).elected)
-        (range_with_len 0 (length count.now.election.voters))) }
+        ≡ map (λ v. choices_of (winners_of count.now.counted) v.ballot) count.now.election.voters) }
 {
     choices_among(alloc, count.election(), count.winners())
 }

@@ -2,7 +2,6 @@
 use Rattle.std.specs.Prelude.{◌≡◌, ℕ, ◌<◌, ◌-◌, ◌==◌, List, [], ◌∷◌, ◌++◌, All, codes, decimal, filter}
 use Rattle.std.specs.Prelude.{Option, count_by, flat_map, if◌then◌else◌, length, map, slice_index, sum_by, Bool, None, Some, false, nat_le, nat_lt, true}
 use Rattle.std.specs.Borrow.{Bor}
-use Rattle.std.specs.List.{range_with_len}
 use Rattle.std.specs.Option.{option_map_or}
 use Rattle.pb_core.specs.Election.{ElectionView, ProjectView}
 use Rattle.pb_core.specs.MoneyText.{money_text}
@@ -28,7 +27,7 @@ use Rattle.pb_price.specs.Supporters.{cost_at, support_in, support_of}
 use Rattle.pb_reasons.specs.BesideVotes.{beside_votes, elected_by_votes}
 use Rattle.pb_reasons.specs.Counted.{winners_of}
 use Rattle.pb_reasons.specs.CountedElection.{CountedElectionView}
-use Rattle.pb_reasons.specs.Reasons.{voter_reason}
+use Rattle.pb_reasons.specs.Comparison.{choices_of}
 use Rattle.pb_reasons.specs.Money.{MoneyView, money_of, paid_together}
 use Rattle.pb_reasons.specs.Ties.{ties_of}
 use Rattle.pb_reasons.specs.Totals.{totals_of}
@@ -195,8 +194,7 @@ abbrev pub at_least : ℕ → List ℕ → ℕ
 at_least n won = count_by (λ k. nat_le n k) won
 
 abbrev pub voters_told : Language → CountedElectionView → List Part
-voters_told l x = section l (voters l
-    (map (λ voter. (voter_reason x.election x.counted voter).elected) (range_with_len 0 (length x.election.voters))))
+voters_told l x = section l (voters l (map (λ v. choices_of (winners_of x.counted) v.ballot) x.election.voters))
 
 -- how many voters have a winner among theirs; and the row of so many winners
 abbrev pub got_said : Language → List ℕ → List Part

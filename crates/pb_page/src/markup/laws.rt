@@ -1,11 +1,13 @@
 //! Laws of the definitions.
 
-ghost use Rattle.std.specs.Prelude.{◌≡◌, ◌≢◌, ◌<◌, ◌≤◌, ◌+◌, ◌*◌, ◌==◌, ◌&&◌, ◌||◌, ◌⊎◌, ◌++◌, ◌∷◌, [], ℕ, All, List, codes};
-ghost use Rattle.std.specs.Prelude.{decimal, filter, flat_map, if◌then◌else◌, length};
+ghost use Rattle.std.specs.Prelude.{◌≡◌, ◌≢◌, ◌↔◌, ◌<◌, ◌≤◌, ◌+◌, ◌*◌, ◌==◌, ◌&&◌, ◌||◌, ◌⊎◌, ◌++◌, ◌∷◌, [], ℕ, All, List, codes};
+ghost use Rattle.std.specs.Prelude.{decimal, false, filter, flat_map, if◌then◌else◌, length, max, true};
 ghost use Rattle.std.specs.List.{before_first};
 ghost use Rattle.pb_page.specs.Content.{Part};
-ghost use Rattle.pb_page.specs.Amount.{grouped, shown};
+ghost use Rattle.pb_page.specs.Amount.{grouped, rounded, shown};
 ghost use Rattle.pb_page.specs.Markup.{written};
+ghost use Rattle.pb_page.specs.Page.{width};
+ghost use Rattle.pb_page.specs.declared.markup.divided.Divided.{Divided};
 ghost use Rattle.pb_page.specs.declared.markup.form.Form.{Form};
 
 /// A text as it stands in a page never ends the attribute that it stands in, whichever of the two quotes (34,
@@ -48,4 +50,20 @@ pub fn amounts_stand_by_digits()
         → shown form (100 * units + (10 * tens + ones)) ≡ form.before.now ++ (grouped form.group.now (decimal units)
         ++ ((if form.is_whole && (tens + ones == 0) then [] else form.point.now ++ (48 + tens) ∷ (48 + ones) ∷ [])
         ++ form.after.now)) }
+{}
+
+/// An amount in parts, rounded up, is the least number of hundredths that is at least the amount; rounded down, the
+/// largest that is at most the amount. A divisor of 0 counts as 1.
+pub fn amounts_are_rounded()
+    ensures up { (d : Divided) (hundredths : ℕ) → d.is_up ≡ true
+        → (rounded d ≤ hundredths) ↔ (d.amount ≤ hundredths * max 1 d.divisor) }
+    ensures down { (d : Divided) (hundredths : ℕ) → d.is_up ≡ false
+        → (hundredths ≤ rounded d) ↔ (hundredths * max 1 d.divisor ≤ d.amount) }
+{}
+
+/// How wide the bar of an amount is: the largest number of ten thousandths of the whole, 10,000 at most, that come to at
+/// most the amount. A whole of 0 counts as 1.
+pub fn bars_are_ten_thousandths()
+    ensures { (amount whole n : ℕ) → (n ≤ width amount whole)
+        ↔ ((n ≤ 10000) × (n * max 1 whole ≤ 10000 * amount)) }
 {}
