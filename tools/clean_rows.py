@@ -5,10 +5,9 @@ from replace_ids import SECTIONS, WHITE_SPACE, trimmed
 
 decimal.getcontext().prec = 100
 # What nobody sees: white space, controls, formats, fillers.
-EDGES = WHITE_SPACE + ''.join(map(chr, [
-    *range(1, 0x20), *range(0x7F, 0xA0), 0xAD, 0x34F, 0x61C, 0x115F, 0x1160, 0x180E, *range(0x200B, 0x2010),
-    *range(0x202A, 0x202F), *range(0x2060, 0x2070), 0x3164, 0xFEFF, 0xFFA0, *range(0xFE00, 0xFE10),
-    *range(0xFFF9, 0xFFFC), *range(0xE0000, 0xE0080)]))
+EDGES = WHITE_SPACE + ''.join(map(chr, [*range(1, 0x20), *range(0x7F, 0xA0), 0xAD, 0x34F, 0x61C, 0x115F, 0x1160, 0x180E,
+    *range(0x200B, 0x2010), *range(0x202A, 0x202F), *range(0x2060, 0x2070), 0x3164, 0xFEFF, 0xFFA0,
+    *range(0xFE00, 0xFE10), *range(0xFFF9, 0xFFFC), *range(0xE0000, 0xE0080)]))
 QUOTES, SPACES = '\'"`´‘’‚‛“”„‟«»‹›', ' \u00a0\u2009\u202f\'’'
 UNSEEN, GROUPED = "characters that can't be seen", 'groups of thousands'
 # Brackets around a vote, or each id; `c(..)` is R's.
@@ -17,7 +16,8 @@ IN_BRACKETS = re.compile(r'(?:(?:c?\(|[\[{])[^\[\](){}]*[\])}](?:\s*,\s*|\Z))+\Z
 AMOUNT_REPAIRS = [('dash for cents', re.compile(r'(?<=\d[.,])[-–—]{1,2}\Z'), '00'),
                   (GROUPED, re.compile(rf'\A[1-9]\d?\d?([{SPACES}])\d{{3}}(\1\d{{3}})*([.,]\d+)?\Z'),
                    lambda found: found[0].replace(found[1], ''))]
-# Groups of thousands by one mark: the mark, further groups, the mark of decimals. Amounts of three digits or less.
+# Groups of thousands by one mark: it, further groups, the mark of decimals. By an apostrophe too. Three digits or less.
+MILLIONS = re.compile("([1-9][0-9]{0,2})['’]([0-9]{3})([.,])([0-9]{3})")
 GROUPS = re.compile(r'[1-9][0-9]{0,2}([.,])[0-9]{3}((?:\1[0-9]{3})*)(?:(?!\1)([.,])[0-9]+)?')
 SMALL = re.compile('[1-9][0-9]{0,2}(?:[.,][0-9]{1,2})?')
 # Ids that a spreadsheet shortened, or made dates of.
@@ -205,13 +205,16 @@ class Cleaner:
         places += [(row, cost) for row in self.projects.rows(cost)]
         for row, column in places:
             row.edit_unseen(column)
+            if (found := MILLIONS.fullmatch(trimmed(row.fields[column]))) and marks == 'thousands':
+                row.edit(column, '--marks', ''.join(found.group(1, 2, 4)))
+            elif found and not marks:
+                row.refuse(f"`'` may mark millions, and `{found[3]}` thousands: name `--marks thousands` or `decimals`")
             for what, form, gives in AMOUNT_REPAIRS:
                 row.edit(column, what, form.sub(gives, trimmed(row.fields[column])))
             texts[row] = trimmed(row.fields[column])
             # The first row that shows a mark to be one of thousands, or of decimals.
             groups, decimals = GROUPS.fullmatch(texts[row]), re.fullmatch('[0-9]+([.,])([0-9]+)', texts[row])
-            mark = groups[3] if groups else decimals and decimals[1]
-            if mark:
+            if mark := groups[3] if groups else decimals and decimals[1]:
                 shows[mark].setdefault('decimals', row)
             if groups and (groups[2] or groups[3]):
                 shows[groups[1]].setdefault('thousands', row)

@@ -187,6 +187,9 @@ MADE = {
     # 13 records of the three voters, and as many more as make 2,000,000 and one more
     'records.pb': lambda: three_voters(['k;v'] * 1_999_987),
     'records-and-one.pb': lambda: three_voters(['k;v'] * 1_999_988),
+    # as many lines as a sheet of a spreadsheet has rows, without the number of votes and with it
+    'full-sheet.pb': lambda: three_voters(['k;v'] * 65_523),
+    'numbered-sheet.pb': lambda: three_voters(['k;v'] * 65_522 + ['num_votes;3']),
     # rows of 2,001 fields and more, one of 100,000
     'wide.pb': lambda: three_voters(['k' + ';' * 99_999], 1_999),
     # as many ids as a roll may have, below a header, and one more
@@ -213,5 +216,5 @@ MADE = {
 }
 
 # Those that `rt try` would be slow on: it copies each file for each case, and runs with checks.
-LARGE = {'large.pb', 'largest.pb', 'records.pb', 'records-and-one.pb', 'full.roll', 'full-and-one.roll', 'far.pb', 'heavy.pb',
+LARGE = {'large.pb', 'largest.pb', 'records.pb', 'records-and-one.pb', 'full.roll', 'full-and-one.roll', 'far.pb', 'heavy.pb', 'full-sheet.pb', 'numbered-sheet.pb',
          'long.journal', *(f'report-{size}.pb' for size in SIZES if size > 100_000)}

@@ -39,6 +39,8 @@ pub enum Cause {
     Quotes,
     /// It is what a spreadsheet shows where a formula is wrong.
     Formula,
+    /// It is a line of subject as the source of an e-mail has it.
+    Subject,
     /// It is a list with nothing in it.
     EmptyList,
     /// It is an id in brackets, and not the whole vote is; or the vote is, but not all votes are.
@@ -260,6 +262,11 @@ fn is_formula(text: &str) -> bool {
     is_named || text.starts_with("Err:")
 }
 
+/// Whether a text is one that the source of an e-mail has in codes, such as `=?UTF-8?B?MSwy?=`.
+pub(crate) fn is_subject(text: &str) -> bool {
+    text.starts_with("=?") && text.ends_with("?=")
+}
+
 /// What is around an id, so that it is none.
 fn wrapped(id: &str, ids: &Ids) -> Option<Cause> {
     let begin = id.strip_prefix("c(").unwrap_or(id);
@@ -292,7 +299,9 @@ fn changed(id: &str, ids: &Ids) -> Option<Cause> {
             return Some(Cause::Decimal);
         }
     }
-    if is_power(id) {
+    if is_subject(id) {
+        Some(Cause::Subject)
+    } else if is_power(id) {
         Some(Cause::Shortened)
     } else if is_date(id, false) {
         Some(Cause::Date)

@@ -1,6 +1,7 @@
 //! What texts look like that a spreadsheet, a database or a program changed.
 
 use crate::faulty_record::is_hidden;
+use crate::fields::count_of;
 use std::alloc::{AllocError, Global};
 
 /// What programs write where there is no value.
@@ -266,12 +267,21 @@ pub(crate) fn plain(alloc: Global, id: &str) -> Result<String, AllocError> {
         }
         is_zero = false;
         is_front = !(c.is_ascii_digit() || c == '.' || c == ',');
-        out.push(c.to_ascii_lowercase())?;
+        push_small(&mut out, c)?;
     }
     if is_zero {
         out.push('0')?;
     }
     Ok(out)
+}
+
+/// Puts a character, a letter of any alphabet as a small one: `i` with or without its dot, `ß` as `ss`.
+fn push_small(out: &mut String, c: char) -> Result<(), AllocError> {
+    match c {
+        'I' | '\u{130}' | '\u{131}' => out.push('i'),
+        '\u{df}' | '\u{1e9e}' => out.push_str("ss"),
+        c => out.push(c.to_lowercase().next().unwrap_or(c)),
+    }
 }
 
 /// An id with the digits that its letters look like.
@@ -317,6 +327,11 @@ pub(crate) fn differ_in_form(alloc: Global, one: &str, other: &str) -> Result<bo
     Ok(form_of(alloc, one, false)?.as_str() != form_of(alloc, other, false)?.as_str())
 }
 
+/// How many zeros a text has.
+fn zeros_of(text: &str) -> usize {
+    count_of(text.as_bytes(), b'0')
+}
+
 /// How two ids differ that are alike, and whether it is the second that seems to be changed.
 pub(crate) fn how_differs(one: &str, other: &str) -> (Difference, bool) {
     let has_space = |text: &str| text.contains(|c: char| c.is_whitespace());
@@ -328,10 +343,7 @@ pub(crate) fn how_differs(one: &str, other: &str) -> (Difference, bool) {
         (Difference::PointZero, other.ends_with(".0"))
     } else if one.trim_matches(is_mark) == other.trim_matches(is_mark) {
         (Difference::Marks, !one.contains(is_mark))
-    } else if one
-        .trim_matches(is_mark)
-        .eq_ignore_ascii_case(other.trim_matches(is_mark))
-    {
+    } else if zeros_of(one) == zeros_of(other) {
         (Difference::Case, false)
     } else {
         (Difference::Zeros, other.len() < one.len())

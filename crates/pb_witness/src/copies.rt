@@ -1,4 +1,4 @@
-//! Rows of VOTES that come again in the same order, as where a stack of ballots was scanned twice.
+//! Rows of VOTES that come again in the same order or the opposite one, as where a stack of ballots was scanned twice.
 
 use crate::prelude::*;
 use std::str;
@@ -66,20 +66,32 @@ impl Copies {
             let first = kept_in(&mut windows, self.alloc, key.as_str(), place)?;
             let first = first.map_or(at, |first| first as usize);
             let length = self.length_of(first, at);
-            let is_many = length >= FEWEST && self.is_no_chance(length, equal);
-            if is_many && self.are_different(at, length) {
-                self.say((first, at), length, last, found);
+            if self.are_again(at, length, equal) {
+                self.say((first, at), (length, 5), last, found);
+                return Ok(());
+            }
+            let key = self.key_from_below(at)?;
+            let first = windows.get(key.as_str()).map_or(at, |first| first as usize);
+            let bottom = first.saturating_add(FEWEST).saturating_sub(1);
+            let length = self.length_from_below(bottom, at);
+            if self.are_again(at, length, equal) {
+                self.say((bottom, at), (length, 9), last, found);
                 return Ok(());
             }
         }
         Ok(())
     }
 
-    /// Says that so many rows from the second place on are those from the first on.
+    /// Whether so many rows from this place on, which say what earlier ones do, are enough, different and no chance.
+    fn are_again(&self, at: usize, length: usize, equal: u64) -> bool {
+        length >= FEWEST && self.is_no_chance(length, equal) && self.are_different(at, length)
+    }
+
+    /// Says that so many rows from the second place on are those from the first on, or from it upwards, by the form.
     fn say(
         &self,
         (first, at): (usize, usize),
-        length: usize,
+        (length, form): (usize, usize),
         last: Option<Odd>,
         found: &mut Oddities,
     ) {
@@ -88,11 +100,11 @@ impl Copies {
             self.rows.get(at),
             self.rows.get(first),
         ) {
-            let odd = odd.as_a(Oddity::NoteRows).in_form(5).by(length as u64);
+            let odd = odd.as_a(Oddity::NoteRows).in_form(form);
             found.take(Odd {
                 mark: row.1,
                 before: Some(before.1),
-                ..odd
+                ..odd.by(length as u64)
             });
         }
     }
@@ -106,10 +118,17 @@ impl Copies {
     fn key_at(&self, at: usize) -> Result<String, AllocError> {
         let mut key = String::new(self.alloc);
         for place in at..at.saturating_add(FEWEST) {
-            let said = self.said_at(place);
-            for part in [said / 64, said % 64] {
-                key.push(char::from(u8::try_from(part).unwrap_or(u8::MAX)))?;
-            }
+            push_said(&mut key, self.said_at(place))?;
+        }
+        Ok(key)
+    }
+
+    /// What four rows from this place on say, from below.
+    fn key_from_below(&self, at: usize) -> Result<String, AllocError> {
+        let mut key = String::new(self.alloc);
+        for step in 1..=FEWEST {
+            let place = at.saturating_add(FEWEST).saturating_sub(step);
+            push_said(&mut key, self.said_at(place))?;
         }
         Ok(key)
     }
@@ -119,6 +138,19 @@ impl Copies {
         let mut length = 0usize;
         for (one, other) in (first..at).zip(at..self.rows.len()) {
             if self.said_at(one) != self.said_at(other) {
+                break;
+            }
+            length = length.saturating_add(1);
+        }
+        length
+    }
+
+    /// How many rows from the second place on say what those from the first upwards do, if that is above the second.
+    fn length_from_below(&self, bottom: usize, at: usize) -> usize {
+        let mut length = 0usize;
+        for step in 0..=bottom {
+            let (one, other) = (bottom.saturating_sub(step), at.saturating_add(step));
+            if bottom >= at || self.said_at(one) != self.said_at(other) {
                 break;
             }
             length = length.saturating_add(1);
@@ -155,12 +187,12 @@ impl Copies {
         Ok(equal)
     }
 
-    /// Whether the chance is less than one in a hundred that so many rows come again, in any two places, if so many pairs of
+    /// Whether the chance is less than one in a thousand that so many rows come again, in any two places, if so many pairs of
     /// rows say the same by chance; also if as many do as say the same as the row above.
     fn is_no_chance(&self, length: usize, equal: u64) -> bool {
         let count = self.rows.len() as u64;
         let pairs = count.saturating_mul(count);
-        let (times, run) = (pairs.saturating_mul(50), length as u64);
+        let (times, run) = (pairs.saturating_mul(500), length as u64);
         if !is_no_chance(times, (equal, pairs), run) {
             return false;
         }
@@ -181,6 +213,14 @@ pub(crate) fn is_no_chance(times: u64, (part, all): (u64, u64), length: u64) -> 
         chance = chance.saturating_mul(part).checked_div(all).unwrap_or(0);
     }
     chance < 64
+}
+
+/// Puts what a row says behind a key.
+fn push_said(key: &mut String, said: u32) -> Result<(), AllocError> {
+    for part in [said / 64, said % 64] {
+        key.push(char::from(u8::try_from(part).unwrap_or(u8::MAX)))?;
+    }
+    Ok(())
 }
 
 /// The place that a text has in a table; where it has none it is given this one.

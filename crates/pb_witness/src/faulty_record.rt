@@ -1,5 +1,6 @@
 //! A record of a .pb file that was refused, and what can be known of it.
 
+use crate::cause::is_subject;
 use crate::changed::{
     differ_in_form, has_digit, has_word, is_digits, is_nothing, is_power, letters_of,
     without_hidden,
@@ -172,7 +173,7 @@ impl FaultyRecord {
 
     /// Whether it has a code of two bytes for a letter, as the source of an e-mail has.
     pub fn is_of_mail(&self) -> bool {
-        self.has(has_code)
+        !is_subject(self.value()) && self.has(has_code)
     }
 
     /// Whether it is a mark of a merge conflict, between two versions of some rows.

@@ -43,6 +43,9 @@ impl LastVote {
         if self.is_cut && self.cut == 1 {
             found.take(odd.as_a(Oddity::VotesMissing).in_form(3));
         }
+        if !found.has_number && is_end_of_sheet(odd.mark.line) {
+            found.take(odd.as_a(Oddity::VotesMissing).in_form(4));
+        }
         if self.is_note(election) {
             found.take(odd.as_a(Oddity::FooterRow).in_form(3));
         }
@@ -74,6 +77,11 @@ impl LastVote {
         let is_unlike = is_spaced && !has_spaces && (is_number || is_bare);
         (is_total && !has_totals) || is_unlike || (is_word && !has_words && is_number)
     }
+}
+
+/// Whether a spreadsheet's sheet ends on this line, or on the next one.
+fn is_end_of_sheet(line: u64) -> bool {
+    matches!(line, 65_535 | 65_536 | 1_048_575 | 1_048_576)
 }
 
 /// Whether a vote names one project alone, by the number of the voters above it or of all projects.

@@ -52,6 +52,7 @@ mod runs;
 pub mod seen;
 mod swallowed;
 pub mod text;
+mod ticked;
 mod twins;
 pub mod unknown;
 mod unread;

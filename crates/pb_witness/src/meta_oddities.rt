@@ -231,6 +231,7 @@ impl MetaOddities {
             claim.is_usual || (is_whole && claim.number != Some(approvals))
         };
         let votes = self.votes.filter(may_be);
+        found.has_number = votes.is_some();
         take_broken(Oddity::VotesMissing, votes, rows.0, found);
         take_broken(Oddity::ProjectsMissing, self.projects, rows.1, found);
         let below = Odd::of_key(Oddity::BudgetBelowCosts, self.budget);

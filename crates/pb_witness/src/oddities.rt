@@ -218,6 +218,8 @@ pub struct Oddities {
     firsts: [u64; COUNT],
     /// Whether the file has no row of VOTES, as that of a desk that has not opened.
     pub has_no_votes: bool,
+    /// Whether META says how many rows VOTES has.
+    pub(crate) has_number: bool,
     /// Whether a row of VOTES was refused, which may have named a project that no other row names.
     pub(crate) refuses_votes: bool,
     /// Whether the budget or a cost has one or two decimals.
@@ -253,6 +255,7 @@ impl Oddities {
             counts: [0; COUNT],
             firsts: [0; COUNT],
             has_no_votes: false,
+            has_number: false,
             refuses_votes: false,
             has_decimals: false,
             has_no_length: false,

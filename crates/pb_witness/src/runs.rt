@@ -35,11 +35,16 @@ impl Series {
     }
 
     /// The first that are enough, if the chance is less than one in a thousand that so many stand one behind the other,
-    /// where as many of these rows go on by chance as go on elsewhere.
-    fn no_chance(self, rows: u64) -> Option<Odd> {
+    /// where as many of these rows go on by chance as go on elsewhere, or one in so many.
+    fn no_chance(self, rows: u64, one_in: u64) -> Option<Odd> {
         let odd = self.found?;
         let elsewhere = self.all.saturating_sub(odd.number);
-        let is_odd = is_no_chance(rows.saturating_mul(1_000), (elsewhere, rows), self.longest);
+        let part = if elsewhere.saturating_mul(one_in) < rows {
+            (1, one_in)
+        } else {
+            (elsewhere, rows)
+        };
+        let is_odd = is_no_chance(rows.saturating_mul(1_000), part, self.longest);
         is_odd.then_some(odd)
     }
 }
@@ -57,6 +62,8 @@ pub(crate) struct Runs {
     /// The votes that have all projects of the vote above, and more; and those in which one id is the next one.
     grown: Series,
     counted: Series,
+    /// Whether each of the latter names one project.
+    are_single: bool,
 }
 
 impl Runs {
@@ -69,6 +76,7 @@ impl Runs {
             are_placed: true,
             grown: Series::default(),
             counted: Series::default(),
+            are_single: true,
         }
     }
 
@@ -90,6 +98,7 @@ impl Runs {
             self.grown.open = None;
         }
         if counts_on(before, ballot, row.election) {
+            self.are_single &= ballot.len() == 1;
             self.counted.take(row.odd(Oddity::TwiceInVote).in_form(2));
         } else {
             self.counted.open = None;
@@ -97,11 +106,17 @@ impl Runs {
         Ok(())
     }
 
-    /// Takes the end of the file.
-    pub(crate) fn end(&self, found: &mut Oddities) {
+    /// Takes the end of the file, which has so many projects. Of votes for one project the next is by chance the next in
+    /// number as often as any other.
+    pub(crate) fn end(&self, projects: usize, found: &mut Oddities) {
         if !self.are_sorted && !self.are_placed {
-            found.take_some(self.grown.no_chance(self.rows));
-            found.take_some(self.counted.no_chance(self.rows));
+            let one_in = if self.are_single {
+                projects as u64
+            } else {
+                u64::MAX
+            };
+            found.take_some(self.grown.no_chance(self.rows, u64::MAX));
+            found.take_some(self.counted.no_chance(self.rows, one_in));
         }
     }
 }

@@ -17,6 +17,7 @@ use crate::proxies::Proxies;
 use crate::rankings::Rankings;
 use crate::rows::VoteRows;
 use crate::runs::Runs;
+use crate::ticked::Ticked;
 use crate::unread::Unread;
 use crate::voter_lists::ends_in_projects;
 
@@ -42,6 +43,7 @@ pub(crate) struct VoteOddities {
     beside: BesideVote,
     unread: Unread,
     runs: Runs,
+    ticked: Ticked,
     copies: Copies,
     parts: Parts,
     phones: Phones,
@@ -83,6 +85,7 @@ impl VoteOddities {
             beside: BesideVote::of(alloc, names, header)?,
             unread: Unread::of(alloc, names, header)?,
             runs: Runs::new(alloc),
+            ticked: Ticked::default(),
             copies: Copies::new(alloc),
             parts: Parts::new(alloc),
             phones: Phones::new(alloc),
@@ -109,6 +112,7 @@ impl VoteOddities {
             found.take(row.odd(Oddity::FooterRow).in_form(5));
         }
         self.last.take(row, (id, vote));
+        self.ticked.take(row);
         if self.rankings.asks(length, row.election.projects().len()) {
             self.rankings.take(row.value())?;
         }
@@ -295,7 +299,9 @@ impl VoteOddities {
         (rows, last): (&VoteRows, Option<Odd>),
         found: &mut Oddities,
     ) -> Result<(), AllocError> {
-        self.runs.end(found);
+        let projects = election.projects().len();
+        self.runs.end(projects, found);
+        found.take_some(self.ticked.ticked(projects));
         self.copies.end(last, found)?;
         let first = match (last, rows.first) {
             (Some(odd), Some(mark)) => Some(Odd { mark, ..odd }),
@@ -385,7 +391,7 @@ fn without_votes(last: Odd, election: &Election, projects: &Firsts) -> Odd {
     let count = ids.count() as u64;
     let odd = last.as_a(Oddity::VotesMissing).by(voters.len() as u64);
     Odd {
-        form: if count > 0 { 5 } else { 4 },
+        form: if count > 0 { 6 } else { 5 },
         limit: Some(count),
         ..odd
     }

@@ -72,11 +72,20 @@ fn clean_options(kind: ReadKind, value: &str) -> Option<&'static str> {
     match kind {
         ReadKind::ZeroCost => Some(DROP_ZERO_COST),
         ReadKind::VoteType if value.eq_ignore_ascii_case(ONE_CHOICE) => Some(" --single-choice"),
+        ReadKind::BadMoney if may_be_millions(value) => None,
         ReadKind::BadMoney if is_grouped(value) || is_hidden_amount(value) || is_cost(value) =>
             Some(""),
         ReadKind::VoteType if without_hidden(value).eq_ignore_ascii_case("approval") => Some(""),
         _ => None,
     }
+}
+
+/// Whether an apostrophe stands before a point or a comma and three digits: it may mark millions, as in `1'250.000`.
+fn may_be_millions(value: &str) -> bool {
+    let ends = value.rsplit_once('.').or(value.rsplit_once(','));
+    let (whole, part) = ends.unwrap_or((value, ""));
+    let are_digits = part.as_bytes().iter().all(|byte| byte.is_ascii_digit());
+    part.len() == 3 && are_digits && whole.contains(|c: char| c == '\'' || c == '\u{2019}')
 }
 
 /// Whether a value is an amount but for characters at its ends that can't be seen, or a dash for its decimals.

@@ -33,6 +33,7 @@ const LOOKS: &[(&[u8], &str)] = &[
         b"journal;",
         ": this is the journal of a desk, not a .pb file.\nTo check it and count its ballots, run `pb_app audit FILE JOURNAL`. FILE is the .pb file of the desk.\n",
     ),
+    (b"-----BEGIN PKCS7-----", SIGNED_TEXT),
     (
         b"%PDF",
         ": the file looks like a PDF document.\nGet the .pb file itself, which is text.\n",
@@ -46,6 +47,19 @@ const ARCHIVE: &str = ": the file looks like an archive.\nUnpack it first.\n";
 
 const WORKBOOK: &str =
     ": the file looks like a spreadsheet (.xlsx).\nSave it as text with `;` between the fields.\n";
+
+/// What is said of a file with a signature: in bytes, as a text, as an e-mail.
+const SIGNED: &str =
+    ": the file looks like a signed file (.p7m).\nTake the file out of it by the program for signatures, or by `openssl cms -verify -noverify -inform DER -in FILE -out NEW`.\n";
+
+const SIGNED_TEXT: &str =
+    ": the file looks like a signed file.\nTake the file out of it by the program for signatures, or by `openssl cms -verify -noverify -inform PEM -in FILE -out NEW`.\n";
+
+const SIGNED_MAIL: &str =
+    ": the file looks like a signed e-mail.\nTake the file out of it by the program for signatures, or by `openssl cms -verify -noverify -inform SMIME -in FILE -out NEW`.\n";
+
+/// How signed data are called within the first bytes of such a file.
+const SIGNED_DATA: &[u8] = b"\x06\x09\x2a\x86\x48\x86\xf7\x0d\x01\x07\x02";
 
 const JSON: &str =
     ": the file looks like JSON.\nGet the .pb file itself, which is text with `;` between the fields.\n";
@@ -102,6 +116,16 @@ fn looks_by(bytes: &[u8]) -> Option<&'static str> {
             ": the file looks like a web page.\nGet the file itself, and not the page that shows it.\n",
         ),
         None if is_json(bytes) => Some(JSON),
+        None if bytes.starts_with(b"0") && has(bytes, SIGNED_DATA, 32) => Some(SIGNED),
+        None if bytes.starts_with(b"MIME-") && has(bytes, b"pkcs7-mime", 512) => {
+            Some(SIGNED_MAIL)
+        }
         None => None,
     }
+}
+
+/// Whether one of so many first places of a text has this part.
+fn has(bytes: &[u8], part: &[u8], most: usize) -> bool {
+    let is_here = |start: usize| bytes.get(start..start.saturating_add(part.len())) == Some(part);
+    (0..most).any(is_here)
 }

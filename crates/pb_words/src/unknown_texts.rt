@@ -23,6 +23,10 @@ pub(crate) const LISTED: &str =
 pub(crate) const ODD_LETTER: &str =
     "This contains {}, which no id in PROJECTS contains. It may be another kind of dash or letter, a code for a missing value, or what a program put there, as € for `(e)`. Compare the id with those. Ask whoever made the file what it means.\n";
 
+/// What to do about a letter of another alphabet, where the ids are letters.
+pub(crate) const OTHER_ALPHABET: &str =
+    "Ballots may have the letters of another alphabet in its own order (\u{410}, \u{411}, \u{412} for A, B, C): then \u{412}, which looks like B, is the third. Ask which project each letter is.\n";
+
 /// What to do about an unknown number above those of all projects.
 pub(crate) const RENUMBERED: &str =
     "First find out whether the list was numbered anew after people had voted: then votes with older numbers name wrong projects too, though no program sees it. If so, correct all older votes by the list that these voters had. If not, and the project was withdrawn, take its id out of the votes. If neither, ask whoever made the file which project is meant.\n";
@@ -34,6 +38,26 @@ pub(crate) const COUNTED_ON: &str =
 /// What to do about a word beside ids.
 pub(crate) const WORD_BESIDE: &str =
     "This seems to be a word, beside ids. Look at the ballot, and write all ids that are meant. Keep the row: its other ids are votes. If the ballot can't be read there, or the word says something else, ask whoever made the file.\n";
+
+/// What is said first of a letter that may be a scanner's sign for a number.
+pub(crate) const FOR_A_BOX: &str =
+    "It may stand for {}: a scanner may write one sign for a box, A for 10, B for 11. Look at some ballots. If it does, write the numbers in all votes. If not:\n";
+
+/// What is said first where several votes are one text beside an id.
+pub(crate) const EXAMPLE: &str =
+    "The first three of these votes are one text. If it is the form's example, which voters left as it was, leave all fields with it empty. If not:\n";
+
+/// What is said where a program may have written a word in place of the vote.
+pub(crate) const TRIAL: &str =
+    "A trial version of a program may have written this in place of the vote. Get the table again, by the whole program.\n";
+
+/// What is said where each vote is 1 or 0.
+pub(crate) const TURNOUT: &str =
+    "Each vote is 1 or 0: this may be a list of who has voted, and has no votes. Get the ballots.\n";
+
+/// What is said first of a number that may have a 1 too many before it.
+pub(crate) const ONE_BEFORE: &str =
+    "If a 1 too many stands before it (a scanner may read the line of a table so), other votes have it too, also where their ids are known: compare all votes of this list with the ballots. If not:\n";
 
 /// What is said where a program may have read a project's id as another word.
 pub(crate) const READ_AS: &str =
@@ -160,6 +184,8 @@ fn bracket_remedy(cause: Cause) -> &'static str {
             "The votes may have other ids than PROJECTS: rows or places of a list (then each vote is wrong), ids of an older list, before it was numbered anew, a series that a spreadsheet continued, sums of ids, as a pivot table makes them, or ids that were joined where a text between them was replaced. Compare some votes with the ballots, also those of known ids, and the list on the ballots with PROJECTS. If anything differs, get the votes again, with the ids of PROJECTS. If all is the same, and the project was withdrawn, take its id out of the votes. If it was not, ask whoever made the file.\n",
         Cause::Formula =>
             "A spreadsheet writes this where a formula is wrong. Get the votes again.\n",
+        Cause::Subject =>
+            "This is the subject of an e-mail, in codes. Look at the e-mail itself, and write the ids that are meant, with `,` between them.\n",
         Cause::EmptyList =>
             "Programs write an empty list so. If the voter approves no project, leave the field empty.\n",
         Cause::Brackets =>

@@ -4,16 +4,20 @@ use crate::command_words::{put_clean, put_dropping};
 use crate::prelude::*;
 use crate::read_texts::NOTE;
 use crate::unknown_texts::{
-    ALL_WITHDRAWN, COUNTED_ON, LAST_ROW, LISTED, NAMES, NOT_RENUMBERED, ODD_LETTER, PART, READ_AS,
-    RENUMBERED, WORD_BESIDE, difference, is_cut_code, remedy_of, what_of,
+    ALL_WITHDRAWN, COUNTED_ON, EXAMPLE, FOR_A_BOX, LAST_ROW, LISTED, NAMES, NOT_RENUMBERED,
+    ODD_LETTER, ONE_BEFORE, OTHER_ALPHABET, PART, READ_AS, RENUMBERED, TRIAL, TURNOUT, WORD_BESIDE,
+    difference, is_cut_code, remedy_of, what_of,
 };
 use pb_read::Column;
 use pb_witness::cause::{Cause, comes_next, odd_letter};
 use pb_witness::changed::Difference::{Hidden, Zeros};
-use pb_witness::changed::{Difference, is_one_of, without_hidden};
+use pb_witness::changed::{Difference, has_one_of, is_one_of, without_hidden};
 use pb_witness::fields::{column_of, number_in};
 use pb_witness::known::FoundCause;
 use pb_witness::unknown::Votes;
+
+/// What a trial version of a program writes in place of texts.
+const TRIALS: &str = "trial|demo|evaluation|unregistered|sample";
 
 /// What programs make of an id such as `NO`.
 const READ: &str = "false|true|nan";
@@ -91,6 +95,9 @@ impl<R: Files> Case<'_, R> {
         if is_open && found.cause != Cause::Shifted && self.counts_on() {
             return out.put(COUNTED_ON);
         }
+        if is_open && has_one_of(TRIALS, self.faulty.piece()) {
+            return out.put(TRIAL);
+        }
         if is_open && self.put_row_cause(out) {
             return;
         }
@@ -133,6 +140,9 @@ impl<R: Files> Case<'_, R> {
         let ids = &self.known.witness.ids;
         let is_beside = ids.have_one(self.faulty.value());
         let read = (0..self.projects()).find(|place| is_one_of(READ, self.id_of(*place)));
+        if let Some(place) = self.boxed(self.faulty.piece()) {
+            out.fill(FOR_A_BOX, &[Quoted(self.id_of(place))])
+        }
         match read.and_then(|place| self.known.again.projects.row(place)) {
             Some(row) => {
                 let line = line_of(self.text, row.mark);
@@ -144,9 +154,56 @@ impl<R: Files> Case<'_, R> {
         true
     }
 
+    /// The project whose number, above 9, an id of one letter may stand for, as A for 10, if no vote names that project.
+    fn boxed(&self, id: &str) -> Option<u32> {
+        let [letter @ b'A'..=b'Z'] = id.as_bytes() else {
+            return None;
+        };
+        let number = u32::from(*letter).saturating_sub(55);
+        let rows = &self.known.witness.rows;
+        let is_it = |place: &u32| {
+            let own = number_in(self.id_of(*place).as_bytes());
+            own == Some(number) && !rows.is_named(*place)
+        };
+        (0..self.projects()).find(is_it)
+    }
+
+    /// Whether the first of several votes, three or more, are the same text with a blank, as the example of a form.
+    fn is_example(&self, votes: &Votes) -> bool {
+        let (vote, place) = (self.faulty.value(), self.faulty.places().1);
+        let is_same = |row: &ByteRecord| text_at(row, place) == vote;
+        let mut first = votes.first.iter().flatten();
+        let are_same = first.all(|mark| self.text.row_at(*mark).is_some_and(|row| is_same(&row)));
+        votes.count > 2 && vote.contains(' ') && are_same
+    }
+
+    /// Whether the one unknown id is 0, and votes name the project 1 and no other, as in a list of who has voted.
+    fn is_turnout(&self) -> bool {
+        let witness = self.known.witness;
+        let is_only = |place: u32| witness.rows.is_named(place) == (self.id_of(place) == "1");
+        let are_zeros = witness.unknown.found.iter().all(|it| it.id.as_str() == "0");
+        are_zeros && (0..self.projects()).all(is_only) && witness.ids.projects.has("1")
+    }
+
+    /// Whether an id is a 1 before that of a project with two signs or more.
+    fn has_one_before(&self, id: &str) -> bool {
+        let rest = id.strip_prefix('1').filter(|rest| rest.len() > 1);
+        rest.is_some_and(|rest| self.known.witness.ids.projects.has(rest))
+    }
+
+    /// Puts what is said before the remedy, of a form's example and of a 1 too many.
+    fn put_likely(&self, out: &mut WordsWriter, found: &FoundCause) {
+        match found.cause {
+            Cause::More if self.is_example(&found.votes) => out.put(EXAMPLE),
+            Cause::Together if self.has_one_before(self.faulty.piece()) => out.put(ONE_BEFORE),
+            _ => {}
+        }
+    }
+
     /// Puts what to do about an id that no project has.
     fn put_unknown_remedy(&self, out: &mut WordsWriter, found: &FoundCause) {
         let place = self.place_of(found);
+        self.put_likely(out, found);
         let is_above = found.cause == Cause::Unknown && self.is_above_all(place.id);
         let remedy = if is_above {
             RENUMBERED
@@ -160,6 +217,7 @@ impl<R: Files> Case<'_, R> {
                 return out.put(remedy);
             }
             Cause::Word if self.put_word(out) => {}
+            Cause::Nothing if self.is_turnout() => out.put(TURNOUT),
             Cause::Unknown if self.known.ids_for(Cause::Unknown) > 1 && !is_above => {
                 out.put(PART);
                 out.put(remedy)
@@ -298,6 +356,11 @@ impl<R: Files> Case<'_, R> {
 
     /// Puts which character of this id no project's id has, and what to do.
     fn put_odd_letter(&self, out: &mut WordsWriter, id: &str) {
+        let mut letters = id.chars();
+        let is_letter = letters.next().is_some_and(|c| c.is_alphanumeric());
+        if is_letter && letters.next().is_none() && self.id_of(0).len() == 1 {
+            return out.put(OTHER_ALPHABET);
+        }
         if let Some(letter) = odd_letter(id, &self.known.again.projects) {
             let from = id.trim_start_matches(|c: char| c != letter);
             let behind = from.split_once(letter).unwrap_or(("", "")).1;

@@ -64,6 +64,10 @@ const FIRST: [&[&str]; 14] = [
         "only this last vote ends behind a comma, so the file may be cut off
 only the last vote ends behind a comma, so the file may be cut off
 If it is, get the whole file again. If not, delete the comma.",
+        "this last row stands where a spreadsheet's sheet ends, so votes may be missing
+the last row stands where a spreadsheet's sheet ends, so votes may be missing
+A sheet ends after 65,536 or 1,048,576 rows, and what stands below is lost. If votes are missing, get the whole file again. If \
+    you know that none is, write their number into META, as `num_votes`.",
         "none of the {number} rows of VOTES names a project
 Compare the column `vote` with the ballots: the votes may stand in another column, or in rows of their own. If they do, \
     write them there, or get the votes again.",
@@ -230,6 +234,10 @@ They are counted as voters. Look at some ballots. If these rows are the back sid
 an id has only signs
 It is counted as a voter. Such signs may say of rows that they do not count, as `/*` and `*/` of all rows between them. Ask. If \
     so, delete these rows and the signs. If not, find out whether this row is a voter.",
+        "but for their ids, {rows} from here on are those from line {line} upwards, in the opposite order
+but for their ids, {rows} are earlier ones again, in the opposite order
+A stack of ballots may have been scanned or typed again, from the bottom. Count the ballots on paper. If these are too many, \
+    delete the later rows of the two. If not, keep all.",
     ],
     &[
         "a field in quotation marks runs over several lines that look like rows
@@ -280,10 +288,14 @@ If another project was meant, correct the id by the voter's ballot. If not, writ
         "the vote has all projects of the one above it, and more; and so has each of the next ones. This concerns {rows}
 a vote has all projects of the one above it, and more; and so has each of the next ones. This concerns {rows}
 A form may not have been cleared between voters, so that these votes have other voters' choices too. Compare all of them \
-    with the ballots, or ask the voters.",
+    with the ballots, or ask the voters. If all are right, nothing is wrong.",
         "the vote is the one above it but for one id, which is the next in number; and so is each of the next ones. This concerns {rows}
 a vote is the one above it but for one id, which is the next in number; and so is each of the next ones. This concerns {rows}
-A cell may have been copied downwards, and a spreadsheet counted on. Compare all of these votes with the ballots. If they are test ballots of a scanner or a form, delete these rows, and one beside them that names all projects or none.",
+A cell may have been copied downwards, and a spreadsheet counted on. Compare all of these votes with the ballots. If they are test ballots of a scanner or a form, delete these rows, and one beside them that names all projects or none. If neither, nothing is wrong.",
+        "the vote names all projects, and every other vote names all or at most {limit}. This concerns {rows}
+a vote names all projects, and every other vote names all or at most {limit}. This concerns {rows}
+The boxes may have been ticked before the voters saw them. Find out how these votes were cast, or ask the voters. If your \
+    rules do not count them, delete these rows. If the voters chose so, nothing is wrong.",
     ],
     &[
         "{number} columns have this name, and only the first is read

@@ -24,7 +24,7 @@ const NO_RULE: &str = "unknown|-";
 const NO_OTHER_RULE: &str = "unknown|-|mes|method of equal shares";
 
 /// The last form of `VotesMissing` that is about the number of rows; behind it no row has a vote.
-const LAST_NUMBER: usize = 3;
+const LAST_NUMBER: usize = 4;
 
 /// What is said, beside the remedy for one vote, where several name a project twice.
 const MANY_TWICE: &str =
