@@ -5,7 +5,7 @@ ghost use Rattle.pb_price.specs.Price.{AreRests, HasPayers, IsPrice, price_at};
 
 use crate::amount_each::Price;
 use crate::base::base;
-use crate::steps::price_in_steps;
+use crate::steps::PriceSearch;
 use crate::supporters::Supporters;
 use pb_core::money::Money;
 use std::alloc::Allocator;
@@ -32,23 +32,18 @@ pub(crate) fn common_rest<A: Allocator>(
     Some(share)
 }
 
-/// The price of the project at this place, where the common rest is that of all voters, if there is one.
-pub(crate) fn price_by<A: Allocator>(
-    supporters: &Supporters<A>,
-    rests: &[Money],
-    common: &Option<Money>,
-    place: u32,
-) -> Option<Price>
-    requires rests { AreRests supporters.now.voters rests.now }
-    requires known { place < length supporters.now.costs }
-    requires common { IfSome common.now (λ share. All (λ rest. rest ≡ share) rests.now) }
-    ensures { result ≡ price_at supporters.now rests.now place }
-{
-    // What is true of all supporters holds of this project's.
-    let _projects = supporters.projects();
-    match common {
-        Some(share) => price_at_share(supporters, *share, place),
-        None => price_in_steps(supporters, rests, place),
+impl<'a, A: Allocator> PriceSearch<'a, A> {
+    /// The price of the project, where the common rest is that of all voters, if there is one.
+    pub(crate) fn price_by(&self, common: &Option<Money>) -> Option<Price>
+        requires common { IfSome common.now (λ share. All (λ rest. rest ≡ share) self.now.rests.now) }
+        ensures { result ≡ price_at self.now.supporters.now self.now.rests.now self.now.place }
+    {
+        // What is true of all supporters holds of this project's.
+        let _projects = self.supporters.projects();
+        match common {
+            Some(share) => price_at_share(self.supporters, *share, self.place),
+            None => self.price_in_steps(),
+        }
     }
 }
 

@@ -11,8 +11,9 @@ ghost use Rattle.pb_price.specs.Inner.Working.{gathered, placed, IsBatch};
 use crate::amount_each::Price;
 use crate::answer::Answer;
 use crate::claims::{Claim, Claims};
-use crate::common_rest::{common_rest, price_by};
+use crate::common_rest::common_rest;
 use crate::pieces::Pieces;
+use crate::steps::PriceSearch;
 use crate::tally::Tally;
 use crate::worker::Worker;
 use pb_core::gate::Gate;
@@ -45,7 +46,12 @@ impl<A: Allocator> Gathered<A> {
         let mut prices = Vec::with_capacity(alloc, pieces.projects.len())?;
         for (piece, place) in pieces.projects.iter().enumerate() {
             pieces.gate.at(0, piece as u32);
-            prices.push(price_by(pieces.supporters, pieces.rests, &common, *place))?;
+            let sought = PriceSearch {
+                supporters: pieces.supporters,
+                rests: pieces.rests,
+                place: *place,
+            };
+            prices.push(sought.price_by(&common))?;
         }
         Ok(Gathered {
             prices,

@@ -6,7 +6,7 @@ ghost use Rattle.std.specs.Io.Iter.{u64_saturate};
 ghost use Rattle.pb_price.specs.Price.{AreRests, IsPrice};
 
 use crate::amount_each::Price;
-use crate::steps::price_in_steps;
+use crate::steps::PriceSearch;
 use crate::supporters::Supporters;
 use crate::tally::Tally;
 use pb_core::money::Money;
@@ -34,7 +34,12 @@ pub fn price<A: Allocator, B: Allocator>(
         ≡ record tally.old { prices = u64_saturate (tally.old.prices + 1) }) }
     ensures err { OnErr result (tally.new ≡ tally.old) }
 {
-    let price = price_in_steps(supporters, rests, place);
+    let sought = PriceSearch {
+        supporters,
+        rests,
+        place,
+    };
+    let price = sought.price_in_steps();
     tally.add_one();
     Ok(price)
 }

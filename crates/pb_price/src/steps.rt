@@ -30,25 +30,96 @@ struct Split {
     rests: u128,
 }
 
-/// The price of the project at this place.
-///
-/// It starts at the cost divided by the number of supporters, and goes on from bound to bound.
-pub(crate) fn price_in_steps<A: Allocator>(
-    supporters: &Supporters<A>,
-    rests: &[Money],
-    place: u32,
-) -> Option<Price>
-    requires rests { AreRests supporters.now.voters rests.now }
-    requires known { place < length supporters.now.costs }
-    ensures { IsPrice supporters.now rests.now place result }
-{
-    let mut bound = base(supporters, place)?;
-    loop {
-        let next = next_bound(supporters, rests, place, bound)?;
-        if next == bound {
+/// A search for the price of a project, with what is left to each voter.
+#[derive(Drop)]
+pub(crate) struct PriceSearch<'a, A: Allocator> {
+    pub(crate) supporters: &'a Supporters<A>,
+    pub(crate) rests: &'a [Money],
+    pub(crate) place: u32,
+    ghost are_rests: { AreRests supporters.now.voters rests.now },
+    ghost known: { place < length supporters.now.costs },
+}
+
+impl<'a, A: Allocator> PriceSearch<'a, A> {
+    /// The price of the project.
+    ///
+    /// It starts at the cost divided by the number of supporters, and goes on from bound to bound.
+    pub(crate) fn price_in_steps(&self) -> Option<Price>
+        ensures { IsPrice self.now.supporters.now self.now.rests.now self.now.place result }
+    {
+        let mut bound = base(self.supporters, self.place)?;
+        loop {
+            let next = next_bound(self.supporters, self.rests, self.place, bound)?;
+            if next == bound {
+                return Some(bound);
+            }
+            bound = next;
+        }
+    }
+
+    /// From a lower bound of the least payment of whole parts by which the supporters of this project cover its
+    /// cost to a better one, at most the cost.
+    ///
+    /// While they pay less than the cost, each who could pay more has to pay an equal part of what is missing,
+    /// rounded up. No step passes the least payment, because the others have nothing more to give: so the first
+    /// bound that covers the cost is it.
+    fn next_payment(&self, bound: Money) -> Option<Money>
+        requires hundredths { self.now.supporters.now.grain ≡ Hundredths }
+        requires bound { (payment : ℕ) → IsLeastPayment (supporters_at self.now.supporters.now self.now.place) self.now.rests.now
+            (cost_in_parts self.now.supporters.now self.now.place) payment → bound ≤ payment }
+        ensures none { result ≡ None
+            → total_rest (supporters_at self.now.supporters.now self.now.place) self.now.rests.now < cost_in_parts self.now.supporters.now self.now.place }
+        ensures rises { IfSome result (λ next. bound ≤ next) }
+        ensures least { IfSome result (λ next. next ≡ bound → IsLeastPayment (supporters_at self.now.supporters.now self.now.place)
+            self.now.rests.now (cost_in_parts self.now.supporters.now self.now.place) bound) }
+        ensures bound { IfSome result (λ next. (payment : ℕ) → IsLeastPayment (supporters_at self.now.supporters.now self.now.place)
+            self.now.rests.now (cost_in_parts self.now.supporters.now self.now.place) payment → next ≤ payment) }
+        ensures small { IfSome result (λ next. bound < next → next ≤ cost_in_parts self.now.supporters.now self.now.place) }
+    {
+        let cost = self.supporters.cost_in_parts(self.place).0;
+        let collected = collect(self.supporters.of(self.place), self.rests, bound.0);
+        if collected.total >= cost {
             return Some(bound);
         }
-        bound = next;
+        if collected.rests < u128::from(cost) {
+            return None;
+        }
+        let missing = cost - collected.total;
+        Some(Money(bound.0 + missing.div_ceil(collected.payers_above)))
+    }
+
+    /// From a lower bound of the unrounded price of this project to a better one.
+    ///
+    /// Who has less left than the bound has to give all of it, and the others pay what is missing together. That is
+    /// no more than the price, since who has less than the price can't give more.
+    fn next_unrounded(&self, bound: Price) -> Option<Price>
+        requires fine { self.now.supporters.now.grain ≡ Fine }
+        requires payers { HasPayers self.now.supporters.now bound }
+        requires bound { (price : PriceView) → IsUnrounded (supporters_at self.now.supporters.now self.now.place) self.now.rests.now
+            (cost_in_parts self.now.supporters.now self.now.place) price → AtMost bound price }
+        ensures none { result ≡ None
+            → total_rest (supporters_at self.now.supporters.now self.now.place) self.now.rests.now < cost_in_parts self.now.supporters.now self.now.place }
+        ensures payers { IfSome result (HasPayers self.now.supporters.now) }
+        ensures rises { IfSome result (AtMost bound) }
+        ensures price { IfSome result (λ next. next ≡ bound → IsUnrounded (supporters_at self.now.supporters.now self.now.place) self.now.rests.now
+            (cost_in_parts self.now.supporters.now self.now.place) bound) }
+        ensures bound { IfSome result (λ next. (price : PriceView) → IsUnrounded (supporters_at self.now.supporters.now self.now.place)
+            self.now.rests.now (cost_in_parts self.now.supporters.now self.now.place) price → AtMost next price) }
+        ensures small { IfSome result (λ next. next.amount ≤ cost_in_parts self.now.supporters.now self.now.place) }
+    {
+        let cost = self.supporters.cost_in_parts(self.place).0;
+        let split = tell_payers(
+            self.supporters.of(self.place),
+            self.rests,
+            bound.least_rest().0,
+        );
+        if split.rests < u128::from(cost) {
+            return None;
+        }
+        Some(Price {
+            amount: Money(cost - split.below),
+            payers: split.payers,
+        })
     }
 }
 
@@ -76,88 +147,18 @@ pub fn next_bound<A: Allocator>(
         → IsPrice supporters.now rests.now place (Some price) → AtMost next price) }
     ensures small { IfSome result (λ next. next ≢ bound → next.amount ≤ cost_in_parts supporters.now place) }
 {
+    let sought = PriceSearch {
+        supporters,
+        rests,
+        place,
+    };
     match supporters.grain() {
         Grain::Hundredths => {
-            let next = next_payment(supporters, rests, place, bound.amount)?;
+            let next = sought.next_payment(bound.amount)?;
             Some(Price::whole(next))
         }
-        Grain::Fine => next_unrounded(supporters, rests, place, bound),
+        Grain::Fine => sought.next_unrounded(bound),
     }
-}
-
-/// From a lower bound of the least payment of whole parts by which the supporters of this project cover its
-/// cost to a better one, at most the cost.
-///
-/// While they pay less than the cost, each who could pay more has to pay an equal part of what is missing,
-/// rounded up. No step passes the least payment, because the others have nothing more to give: so the first
-/// bound that covers the cost is it.
-fn next_payment<A: Allocator>(
-    supporters: &Supporters<A>,
-    rests: &[Money],
-    place: u32,
-    bound: Money,
-) -> Option<Money>
-    requires hundredths { supporters.now.grain ≡ Hundredths }
-    requires rests { AreRests supporters.now.voters rests.now }
-    requires known { place < length supporters.now.costs }
-    requires bound { (payment : ℕ) → IsLeastPayment (supporters_at supporters.now place) rests.now
-        (cost_in_parts supporters.now place) payment → bound ≤ payment }
-    ensures none { result ≡ None
-        → total_rest (supporters_at supporters.now place) rests.now < cost_in_parts supporters.now place }
-    ensures rises { IfSome result (λ next. bound ≤ next) }
-    ensures least { IfSome result (λ next. next ≡ bound → IsLeastPayment (supporters_at supporters.now place)
-        rests.now (cost_in_parts supporters.now place) bound) }
-    ensures bound { IfSome result (λ next. (payment : ℕ) → IsLeastPayment (supporters_at supporters.now place)
-        rests.now (cost_in_parts supporters.now place) payment → next ≤ payment) }
-    ensures small { IfSome result (λ next. bound < next → next ≤ cost_in_parts supporters.now place) }
-{
-    let cost = supporters.cost_in_parts(place).0;
-    let collected = collect(supporters.of(place), rests, bound.0);
-    if collected.total >= cost {
-        return Some(bound);
-    }
-    if collected.rests < u128::from(cost) {
-        return None;
-    }
-    let missing = cost - collected.total;
-    Some(Money(bound.0 + missing.div_ceil(collected.payers_above)))
-}
-
-/// From a lower bound of the unrounded price of this project to a better one.
-///
-/// Who has less left than the bound has to give all of it, and the others pay what is missing together. That is
-/// no more than the price, since who has less than the price can't give more.
-fn next_unrounded<A: Allocator>(
-    supporters: &Supporters<A>,
-    rests: &[Money],
-    place: u32,
-    bound: Price,
-) -> Option<Price>
-    requires rests { AreRests supporters.now.voters rests.now }
-    requires known { place < length supporters.now.costs }
-    requires fine { supporters.now.grain ≡ Fine }
-    requires payers { HasPayers supporters.now bound }
-    requires bound { (price : PriceView) → IsUnrounded (supporters_at supporters.now place) rests.now
-        (cost_in_parts supporters.now place) price → AtMost bound price }
-    ensures none { result ≡ None
-        → total_rest (supporters_at supporters.now place) rests.now < cost_in_parts supporters.now place }
-    ensures payers { IfSome result (HasPayers supporters.now) }
-    ensures rises { IfSome result (AtMost bound) }
-    ensures price { IfSome result (λ next. next ≡ bound → IsUnrounded (supporters_at supporters.now place) rests.now
-        (cost_in_parts supporters.now place) bound) }
-    ensures bound { IfSome result (λ next. (price : PriceView) → IsUnrounded (supporters_at supporters.now place)
-        rests.now (cost_in_parts supporters.now place) price → AtMost next price) }
-    ensures small { IfSome result (λ next. next.amount ≤ cost_in_parts supporters.now place) }
-{
-    let cost = supporters.cost_in_parts(place).0;
-    let split = tell_payers(supporters.of(place), rests, bound.least_rest().0);
-    if split.rests < u128::from(cost) {
-        return None;
-    }
-    Some(Price {
-        amount: Money(cost - split.below),
-        payers: split.payers,
-    })
 }
 
 /// What these supporters pay at this payment.

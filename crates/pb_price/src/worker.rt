@@ -6,8 +6,9 @@ ghost use Rattle.pb_price.specs.Inner.Working.{IsBatch, IsDone};
 
 use crate::answer::Answer;
 use crate::claims::{Claim, Claims};
-use crate::common_rest::{common_rest, price_by};
+use crate::common_rest::common_rest;
 use crate::pieces::Pieces;
+use crate::steps::PriceSearch;
 use pb_core::gate::Gate;
 use pb_core::no_memory::NoMemory;
 use std::alloc::Allocator;
@@ -43,7 +44,12 @@ impl<A: Allocator> Worker<A> {
             };
             let piece = number as u32;
             pieces.gate.at(self.number, piece);
-            let price = price_by(pieces.supporters, pieces.rests, &common, *place);
+            let sought = PriceSearch {
+                supporters: pieces.supporters,
+                rests: pieces.rests,
+                place: *place,
+            };
+            let price = sought.price_by(&common);
             self.answers.push(Answer { piece, price })?;
         }
     }

@@ -117,12 +117,11 @@ module _ (e : ElectionView) (options : CountOptions) (fine : is_too_fine e optio
 -- with options in their ranges an election can be completed
 pub can_complete : (e : ElectionView) (options : CountOptions) (s : SupportView) → s ≡ support_in options.grain e → refusal_of options ≡ None
     → (step : ℕ) → step ≡ step_of e options → (raises : ℕ) → raises ≤ options.max_raises → share_after options.grain e (step_of e options) raises ≤ largest_share
-    → CanComplete e options.workers s step raises
+    → CanComplete e s step raises
 can_complete e options s same in_range step step_is raises few small =
     let tests = all_in_range (is_worker_count options.workers) (nat_le 1 options.step && nat_le options.step largest_step) (nat_le options.max_raises most_raises) in_range in
     let grain : s.grain ≡ options.grain = ap (λ (t : SupportView). t.grain) same in
-    subst (λ n. CanComplete e options.workers s n raises) (sym step_is) (record {
-      few_workers = tests.0;
+    subst (λ n. CanComplete e s n raises) (sym step_is) (record {
       few_raises = (let most = leb-true options.max_raises most_raises tests.1.1 in omega (arith, few, most));
       own_supporters = subst (λ (g : Grain). s ≡ support_in g e) (sym grain) same;
       small = subst (λ (g : Grain). share_after g e (step_of e options) raises ≤ largest_share) (sym grain) small;

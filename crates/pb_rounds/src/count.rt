@@ -8,21 +8,20 @@ ghost use Rattle.pb_price.specs.PriceFault.{is_worker_count};
 ghost use Rattle.pb_price.specs.Supporters.{IsSupport, support_in};
 ghost use Rattle.pb_rounds.specs.Cheapest.{IsRun};
 ghost use Rattle.pb_rounds.specs.Count.{has_too_fine_cost, is_too_fine, opening_share, share_after, share_by, step_of};
-ghost use Rattle.pb_rounds.specs.Inner.Count.{IsCompletionFault};
 ghost use Rattle.pb_rounds.specs.CountFault.{refusal_of};
 ghost use Rattle.pb_rounds.specs.Counted.{IsCountFault, IsCountOf};
 ghost use Rattle.pb_rounds.specs.PriceSystem.{IsPriceSystem};
 ghost use Rattle.pb_rounds.specs.PricingRecord.{HasPricing};
-ghost use Rattle.pb_rounds.specs.Inner.RaiseEnds.{CanComplete, IsCompletion, IsOutcomeAt};
+ghost use Rattle.pb_rounds.specs.Inner.RaiseEnds.{CanComplete, IsOutcomeAt};
 
 use crate::count_fault::CountFault;
 use crate::measure::Measure;
 use crate::options::{Completion, CountOptions, LARGEST_STEP, MOST_RAISES};
 use crate::outcome::Outcome;
 use crate::pricing::Pricing;
-use crate::reach::{raised_share, raises_with_room};
+use crate::reach::raised_share;
 use crate::run::whole_run;
-use crate::side_by_side::complete_by_trials;
+use crate::side_by_side::complete;
 use pb_core::election::Election;
 use pb_core::gate::{Gate, NoGate};
 use pb_core::money::Money;
@@ -275,30 +274,11 @@ pub(crate) fn outcome_after<
     step: Money,
     raised: u32,
 ) -> Result<Outcome<A>, NoMemory>
-    requires given { CanComplete election.now pricing.now.workers pricing.now.supporters.now step raised }
+    requires given { CanComplete election.now pricing.now.supporters.now step raised }
     ensures { IfOk result (IsOutcomeAt pricing.now.measure pricing.now.supporters.now pricing.now.workers
         (share_after pricing.now.supporters.now.grain election.now step raised) raised) }
 {
     let opening = opening_of(election, pricing.supporters);
     let share = raised_share(opening, raised, step);
     whole_run(pricing, share, raised)
-}
-
-/// Counts with completion by raises. The first raises that leave room decide nothing and are not run.
-fn complete<R: Threads + Sync, G: Gate, A: Allocator + Copy + Send + Sync, B: Allocator>(
-    pricing: &Pricing<R, G, A>,
-    election: &Election<B>,
-    step: Money,
-    max_raises: u32,
-) -> Result<Outcome<A>, CountFault>
-    requires given { CanComplete election.now pricing.now.workers pricing.now.supporters.now step max_raises }
-    ensures completed { IfOk result
-        (IsCompletion pricing.now.measure pricing.now.supporters.now.grain election.now pricing.now.workers step max_raises) }
-    ensures faults { IfErr result (IsCompletionFault pricing.now.measure pricing.now.supporters.now.grain election.now step max_raises) }
-    ensures is_election { IsElection election.now }
-{
-    let budget = election.budget();
-    let opening = opening_of(election, pricing.supporters);
-    let first = raises_with_room(pricing.supporters, budget, opening, step, max_raises);
-    complete_by_trials(pricing, election, step, max_raises, first)
 }

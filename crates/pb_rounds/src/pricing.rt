@@ -24,6 +24,7 @@ pub(crate) struct Pricing<'a, R, G, A: Allocator> {
     pub(crate) workers: u32,
     pub(crate) measure: Measure,
     pub(crate) supporters: &'a Supporters<A>,
+    pub(crate) ghost few_workers: { is_worker_count workers ≡ true },
 }
 
 /// How many of the workers price these projects: one, and one more for each share of the approvals that is

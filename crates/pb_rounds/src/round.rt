@@ -1,12 +1,11 @@
 //! One round: the heads of the queue are priced until the best project is known.
 
-ghost use Rattle.std.specs.Prelude.{◌≡◌, ◌+◌, ◌∷◌, ◌++◌, [], ◌<◌, ◌≤◌, ◌^◌, All, length, max, min, true};
+ghost use Rattle.std.specs.Prelude.{◌≡◌, ◌+◌, ◌∷◌, ◌++◌, [], ◌<◌, ◌≤◌, ◌^◌, All, length, max, min};
 ghost use Rattle.std.specs.Prelude.{IfOk, None, OnOk, Some};
 ghost use Rattle.std.specs.List.Sorted.{IsStrictlyIncreasing};
 ghost use Rattle.std.specs.Io.Iter.{u64_saturate};
 ghost use Rattle.pb_core.specs.Election.{most_projects};
 ghost use Rattle.pb_price.specs.Price.{due, paid_at, price_at, AreRests};
-ghost use Rattle.pb_price.specs.PriceFault.{is_worker_count};
 ghost use Rattle.pb_price.specs.Supporters.{supporters_at};
 ghost use Rattle.pb_rounds.specs.Inner.Key.{better_of};
 ghost use Rattle.pb_rounds.specs.Inner.Queue.{IsDone, IsIn, PricesHeads};
@@ -72,7 +71,6 @@ fn price_heads<R: Threads + Sync, G: Gate, A: Allocator + Copy + Send + Sync>(
     fresh: &mut Fresh<A>,
     tally: &mut Tally,
 ) -> Result<(), NoMemory>
-    requires workers { is_worker_count pricing.now.workers ≡ true }
     requires rests { AreRests pricing.now.supporters.now.voters rests.now }
     requires known { All (λ place. place < length pricing.now.supporters.now.costs) heads.now }
     requires few { length heads.now ≤ most_projects }
@@ -108,16 +106,15 @@ fn price_heads<R: Threads + Sync, G: Gate, A: Allocator + Copy + Send + Sync>(
 }
 
 impl<A: Allocator + Copy + Send + Sync> Run<A> {
-    /// Prices the heads of the queue, as far as the best of this round needs, and gives that best. The places
-    /// that were priced and the fresh keys are those of this round alone; the number of prices goes after the
-    /// outcome's others.
+    /// Prices the heads of the queue, in batches of at most this many, until the best that was priced comes
+    /// before the head, and gives that best. The places that were priced and the fresh keys are those of this
+    /// round alone; the number of prices goes after the outcome's others.
     pub(crate) fn price_round<R: Threads + Sync, G: Gate>(
         &mut self,
         pricing: &Pricing<R, G, A>,
         most: u32,
         outcome: &mut Outcome<A>,
     ) -> Result<Option<Key>, NoMemory>
-        requires workers { is_worker_count pricing.now.workers ≡ true }
         requires most { 0 < most }
         requires rests { AreRests pricing.now.supporters.now.voters outcome.old.rests }
         requires known { (k : KeyView) → IsIn k self.old.queue.keys → k.place
@@ -134,45 +131,17 @@ impl<A: Allocator + Copy + Send + Sync> Run<A> {
         self.fresh.clear();
         let mut tally = Tally::new();
         let rests = outcome.rests.as_slice();
-        let best = self.price_batches(pricing, rests, most, &mut tally)?;
-        outcome.priced.push(tally.count())?;
-        Ok(best)
-    }
-
-    /// Prices the heads of the queue at these rests, in batches of at most this many, until the best that was
-    /// priced comes before the head, and gives that best.
-    fn price_batches<R: Threads + Sync, G: Gate>(
-        &mut self,
-        pricing: &Pricing<R, G, A>,
-        rests: &[Money],
-        most: u32,
-        tally: &mut Tally,
-    ) -> Result<Option<Key>, NoMemory>
-        requires workers { is_worker_count pricing.now.workers ≡ true }
-        requires most { 0 < most }
-        requires rests { AreRests pricing.now.supporters.now.voters rests.now }
-        requires known { (k : KeyView) → IsIn k self.old.queue.keys → k.place
-            < length pricing.now.supporters.now.costs }
-        requires few { length self.old.queue.keys ≤ most_projects }
-        requires places { self.old.places.items ≡ [] }
-        requires fresh { self.old.fresh.keys.items ≡ [] }
-        requires best { self.old.fresh.best ≡ None }
-        requires tally { tally.old.prices ≡ 0 }
-        ensures priced { IfOk result
-            (PricesHeads pricing.now.measure pricing.now.supporters.now rests.now most
-            self.old.queue.keys self.new.queue.keys self.new.places.items self.new.fresh.keys.items) }
-        ensures done { IfOk result (λ best. IsDone best self.new.queue.keys) }
-        ensures counted { IfOk result (λ best. tally.new.prices ≡ length self.new.places.items) }
-    {
         loop {
             let before = self.places.len();
             take_heads(&mut self.queue, &self.fresh.best, most, &mut self.places)?;
             if self.places.len() == before {
-                return Ok(self.fresh.best);
+                break;
             }
             let heads = &self.places[before..];
-            price_heads(pricing, rests, heads, &mut self.fresh, tally)?;
+            price_heads(pricing, rests, heads, &mut self.fresh, &mut tally)?;
         }
+        outcome.priced.push(tally.count())?;
+        Ok(self.fresh.best)
     }
 }
 

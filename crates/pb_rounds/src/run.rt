@@ -1,8 +1,7 @@
 //! A run: round by round until no project that is left has a price.
 
-ghost use Rattle.std.specs.Prelude.{◌≡◌, ◌≤◌, [], length, replicate, IfOk, OnOk, true};
+ghost use Rattle.std.specs.Prelude.{◌≡◌, ◌≤◌, [], length, replicate, IfOk, OnOk};
 ghost use Rattle.pb_price.specs.Price.{largest_share};
-ghost use Rattle.pb_price.specs.PriceFault.{is_worker_count};
 ghost use Rattle.pb_rounds.specs.Inner.Queue.{IsFull};
 ghost use Rattle.pb_rounds.specs.Inner.RaiseEnds.{IsOutcomeAt};
 
@@ -78,7 +77,6 @@ impl<A: Allocator> Run<A> {
     where
         A: Copy + Send + Sync,
         requires share { share ≤ largest_share }
-        requires workers { is_worker_count pricing.now.workers ≡ true }
         ensures { OnOk result (IsOutcomeAt pricing.now.measure pricing.now.supporters.now pricing.now.workers
             share raised outcome.new) }
     {
@@ -102,7 +100,6 @@ pub(crate) fn whole_run<R: Threads + Sync, G: Gate, A: Allocator + Copy + Send +
     raised: u32,
 ) -> Result<Outcome<A>, NoMemory>
     requires share { share ≤ largest_share }
-    requires workers { is_worker_count pricing.now.workers ≡ true }
     ensures { IfOk result
         (IsOutcomeAt pricing.now.measure pricing.now.supporters.now pricing.now.workers share raised) }
 {

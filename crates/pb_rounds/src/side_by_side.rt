@@ -2,6 +2,7 @@
 
 ghost use Rattle.std.specs.Prelude.{◌≡◌, ◌+◌, ◌*◌, ◌<◌, ◌≤◌, ℕ, None, length, slice_index_or, Some, IfOk};
 ghost use Rattle.std.specs.Prelude.{IfErr, MatchOption, OnOk, ⊤, false, ◌-◌, true};
+ghost use Rattle.pb_core.specs.Election.{IsElection};
 ghost use Rattle.pb_price.specs.Price.{largest_share};
 ghost use Rattle.pb_rounds.specs.Count.{add1_of, elected_after, is_decisive, share_after};
 ghost use Rattle.pb_rounds.specs.Inner.Count.{IsCompletionFault};
@@ -17,7 +18,7 @@ use crate::outcome::Outcome;
 use crate::pace::Pace;
 use crate::pricing::{Pricing, workers_for_trials};
 use crate::raise_end::RaiseEnd;
-use crate::reach::raised_share;
+use crate::reach::{raised_share, raises_with_room};
 use crate::trial::Trial;
 use pb_core::election::Election;
 use pb_core::gate::Gate;
@@ -92,16 +93,6 @@ fn try_group<R: Threads + Sync, G: Gate, A: Allocator + Copy + Send + Sync>(
     thread::for_each_chunk_mut(group.pricing.rt, trials.as_mut_slice(), 1, &try_one);
 }
 
-/// What a completion by raises uses again from raise to raise.
-#[derive(Drop)]
-struct Team<A: Allocator> {
-    /// A trial for each raise of a group.
-    trials: Vec<Trial<A>, A>,
-    /// The trial that jumps ahead.
-    ahead: Trial<A>,
-    pace: Pace,
-}
-
 /// A completion by raises: what it counts, what each raise adds to the share, and how many there may be.
 #[derive(Drop)]
 struct Raising<'a, R, G, A: Allocator, B: Allocator> {
@@ -109,6 +100,7 @@ struct Raising<'a, R, G, A: Allocator, B: Allocator> {
     election: &'a Election<B>,
     step: Money,
     max_raises: u32,
+    ghost given: { CanComplete election.now pricing.now.supporters.now step max_raises },
 }
 
 impl<'a, R, G, A, B> Raising<'a, R, G, A, B>
@@ -128,8 +120,6 @@ where
         trials: &mut Vec<Trial<A>, A>,
         next: u32,
     ) -> Result<Option<u32>, NoMemory>
-        requires given { CanComplete self.now.election.now self.now.pricing.now.workers
-            self.now.pricing.now.supporters.now self.now.step self.now.max_raises }
         requires front { IsFront front.now }
         requires of { IsFrontAt self.now.pricing.now.measure self.now.pricing.now.supporters.now
             (share_after self.now.pricing.now.supporters.now.grain self.now.election.now self.now.step next) front.now }
@@ -180,8 +170,8 @@ where
         next: u32,
         target: u32,
     ) -> Result<bool, NoMemory>
-        requires given { CanComplete self.now.election.now self.now.pricing.now.workers
-            self.now.pricing.now.supporters.now self.now.step target }
+        requires given { CanComplete self.now.election.now self.now.pricing.now.supporters.now
+            self.now.step target }
         requires next { (0 < next) × (next ≤ target) }
         requires tried { (raises : ℕ) → raises < next
             → is_decisive self.now.pricing.now.measure self.now.pricing.now.supporters.now.grain self.now.election.now self.now.step raises ≡ false }
@@ -214,8 +204,6 @@ where
         pace: &mut Pace,
         from: u32,
     ) -> Result<u32, NoMemory>
-        requires given { CanComplete self.now.election.now self.now.pricing.now.workers
-            self.now.pricing.now.supporters.now self.now.step self.now.max_raises }
         requires from { (0 < from) × (from ≤ self.now.max_raises + 1) }
         requires tried { (raises : ℕ) → raises < from
             → is_decisive self.now.pricing.now.measure self.now.pricing.now.supporters.now.grain self.now.election.now self.now.step raises ≡ false }
@@ -245,45 +233,12 @@ where
     }
 
     /// How many raises the completion decides on, from this number on, none before which decides. They are
-    /// tried in groups that grow until each worker has a raise, or each processor where those are fewer.
-    /// After each group raises are jumped over, as far as they elect the same.
-    fn decide(&self, team: &mut Team<A>, from: u32) -> Result<Option<u32>, NoMemory>
-        requires given { CanComplete self.now.election.now self.now.pricing.now.workers
-            self.now.pricing.now.supporters.now self.now.step self.now.max_raises }
-        requires from { from ≤ self.now.max_raises + 1 }
-        requires few { length team.old.trials.items ≤ 64 }
-        requires tried { (raises : ℕ) → raises < from
-            → is_decisive self.now.pricing.now.measure self.now.pricing.now.supporters.now.grain self.now.election.now self.now.step raises ≡ false }
-        ensures { IfOk result (λ found.
-            (add1_of self.now.pricing.now.measure self.now.pricing.now.supporters.now.grain self.now.election.now self.now.step
-            self.now.max_raises ≡ found)
-            × MatchOption found ⊤ (λ raises. raises ≤ self.now.max_raises)) }
-    {
-        let pricing = self.pricing;
-        let opening = opening_of(self.election, self.pricing.supporters);
-        let mut front = Front::open(pricing.alloc, pricing.measure, pricing.supporters, opening)?;
-        let found = self.decide_behind(&mut front, team, from);
-        drop(front);
-        found
-    }
-
-    /// How many raises the completion decides on, from this number on, none before which decides. The front
-    /// is at a share that is no larger, and goes on with the raises.
-    fn decide_behind(
-        &self,
-        front: &mut Front<'_, A>,
-        team: &mut Team<A>,
-        from: u32,
-    ) -> Result<Option<u32>, NoMemory>
-        requires given { CanComplete self.now.election.now self.now.pricing.now.workers
-            self.now.pricing.now.supporters.now self.now.step self.now.max_raises }
-        requires front { IsFront front.old }
-        requires of { IsFrontAt self.now.pricing.now.measure self.now.pricing.now.supporters.now
-            front.old.outcome.share front.old }
-        requires share { front.old.outcome.share ≤ share_after self.now.pricing.now.supporters.now.grain self.now.election.now self.now.step from }
-        requires from { from ≤ self.now.max_raises + 1 }
-        requires few { length team.old.trials.items ≤ 64 }
-        requires tried { (raises : ℕ) → raises < from
+    /// tried in groups that grow until each worker has a raise, or each processor where those are fewer,
+    /// behind a front that goes on with them. After each group raises are jumped over, as far as they elect
+    /// the same.
+    fn decide(&self, first: u32) -> Result<Option<u32>, NoMemory>
+        requires first { first ≤ self.now.max_raises + 1 }
+        requires tried { (raises : ℕ) → raises < first
             → is_decisive self.now.pricing.now.measure self.now.pricing.now.supporters.now.grain self.now.election.now self.now.step raises ≡ false }
         ensures { IfOk result (λ found.
             (add1_of self.now.pricing.now.measure self.now.pricing.now.supporters.now.grain self.now.election.now self.now.step
@@ -293,18 +248,23 @@ where
         let pricing = self.pricing;
         let processors = processors(pricing.rt);
         let workers = workers_for_trials(pricing.workers, pricing.supporters);
-        let mut next = from;
+        let opening = opening_of(self.election, pricing.supporters);
+        let mut front = Front::open(pricing.alloc, pricing.measure, pricing.supporters, opening)?;
+        let mut trials = Vec::new(pricing.alloc);
+        let mut ahead = Trial::new(pricing.alloc);
+        let mut pace = Pace::new();
+        let mut next = first;
         while next <= self.max_raises {
-            self.prepare_group(front, &mut team.trials, next, workers, processors)?;
-            if let Some(raises) = self.try_raises(front, &mut team.trials, next)? {
+            self.prepare_group(&mut front, &mut trials, next, workers, processors)?;
+            if let Some(raises) = self.try_raises(&front, &mut trials, next)? {
                 return Ok(Some(raises));
             }
-            tell_pace(&mut team.pace, team.trials.as_slice());
-            let count = team.trials.len();
+            tell_pace(&mut pace, trials.as_slice());
+            let count = trials.len();
             next = self.jump_ahead(
-                &mut team.trials[count - 1],
-                &mut team.ahead,
-                &mut team.pace,
+                &mut trials[count - 1],
+                &mut ahead,
+                &mut pace,
                 next + count as u32,
             )?;
         }
@@ -321,8 +281,6 @@ where
         workers: u32,
         processors: u32,
     ) -> Result<(), NoMemory>
-        requires given { CanComplete self.now.election.now self.now.pricing.now.workers
-            self.now.pricing.now.supporters.now self.now.step self.now.max_raises }
         requires front { IsFront front.old }
         requires of { IsFrontAt self.now.pricing.now.measure self.now.pricing.now.supporters.now
             front.old.outcome.share front.old }
@@ -386,42 +344,30 @@ fn tell_pace<A: Allocator>(pace: &mut Pace, trials: &[Trial<A>]) {
     }
 }
 
-/// Completes by raises from this number on, none before which decides. The raise that is answered is run once
-/// more, with all workers.
-pub(crate) fn complete_by_trials<
-    R: Threads + Sync,
-    G: Gate,
-    A: Allocator + Copy + Send + Sync,
-    B: Allocator,
->(
+/// Counts with completion by raises. The first raises that leave room decide nothing and are not run, and the
+/// raise that is answered is run once more, with all workers.
+pub(crate) fn complete<R: Threads + Sync, G: Gate, A: Allocator + Copy + Send + Sync, B: Allocator>(
     pricing: &Pricing<R, G, A>,
     election: &Election<B>,
     step: Money,
     max_raises: u32,
-    from: u32,
 ) -> Result<Outcome<A>, CountFault>
-    requires given { CanComplete election.now pricing.now.workers pricing.now.supporters.now step max_raises }
-    requires from { from ≤ max_raises + 1 }
-    requires tried { (raises : ℕ) → raises < from
-        → is_decisive pricing.now.measure pricing.now.supporters.now.grain election.now step raises ≡ false }
+    requires given { CanComplete election.now pricing.now.supporters.now step max_raises }
     ensures completed { IfOk result
         (IsCompletion pricing.now.measure pricing.now.supporters.now.grain election.now pricing.now.workers step max_raises) }
     ensures faults { IfErr result (IsCompletionFault pricing.now.measure pricing.now.supporters.now.grain election.now step max_raises) }
+    ensures is_election { IsElection election.now }
 {
-    let mut team = Team {
-        trials: Vec::new(pricing.alloc),
-        ahead: Trial::new(pricing.alloc),
-        pace: Pace::new(),
-    };
+    let budget = election.budget();
+    let opening = opening_of(election, pricing.supporters);
+    let first = raises_with_room(pricing.supporters, budget, opening, step, max_raises);
     let raising = Raising {
         pricing,
         election,
         step,
         max_raises,
     };
-    let found = raising.decide(&mut team, from);
-    drop(team);
-    match found? {
+    match raising.decide(first)? {
         Some(raises) => Ok(outcome_after(pricing, election, step, raises)?),
         None => Err(CountFault::RaisesSpent),
     }

@@ -37,7 +37,7 @@ use pb_shared::clerk::Clerk;
 use pb_shared::share_fault::ShareFault;
 use pb_shared::shared_desk::SharedDesk;
 use pb_shared::shared_fault::SharedFault;
-use std::alloc::{AllocError, Global};
+use std::alloc::Global;
 use std::io::Read;
 use std::thread::{Threads, map_vec};
 
@@ -64,6 +64,7 @@ struct Work<'a, G> {
     /// The requests of each clerk, by its number.
     lists: &'a [Requests],
     gate: &'a G,
+    ghost few: { All (λ list. length list ≤ most_records) lists.now },
 }
 
 /// A clerk back from its work.
@@ -82,7 +83,6 @@ fn serve_own<G: Gate>(shared: &SharedDesk, clerk: Clerk, work: &Work<'_, G>) -> 
     requires own { clerk.desk ≡ shared.now }
     requires fresh { clerk.sheet.mine ≡ [] }
     requires one_each { length work.now.lists.now ≡ shared.now.clerks }
-    requires few { All (λ list. length list ≤ most_records) work.now.lists.now }
     ensures { HasServed shared.now clerk.sheet.number (list_of work.now.lists.now clerk.sheet.number)
         result.clerk result.served }
 {
@@ -147,33 +147,6 @@ fn serve_rest(desk: &mut Desk, lists: &[Requests], served: &[u32]) -> Result<(),
     Ok(())
 }
 
-/// All clerks serve their requests, each in a thread of its own where one can be made. They are back in the
-/// order of their numbers.
-fn serve_side_by_side<T: Threads + Sync, G: Gate>(
-    rt: &T,
-    shared: &SharedDesk,
-    clerks: Vec<Clerk>,
-    work: &Work<'_, G>,
-) -> Result<Vec<Returned>, AllocError>
-    requires fresh { AreNewcomers shared.now clerks.items }
-    requires one_each { length work.now.lists.now ≡ shared.now.clerks }
-    requires few { All (λ list. length list ≤ most_records) work.now.lists.now }
-    ensures { IfOk result (λ back. AreBack shared.now work.now.lists.now
-        (map (λ r. r.clerk) back.items) (map (λ r. r.served) back.items)) }
-{
-    map_vec(
-        rt,
-        clerks,
-        &|clerk: Clerk| -> Returned
-            requires { (clerk.desk ≡ shared.now) × (clerk.sheet.mine ≡ [])
-                × (length work.now.lists.now ≡ shared.now.clerks)
-                × All (λ list. length list ≤ most_records) work.now.lists.now }
-            ensures { HasServed shared.entry.now clerk.sheet.number
-                (list_of work.entry.now.lists.now clerk.sheet.number) result.clerk result.served }
-        { serve_own(shared, clerk, work) },
-    )
-}
-
 /// The clerks who are back, and how many requests each of them served. Out of memory, where one of them was.
 fn taken_back(alloc: Global, back: Vec<Returned>) -> Result<(Vec<Clerk>, Vec<u32>), NoMemory>
     ensures { IfOk result (λ both. (both.0.items ≡ map (λ r. r.clerk) back.items)
@@ -191,7 +164,8 @@ fn taken_back(alloc: Global, back: Vec<Returned>) -> Result<(Vec<Clerk>, Vec<u32
     Ok((clerks, served))
 }
 
-/// These clerks serve the requests of a script, and are back. Out of memory, where one of them was.
+/// All clerks serve their requests, each in a thread of its own where one can be made. They are back in the
+/// order of their numbers. Out of memory, where one of them was.
 fn serve_together<T: Threads + Sync, G: Gate>(
     rt: &T,
     alloc: Global,
@@ -201,37 +175,19 @@ fn serve_together<T: Threads + Sync, G: Gate>(
 ) -> Result<(Vec<Clerk>, Vec<u32>), NoMemory>
     requires fresh { AreNewcomers shared.now clerks.items }
     requires one_each { length work.now.lists.now ≡ shared.now.clerks }
-    requires few { All (λ list. length list ≤ most_records) work.now.lists.now }
     ensures { IfOk result (λ both. AreBack shared.now work.now.lists.now both.0.items both.1.items) }
 {
-    let back = serve_side_by_side(rt, shared, clerks, work)?;
+    let back = map_vec(
+        rt,
+        clerks,
+        &|clerk: Clerk| -> Returned
+            requires { (clerk.desk ≡ shared.now) × (clerk.sheet.mine ≡ [])
+                × (length work.now.lists.now ≡ shared.now.clerks) }
+            ensures { HasServed shared.entry.now clerk.sheet.number
+                (list_of work.entry.now.lists.now clerk.sheet.number) result.clerk result.served }
+        { serve_own(shared, clerk, work) },
+    )?;
     taken_back(alloc, back)
-}
-
-/// The desk of clerks who are back, after what they left over is served, clerks in rising number.
-fn closed(
-    shared: SharedDesk,
-    clerks: Vec<Clerk>,
-    served: &[u32],
-    lists: &[Requests],
-) -> Result<Desk, NoMemory>
-    requires empty { shared.start.journal ≡ [] }
-    requires room { shared.start.room ≡ program_room }
-    requires range { shared.clerks ≤ most_clerks }
-    requires one_each { length lists.now ≡ shared.clerks }
-    requires few { All (λ list. length list ≤ most_records) lists.now }
-    requires back { AreBack shared lists.now clerks.items served.now }
-    ensures start { IfOk result (λ desk. desk ≡ desk_with shared.start desk.journal) }
-    ensures serves { IfOk result (λ desk. ServesAll lists.now desk.journal) }
-{
-    let mut desk = shared.finish(clerks).unwrap();
-    match serve_rest(&mut desk, lists, served) {
-        Ok(()) => Ok(desk),
-        Err(refused) => {
-            drop(desk);
-            Err(refused)
-        }
-    }
 }
 
 /// These clerks of a shared desk serve the requests of a script, and it is closed. What they leave over is
@@ -248,18 +204,20 @@ fn serve_shared<T: Threads + Sync, G: Gate>(
     requires fresh { AreNewcomers shared clerks.items }
     requires range { shared.clerks ≤ most_clerks }
     requires one_each { length work.now.lists.now ≡ shared.clerks }
-    requires few { All (λ list. length list ≤ most_records) work.now.lists.now }
     ensures start { IfOk result (λ desk. desk ≡ desk_with shared.start desk.journal) }
     ensures serves { IfOk result (λ desk. ServesAll work.now.lists.now desk.journal) }
 {
-    match serve_together(rt, alloc, &shared, clerks, work) {
-        Ok((clerks, served)) => {
-            let desk = closed(shared, clerks, served.as_slice(), work.lists);
-            drop(served);
-            desk
-        }
+    let Ok((clerks, served)) = serve_together(rt, alloc, &shared, clerks, work) else {
+        drop(shared);
+        return Err(NoMemory);
+    };
+    let mut desk = shared.finish(clerks).unwrap();
+    let rest = serve_rest(&mut desk, work.lists, served.as_slice());
+    drop(served);
+    match rest {
+        Ok(()) => Ok(desk),
         Err(refused) => {
-            drop(shared);
+            drop(desk);
             Err(refused)
         }
     }
@@ -308,7 +266,6 @@ fn serve_all<T: Threads + Sync, G: Gate>(
     work: &Work<'_, G>,
 ) -> Result<Desk, ServeFault>
     requires one_each { length work.now.lists.now ≡ clerks_within clerks }
-    requires few { All (λ list. length list ≤ most_records) work.now.lists.now }
     ensures opening { IfOk result (λ desk. desk.opening ≡ opening_of election) }
     ensures room { IfOk result (λ desk. desk.room ≡ program_room) }
     ensures serves { IfOk result (λ desk. ServesAll work.now.lists.now desk.journal) }

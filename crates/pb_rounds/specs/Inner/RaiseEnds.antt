@@ -1,7 +1,6 @@
 -- What the outcome of a raise is to its completion. Only clauses of private functions speak of it.
 use Rattle.std.specs.Prelude.{◌≡◌, ◌≢◌, ℕ, List, ◌≤◌, IfOk, Result, Some, true, false}
 use Rattle.pb_core.specs.Election.{ElectionView}
-use Rattle.pb_price.specs.PriceFault.{is_worker_count}
 use Rattle.pb_price.specs.Price.{largest_share}
 use Rattle.pb_price.specs.Supporters.{SupportView, IsSupport, support_in}
 use Rattle.pb_price.specs.declared.grain.Grain.{Grain}
@@ -39,8 +38,7 @@ pub record IsFound {F : Type 0} (m : Measure) (s : SupportView) (budget share : 
 
 -- what an election can be completed with: the numbers are within their ranges, and the supporters are the
 -- election's own
-pub record CanComplete (e : ElectionView) (workers : ℕ) (s : SupportView) (step raises : ℕ) : Type 0 where
-  pub few_workers : is_worker_count workers ≡ true
+pub record CanComplete (e : ElectionView) (s : SupportView) (step raises : ℕ) : Type 0 where
   pub few_raises : raises ≤ most_raises
   pub own_supporters : s ≡ support_in s.grain e
   pub small : share_after s.grain e step raises ≤ largest_share

@@ -1,7 +1,14 @@
-use Rattle.std.proofs.Common.{◌≡◌, ◌+◌, ◌*◌, length, drop, subst, sym, ◌∙◌, ap, arith, get_or}
+use Rattle.std.proofs.Common.{◌≡◌, ◌<◌, ◌+◌, ◌*◌, length, drop, subst, sym, ◌∙◌, ap, arith, rules, get_or}
 use Rattle.pb_rounds.specs.Inner.RaiseEnds.{IsFound}
 use Rattle.pb_rounds.proofs.Trials.{whole_left}
 use Rattle.pb_rounds.proofs.side_by_side.try_group.Goals as goal
+
+pub for_each_chunk_mut-requires-clause-accepts : goal.for_each_chunk_mut-requires-clause-accepts
+for_each_chunk_mut-requires-clause-accepts g c κs within = λ start p chunk.
+    let below : start < length c.args.trials.now.items = omega (arith, chunk.nonempty, chunk.in_bounds, ap length c.as_mut_slice.ensures.value) in (
+      (omega (arith, chunk.nonempty, chunk.at_most_size), c.requires.small start below, omega (arith, c.requires.few, below), c.requires.front, c.requires.of),
+      search rules,
+    )
 
 pub returns-clause-len : goal.returns-clause-len
 returns-clause-len g c =

@@ -4,8 +4,5 @@ use Rattle.pb_script.proofs.serve_script.serve_all.Goals as goal
 pub returns-in-Err-clause-err : goal.returns-in-Err-clause-err
 returns-in-Err-clause-err g c = rw c.unshared.ensures (unserved c.args.clerks c.in-Ok.desk c.in-Err.fault c.in-Err.ensures.err)
 
-pub serve_shared-requires-clause-few : goal.serve_shared-requires-clause-few
-serve_shared-requires-clause-few g c = λ κs bounds. c.requires.few
-
 pub returns-clause-serves : goal.returns-clause-serves
 returns-clause-serves g c = c.in_ok-serve_shared.ensures.serves

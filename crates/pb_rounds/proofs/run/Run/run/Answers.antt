@@ -38,7 +38,7 @@ loop-best-preserved g c = record {
   queued = round_more _ _ _ _ _ _ _ _ c.loop-best.invariant.queued c.loop-best.invariant.is_support
       _ _ _ c.in_ok-best.field-0 c.in_ok-best.ensures.priced c.in_ok-best.ensures.done c.price_round.new.outcome c.in_ok-best.ensures.outcome c.in-Some.best c.in-Some.is c.elect.new.outcome c.in_ok-elect.ensures
       c.put_back.new.queue.keys (puts_at c.place.result c.in-Some.best.place c.place.ensures _ _ c.as_slice.ensures.value _ _ c.in_ok-put_back.ensures)
-      (some_worker c.args.pricing.now.workers c.requires.workers);
+      (some_worker c.args.pricing.now.workers c.args.pricing.now.few_workers);
 }
 
 pub returns : goal.returns

@@ -6,16 +6,15 @@ use Rattle.pb_rounds.proofs.side_by_side.Raising.jump_ahead.Goals as goal
 
 pub jump-requires-clause-given : goal.jump-requires-clause-given
 jump-requires-clause-given g c κs within = record {
-  few_workers = c.requires.given.few_workers;
-  few_raises = omega (arith, c.requires.given.few_raises, c.target-target.ensures);
-  own_supporters = c.requires.given.own_supporters;
+  few_raises = omega (arith, c.args.self.now.given.few_raises, c.target-target.ensures);
+  own_supporters = c.args.self.now.given.own_supporters;
   small =
       let fewer : c.target-target.result * c.args.self.now.step ≤ c.args.self.now.max_raises * c.args.self.now.step = mul-le-mul_right c.args.self.now.step (omega (arith, c.target-target.ensures)) in
-      omega (arith, fewer, c.requires.given.small);
+      omega (arith, fewer, c.args.self.now.given.small);
 }
 
 pub overflow_add-next : goal.overflow_add-next
-overflow_add-next g c = omega (arith, c.requires.given.few_raises, c.target-target.ensures)
+overflow_add-next g c = omega (arith, c.args.self.now.given.few_raises, c.target-target.ensures)
 
 pub loop-preserved : goal.loop-preserved
 loop-preserved g c =

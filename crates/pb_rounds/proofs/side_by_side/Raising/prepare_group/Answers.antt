@@ -7,12 +7,12 @@ use Rattle.pb_rounds.proofs.side_by_side.Raising.prepare_group.Goals as goal
 pub raised_share-share-requires : goal.raised_share-share-requires
 raised_share-share-requires g c =
     raised_fits c.args.self.now.pricing.now.supporters.now.grain c.args.self.now.election.now c.args.self.now.step c.args.self.now.max_raises c.args.next
-    c.opening_of-opening.result c.opening_of-opening.ensures.share c.requires.next c.requires.given.small
+    c.opening_of-opening.result c.opening_of-opening.ensures.share c.requires.next c.args.self.now.given.small
 
 pub extend-requires-clause-small : goal.extend-requires-clause-small
 extend-requires-clause-small g c =
     let fits = raised_fits c.args.self.now.pricing.now.supporters.now.grain c.args.self.now.election.now c.args.self.now.step c.args.self.now.max_raises c.args.next
-    c.opening_of-opening.result c.opening_of-opening.ensures.share c.requires.next c.requires.given.small in
+    c.opening_of-opening.result c.opening_of-opening.ensures.share c.requires.next c.args.self.now.given.small in
     omega (arith, fits, c.raised_share-share.ensures)
 
 pub extend-requires-clause-from : goal.extend-requires-clause-from

@@ -12,7 +12,7 @@ no_number_is_none n same = cc
 pub try_group-requires-clause-small : goal.try_group-requires-clause-small
 try_group-requires-clause-small g c κs within = λ i below.
     raised_fits c.args.self.now.pricing.now.supporters.now.grain c.args.self.now.election.now c.args.self.now.step c.args.self.now.max_raises (c.args.next + i)
-    c.opening_of.result c.opening_of.ensures.share (omega (arith, below, c.requires.few)) c.requires.given.small
+    c.opening_of.result c.opening_of.ensures.share (omega (arith, below, c.requires.few)) c.args.self.now.given.small
 
 pub overflow_sub-result : goal.overflow_sub-result
 overflow_sub-result g c =
@@ -20,7 +20,7 @@ overflow_sub-result g c =
     let below : c.loop-i.i < length c.args.trials.now.items = omega (arith, c.loop-i-test.true, c.len-i-end.ensures, c.try_group.ensures.len) in
     let end = ended P (λ t. t.outcome.elected) (λ t. t.end) c.index.result.now _ c.index.ensures (c.try_group.ensures.ends c.loop-i.i c.index.result.now below).found c.in_ok-end.end c.in_ok-end.was in
     raised_once c.args.self.now.pricing.now.measure c.args.self.now.pricing.now.supporters.now.grain c.args.self.now.election.now c.args.self.now.step (c.args.next + c.loop-i.i) c.loop-i.invariant.tried
-    c.args.self.now.pricing.now.supporters.now c.requires.given.own_supporters c.opening_of.result c.opening_of.ensures.share
+    c.args.self.now.pricing.now.supporters.now c.args.self.now.given.own_supporters c.opening_of.result c.opening_of.ensures.share
     c.budget.result c.budget.ensures.budget _ c.in_ok-end.end end c.in-Over.is
 
 pub returns-in-Over-clause-decided : goal.returns-in-Over-clause-decided
@@ -31,7 +31,7 @@ returns-in-Over-clause-decided g c =
     let end = ended P (λ t. t.outcome.elected) (λ t. t.end) c.index.result.now _ c.index.ensures (c.try_group.ensures.ends c.loop-i.i c.index.result.now below).found c.in_ok-end.end c.in_ok-end.was in (
       omega (arith, within),
       over_decides c.args.self.now.pricing.now.measure c.args.self.now.pricing.now.supporters.now.grain c.args.self.now.election.now c.args.self.now.step (c.args.next + c.loop-i.i) c.loop-i.invariant.tried
-          c.args.self.now.pricing.now.supporters.now c.requires.given.own_supporters c.opening_of.result c.opening_of.ensures.share
+          c.args.self.now.pricing.now.supporters.now c.args.self.now.given.own_supporters c.opening_of.result c.opening_of.ensures.share
           c.budget.result c.budget.ensures.budget _ c.in_ok-end.end end c.in-Over.is c.args.self.now.max_raises within,
     )
 
@@ -43,7 +43,7 @@ returns-in-Exhausted-clause-decided g c =
     let end = ended P (λ t. t.outcome.elected) (λ t. t.end) c.index.result.now _ c.index.ensures (c.try_group.ensures.ends c.loop-i.i c.index.result.now below).found c.in_ok-end.end c.in_ok-end.was in (
       within,
       exhausted_decides c.args.self.now.pricing.now.measure c.args.self.now.pricing.now.supporters.now.grain c.args.self.now.election.now c.args.self.now.step (c.args.next + c.loop-i.i) c.loop-i.invariant.tried
-          c.args.self.now.pricing.now.supporters.now c.requires.given.own_supporters c.opening_of.result c.opening_of.ensures.share
+          c.args.self.now.pricing.now.supporters.now c.args.self.now.given.own_supporters c.opening_of.result c.opening_of.ensures.share
           c.budget.result c.budget.ensures.budget _ c.in_ok-end.end end c.in-Exhausted.is c.args.self.now.max_raises within,
     )
 
@@ -67,7 +67,7 @@ loop-i-preserved g c =
     record {
       tried = λ raises below.
           goes_on c.args.self.now.pricing.now.measure c.args.self.now.pricing.now.supporters.now.grain c.args.self.now.election.now c.args.self.now.step (c.args.next + c.loop-i.i) c.loop-i.invariant.tried
-          c.args.self.now.pricing.now.supporters.now c.requires.given.own_supporters c.opening_of.result c.opening_of.ensures.share
+          c.args.self.now.pricing.now.supporters.now c.args.self.now.given.own_supporters c.opening_of.result c.opening_of.ensures.share
           c.budget.result c.budget.ensures.budget _ c.in_ok-end.end end c.in-GoesOn.is raises (omega (arith, below));
       elects = λ d some.
           let trials = c.try_group.new.trials.items in
@@ -75,7 +75,7 @@ loop-i-preserved g c =
           let raised : c.args.next + c.loop-i.i ≡ c.args.next + (c.loop-i.i + 1) - 1 = omega arith in
           ap (λ t. t.outcome.elected) (here ∙ get_or_default trials c.loop-i.i d c.index.result.now (omega (arith, within, c.try_group.ensures.len)))
           ∙ goes_on_elects c.args.self.now.pricing.now.measure c.args.self.now.pricing.now.supporters.now.grain c.args.self.now.election.now c.args.self.now.step (c.args.next + c.loop-i.i) c.loop-i.invariant.tried
-          c.args.self.now.pricing.now.supporters.now c.requires.given.own_supporters c.opening_of.result c.opening_of.ensures.share
+          c.args.self.now.pricing.now.supporters.now c.args.self.now.given.own_supporters c.opening_of.result c.opening_of.ensures.share
           c.budget.result c.budget.ensures.budget _ c.in_ok-end.end end c.in-GoesOn.is
           ∙ ap (elected_after c.args.self.now.pricing.now.measure c.args.self.now.pricing.now.supporters.now.grain c.args.self.now.election.now c.args.self.now.step) raised;
     }

@@ -1,6 +1,6 @@
 use Rattle.std.proofs.Common.{◌≡◌, length}
 use Rattle.pb_rounds.specs.Inner.Queue.{PricesHeads}
-use Rattle.pb_rounds.proofs.run.Run.price_batches.Given as goal
+use Rattle.pb_rounds.proofs.run.Run.price_round.Given as goal
 
 abbrev pub invariant-loop-self : goal.invariant-loop-self
 invariant-loop-self g l = record {
