@@ -13,8 +13,8 @@ use Rattle.pb_rounds.specs.declared.count_fault.CountFault.TheVariants as count
 use Rattle.pb_rounds.specs.declared.rule.Rule.{Rule}
 use Rattle.pb_rows.specs.Reading.{Fields, records_of}
 use Rattle.pb_commands.proofs.Accepted.{given_fault}
+use Rattle.pb_commands.proofs.CountEnds.{count_reads}
 use Rattle.pb_commands.specs.Closed.{Gives}
-use Rattle.pb_commands.specs.Inner.Checked.{CheckFails}
 use Rattle.pb_faults.specs.Fault.{merged}
 use Rattle.pb_faults.specs.declared.fault.AppFault.{AppFault}
 use Rattle.pb_faults.specs.declared.fault.AppFault.TheVariants.{Count, Memory, Write}
@@ -56,29 +56,14 @@ known_listed None faults before shown after same listed seen = tt
 known_listed (Some bytes) faults before shown after same listed seen =
     (listed, subst (λ (x : Option (List Sight)). length faults < 1000 → WereShown (records_of bytes) faults (IsAll (records_of bytes)) before x) (sym same) seen)
 
--- the count of the file's election is refused
-fails_of : (records : List Fields) (faults : List ReadFault) (election : Option ElectionView) (rule : Rule) (app : AppFault) → IsHandedOut records faults election
-    → CheckFails (λ e. election ≡ Some e) rule app → CheckFails (StandsFor records) rule app
-fails_of records faults election rule (Count count.NoMemory) handed fails = absurd fails
-fails_of records faults election rule (Count fault) handed fails =
-    (fails.0, handed_stands records faults fails.0 (subst (λ x. IsHandedOut records faults x) fails.1 handed), fails.2)
-fails_of records faults election rule app handed fails = fails
-
 -- what a check against a count answers of a file
 abbrev pub IsAnswered : Rule → List ℕ → AppFault → Type 0
 IsAnswered rule bytes app = (app ≡ Write) ⊎ (app ≡ Memory) ⊎ ((why : CountFault) × (app ≡ Count why) × (why ≢ count.NoMemory) × Gives (IsFaultIn rule) bytes None why)
 
-answered : (bytes : List ℕ) (rule : Rule) (app : AppFault) → CheckFails (StandsFor (records_of bytes)) rule app → IsAnswered rule bytes app
-answered bytes rule (Count count.NoMemory) fails = absurd fails
-answered bytes rule (Count fault) fails = inr (inr (fault, refl, λ is. cc, fails))
-answered bytes rule app (inl is) = inl is
-answered bytes rule app (inr is) = inr (inl is)
-
-pub known_fails : (known : Option (List ℕ)) (faults : List ReadFault) (election : Option ElectionView) (rule : Rule) (app : AppFault)
-    → IfSome known (λ bytes. IsHandedOut (records_of bytes) faults election) → CheckFails (λ e. election ≡ Some e) rule app
-    → IfSome known (λ bytes. IsAnswered rule bytes app)
-known_fails None faults election rule app handed fails = tt
-known_fails (Some bytes) faults election rule app handed fails = answered bytes rule app (fails_of (records_of bytes) faults election rule app handed fails)
+-- the writer failed
+pub write_fails : (known : Option (List ℕ)) (rule : Rule) (app : AppFault) → app ≡ Write → IfSome known (λ bytes. IsAnswered rule bytes app)
+write_fails None rule app is = tt
+write_fails (Some bytes) rule app is = inl is
 
 -- memory was refused
 memory_fails : (known : Option (List ℕ)) (rule : Rule) → IfSome known (λ bytes. IsAnswered rule bytes Memory)
@@ -89,40 +74,31 @@ pub memory_refused : {T : Type 0} (known : Option (List ℕ)) (rule : Rule) (r :
     → IfErr r (λ app. IfSome known (λ bytes. IsAnswered rule bytes app))
 memory_refused known rule r is = given_fault (λ app. IfSome known (λ bytes. IsAnswered rule bytes app)) r Memory is (memory_fails known rule)
 
--- a count is refused
-count_fails : (IsIt : ElectionView → Type 0) (e : ElectionView) (rule : Rule) (fault : CountFault) → IsIt e → (fault ≢ count.NoMemory → IsFaultIn rule e fault) → CheckFails IsIt rule (merged (Count fault))
-count_fails IsIt e rule count.NoMemory is fails = inr refl
-count_fails IsIt e rule count.WorkerCount is fails = (e, is, fails (λ same. cc))
-count_fails IsIt e rule count.StepRange is fails = (e, is, fails (λ same. cc))
-count_fails IsIt e rule count.RaisesRange is fails = (e, is, fails (λ same. cc))
-count_fails IsIt e rule count.RaisesSpent is fails = (e, is, fails (λ same. cc))
-count_fails IsIt e rule count.TooFine is fails = (e, is, fails (λ same. cc))
+-- the count of the election that is handed out is refused
+module _ (rule : Rule) (faults : List ReadFault) (election : Option ElectionView) where
+  abbrev IsRefused : CountFault → Type 0
+  IsRefused fault = fault ≢ count.NoMemory → (e : ElectionView) × (election ≡ Some e) × IsFaultIn rule e fault
 
-pub count_refused : {T : Type 0} (IsIt : ElectionView → Type 0) (e : ElectionView) (rule : Rule) (fault : CountFault) (r : Result T AppFault)
-    → IsErrAnd r (λ app. app ≡ merged (Count fault)) → IsIt e → (fault ≢ count.NoMemory → IsFaultIn rule e fault) → IfErr r (CheckFails IsIt rule)
-count_refused IsIt e rule fault r from is fails = given_fault (CheckFails IsIt rule) r (merged (Count fault)) from (count_fails IsIt e rule fault is fails)
+  answered : (bytes : List ℕ) (fault : CountFault) → IsHandedOut (records_of bytes) faults election → IsRefused fault → fault ≢ count.NoMemory → IsAnswered rule bytes (Count fault)
+  answered bytes fault handed refused other =
+      let of = refused other in
+      inr (inr (fault, refl, other, (of.0, handed_stands (records_of bytes) faults of.0 (subst (λ x. IsHandedOut (records_of bytes) faults x) of.1 handed), of.2)))
 
--- memory was refused beside a count
-pub out_of_memory : {T : Type 0} (IsIt : ElectionView → Type 0) (rule : Rule) (r : Result T AppFault) → IsErrAnd r (λ app. app ≡ Memory) → IfErr r (CheckFails IsIt rule)
-out_of_memory IsIt rule r from = given_fault (CheckFails IsIt rule) r Memory from (inr refl)
+  count_fails : (known : Option (List ℕ)) (fault : CountFault) → IfSome known (λ bytes. IsHandedOut (records_of bytes) faults election) → IsRefused fault
+      → IfSome known (λ bytes. IsAnswered rule bytes (merged (Count fault)))
+  count_fails None fault handed refused = tt
+  count_fails (Some bytes) count.NoMemory handed refused = inr (inl refl)
+  count_fails (Some bytes) count.WorkerCount handed refused = answered bytes count.WorkerCount handed refused (λ same. cc)
+  count_fails (Some bytes) count.StepRange handed refused = answered bytes count.StepRange handed refused (λ same. cc)
+  count_fails (Some bytes) count.RaisesRange handed refused = answered bytes count.RaisesRange handed refused (λ same. cc)
+  count_fails (Some bytes) count.RaisesSpent handed refused = answered bytes count.RaisesSpent handed refused (λ same. cc)
+  count_fails (Some bytes) count.TooFine handed refused = answered bytes count.TooFine handed refused (λ same. cc)
 
--- the writer failed, or memory was refused: neither is a count's
-outside_fails : (IsIt : ElectionView → Type 0) (rule : Rule) (app : AppFault) → (app ≡ Write) ⊎ (app ≡ Memory) → CheckFails IsIt rule app
-outside_fails IsIt rule app (inl is) = subst (λ x. CheckFails IsIt rule x) (sym is) (inl refl)
-outside_fails IsIt rule app (inr is) = subst (λ x. CheckFails IsIt rule x) (sym is) (inr refl)
+  pub count_refused : {T : Type 0} (known : Option (List ℕ)) (fault : CountFault) (r : Result T AppFault) → IsErrAnd r (λ app. app ≡ merged (Count fault))
+      → IfSome known (λ bytes. IsHandedOut (records_of bytes) faults election) → IsRefused fault → IfErr r (λ app. IfSome known (λ bytes. IsAnswered rule bytes app))
+  count_refused known fault r from handed refused =
+      given_fault (λ app. IfSome known (λ bytes. IsAnswered rule bytes app)) r (merged (Count fault)) from (count_fails known fault handed refused)
 
-pub outside_refused : {T : Type 0} (IsIt : ElectionView → Type 0) (rule : Rule) (r : Result T AppFault) → IfErr r (λ app. (app ≡ Write) ⊎ (app ≡ Memory)) → IfErr r (CheckFails IsIt rule)
-outside_refused IsIt rule (Ok done) out = tt
-outside_refused IsIt rule (Err app) out = outside_fails IsIt rule app out
-
--- none of these is the writer's
-count_reads : (fault : CountFault) → merged (Count fault) ≢ Write
-count_reads count.NoMemory is = cc is
-count_reads count.WorkerCount is = cc is
-count_reads count.StepRange is = cc is
-count_reads count.RaisesRange is = cc is
-count_reads count.RaisesSpent is = cc is
-count_reads count.TooFine is = cc is
-
-pub count_unwritten : {T : Type 0} (fault : CountFault) (r : Result T AppFault) → IsErrAnd r (λ app. app ≡ merged (Count fault)) → IfErr r (λ app. app ≢ Write)
-count_unwritten fault r from = given_fault (λ app. app ≢ Write) r (merged (Count fault)) from (count_reads fault)
+-- no count's fault is the writer's
+pub count_unwritten : {T : Type 0} (X : Type 0) (fault : CountFault) (r : Result T AppFault) → IsErrAnd r (λ app. app ≡ merged (Count fault)) → IfErr r (λ app. app ≡ Write → X)
+count_unwritten X fault r from = given_fault (λ app. app ≡ Write → X) r (merged (Count fault)) from (λ is. absurd (count_reads fault is))

@@ -20,7 +20,7 @@ pub count_late : (fault : CountFault) → IsLate (merged (Count fault))
 count_late count.NoMemory = tt
 count_late fault = tt
 
-count_reads : (fault : CountFault) → merged (Count fault) ≢ Write
+pub count_reads : (fault : CountFault) → merged (Count fault) ≢ Write
 count_reads count.NoMemory is = cc
 count_reads fault is = cc
 

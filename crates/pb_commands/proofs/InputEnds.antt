@@ -1,5 +1,6 @@
 -- How the reading of an election ends, of a desk, and of the election that it leaves.
 use Rattle.std.proofs.Common.{◌≡◌, ◌≢◌, ℕ, List, [], ◌∷◌, length, Option, Some, None, Ok, Err, false, true, refl, sym, ◌∙◌, ap, subst}
+use Rattle.std.specs.Option.{option_map}
 use Rattle.std.specs.Prelude.{IfErr, IfOk, IfSome, IsErrAnd, Result}
 use Rattle.std.proofs.lemmas.Bool.{true≢false}
 use Rattle.std.proofs.lemmas.Option.{none-some}
@@ -21,11 +22,14 @@ use Rattle.pb_rows.specs.Reading.{records_of}
 use Rattle.pb_script.specs.Serving.{program_room}
 use Rattle.pb_commands.proofs.Accepted.{audit_again, read_again, read_from_outside}
 use Rattle.pb_commands.proofs.AuditAccepted.{desk_of, journal_from_outside, one_desk}
-use Rattle.pb_commands.proofs.Endings.{Bars, FailsAs, IsElectionFile, IsHeard, IsLate, Look, given, given_end, known_map, late_end, memory_end, passed_on}
+use Rattle.pb_commands.proofs.Endings.{Bars, FailsAs, IsElectionFile, IsHeard, IsLate, Look, given, given_end, known_map, known_some, late_end, memory_end, passed_on}
 use Rattle.pb_commands.specs.Audited.{IsDeskOf}
 use Rattle.pb_commands.specs.Closed.{Leaves, LeavesNone}
 use Rattle.pb_commands.specs.Ends.{Ends, IfBothKnown, Judges}
+use Rattle.pb_commands.specs.Inner.Inputs.{of_input}
 use Rattle.pb_commands.specs.Inner.Outside.{IsOutsideFault}
+use Rattle.pb_commands.specs.declared.input_fault.InputFault.{InputFault}
+use Rattle.pb_commands.specs.declared.input_fault.InputFault.TheVariants as input
 use Rattle.pb_faults.specs.Fault.{merged}
 use Rattle.pb_faults.specs.declared.fault.AppFault.{AppFault}
 use Rattle.pb_faults.specs.declared.fault.AppFault.TheVariants.{Read, Audit, OpenDesk, Write, Memory, Warned}
@@ -58,17 +62,22 @@ pub not_that : {T : Type 0} (r : Result T AppFault) (fault that : AppFault) → 
 not_that (Ok done) fault that is other = tt
 not_that (Err app) fault that is other = λ same. other (sym is ∙ same)
 
-pub reader_reads : {T : Type 0} (r : Result T AppFault) (fault : ReadFault) → IsErrAnd r (λ app. app ≡ merged (Read fault)) → IfErr r (λ app. app ≢ Write)
-reader_reads r fault is = not_that r (merged (Read fault)) Write is (read_reads fault.kind fault.at).0
+-- nor is any fault of the inputs
+pub input_reads : (fault : InputFault) → (of_input fault ≢ Write) × (of_input fault ≢ OpenDesk)
+input_reads (input.File fault) = read_reads fault.kind fault.at
+input_reads (input.Warned warning) = (λ is. cc, λ is. cc)
+input_reads (input.Journal fault) = audit_reads fault
+input_reads input.Memory = (λ is. cc, λ is. cc)
 
-pub reader_of_any : {T : Type 0} (r : Result T AppFault) (fault : ReadFault) → IsErrAnd r (λ app. app ≡ merged (Read fault)) → IfErr r (λ app. app ≢ OpenDesk)
-reader_of_any r fault is = not_that r (merged (Read fault)) OpenDesk is (read_reads fault.kind fault.at).1
+pub inputs_read : {T : Type 0} (r : Result T AppFault) (fault : InputFault) → IsErrAnd r (λ app. app ≡ of_input fault) → IfErr r (λ app. app ≢ Write)
+inputs_read r fault is = not_that r (of_input fault) Write is (input_reads fault).0
 
-pub journal_reads : {T : Type 0} (r : Result T AppFault) (fault : AuditFault) → IsErrAnd r (λ app. app ≡ merged (Audit fault)) → IfErr r (λ app. app ≢ Write)
-journal_reads r fault is = not_that r (merged (Audit fault)) Write is (audit_reads fault).0
+pub inputs_of_any : {T : Type 0} (r : Result T AppFault) (fault : InputFault) → IsErrAnd r (λ app. app ≡ of_input fault) → IfErr r (λ app. app ≢ OpenDesk)
+inputs_of_any r fault is = not_that r (of_input fault) OpenDesk is (input_reads fault).1
 
-pub journal_of_any : {T : Type 0} (r : Result T AppFault) (fault : AuditFault) → IsErrAnd r (λ app. app ≡ merged (Audit fault)) → IfErr r (λ app. app ≢ OpenDesk)
-journal_of_any r fault is = not_that r (merged (Audit fault)) OpenDesk is (audit_reads fault).1
+pub input_undemanded : {T : Type 0} (X : Type 0) (r : Result T AppFault) (fault : InputFault) → IsErrAnd r (λ app. app ≡ of_input fault) → IfErr r (λ app. app ≡ OpenDesk → X)
+input_undemanded X (Ok done) fault is = tt
+input_undemanded X (Err app) fault is = λ same. absurd ((input_reads fault).1 (sym is ∙ same))
 
 -- what is so of bytes that may be known
 if_some : (P Q : List ℕ → Type 0) (files : Option (List ℕ)) → ((bytes : List ℕ) → P bytes → Q bytes) → IfSome files P → IfSome files Q
@@ -197,10 +206,11 @@ module _ (files journals : Option (List ℕ)) (look : Look) where
       subst (λ fault. Ends {T = ElectionView} (λ bytes rows. Leaves bytes (Some rows)) (λ bytes rows. LeavesNone bytes (Some rows)) files journals look (Err fault)) (sym is)
       (memory_end (λ bytes rows. Leaves bytes (Some rows)) (λ bytes rows. LeavesNone bytes (Some rows)) files journals look file none)
 
-  pub left_is : (d : DeskView) (r : Result ElectionView AppFault) → IfOk r (λ e. e ≡ closed_election d) → IfBothKnown files journals (λ bytes rows. IsDeskOf bytes rows d)
-      → (standing_of d).is_shut ≡ true → IfOk r (λ e. IfBothKnown files journals (λ bytes rows. Leaves bytes (Some rows) e))
-  left_is d (Ok e) is desk shut = known_map (λ bytes rows. IsDeskOf bytes rows d) (λ bytes rows. Leaves bytes (Some rows) e) files journals (λ bytes rows desk. (d, desk, (shut, is))) desk
-  left_is d (Err fault) is desk shut = tt
+  pub left_known : (d : DeskView) (r : Result ElectionView AppFault) → IfOk r (λ e. e ≡ closed_election d) → IfBothKnown files journals (λ bytes rows. IsDeskOf bytes rows d)
+      → (standing_of d).is_shut ≡ true → IfOk r (λ e. IfBothKnown files (option_map Some journals) (λ bytes journal. Leaves bytes journal e))
+  left_known d (Ok e) is desk shut = known_some (λ bytes journal. Leaves bytes journal e) files journals
+      (known_map (λ bytes rows. IsDeskOf bytes rows d) (λ bytes rows. Leaves bytes (Some rows) e) files journals (λ bytes rows desk. (d, desk, (shut, is))) desk)
+  left_known d (Err fault) is desk shut = tt
 
 pub left_reads : (r : Result ElectionView AppFault) → IfErr r (λ fault. fault ≡ Memory) → IfErr r (λ fault. fault ≢ Write)
 left_reads (Ok e) is = tt

@@ -22,7 +22,6 @@ mod ExactWords
 pub mod TableColumns
 pub mod PaymentsInFile
 pub mod PaymentsText
-pub mod CheckWritten
 mod FrontsWritten
 pub mod CheckedAgainst
 pub mod BallotsRuns

@@ -8,6 +8,7 @@ pub mod Checked
 pub mod DeskRun
 pub mod Exporting
 pub mod History
+pub mod Inputs
 pub mod Report
 pub mod Tables
 pub mod WhatIf

@@ -5,7 +5,9 @@ ghost use Rattle.pb_desk.specs.Desk.{closed_election, standing_of};
 ghost use Rattle.pb_commands.specs.Audited.{IsDeskOf};
 ghost use Rattle.pb_commands.specs.Closed.{Leaves, LeavesNone};
 ghost use Rattle.pb_commands.specs.Ends.{Ends, IfBothKnown, known};
+ghost use Rattle.pb_commands.specs.Inner.Inputs.{as_run};
 
+use crate::input_fault::InputFault;
 use pb_core::election::Election;
 use pb_desk::{Desk, IntoFault, audit};
 use pb_faults::AppFault;
@@ -39,9 +41,15 @@ pub fn election_of<P: Read + Drop, J: Read + Drop, H: Heed>(
     ensures reads { IfErr result (λ fault. fault ≢ AppFault.Write) }
 {
     let Inputs { file, journal } = inputs;
-    match journal {
-        None => own_election(alloc, file, watch),
-        Some(journal) => left_election(alloc, file, journal, watch),
+    let Some(journal) = journal else {
+        return Ok(own_election(alloc, file, watch)?);
+    };
+    let desk = audited_desk(alloc, file, journal, watch)?;
+    if desk.is_shut() {
+        left_by(desk)
+    } else {
+        drop(desk);
+        Err(AppFault::OpenDesk)
     }
 }
 
@@ -50,18 +58,19 @@ pub(crate) fn own_election<P: Read + Drop, H: Heed>(
     alloc: Global,
     file: P,
     watch: &mut H,
-) -> Result<Election, AppFault>
+) -> Result<Election, InputFault>
     ensures ok { IfOk result (λ e. IfBothKnown (P.remaining file) (Some None)
         (λ bytes journal. Leaves bytes journal e)) }
     ensures ends { Ends Leaves LeavesNone (P.remaining file) (Some None)
-        (H.refused_for watch.new, H.shown watch.old, H.shown watch.new) result }
-    ensures any { IfErr result (λ fault. fault ≢ AppFault.OpenDesk) }
-    ensures reads { IfErr result (λ fault. fault ≢ AppFault.Write) }
+        (H.refused_for watch.new, H.shown watch.old, H.shown watch.new) (as_run result) }
 {
-    let election = read_pb_watched(alloc, file, watch)?;
+    let election = match read_pb_watched(alloc, file, watch) {
+        Ok(election) => election,
+        Err(fault) => return Err(InputFault::File(fault)),
+    };
     if let Some(warning) = watch.refusal() {
         drop(election);
-        return Err(AppFault::Warned(warning));
+        return Err(InputFault::Warned(warning));
     }
     Ok(election)
 }
@@ -72,44 +81,19 @@ pub(crate) fn audited_desk<P: Read + Drop, J: Read + Drop, H: Heed>(
     file: P,
     journal: J,
     watch: &mut H,
-) -> Result<Desk, AppFault>
+) -> Result<Desk, InputFault>
     ensures ok { IfOk result (λ d. IfBothKnown (P.remaining file) (J.remaining journal) (λ bytes rows.
         IsDeskOf bytes rows d)) }
     ensures ends { Ends IsDeskOf (λ bytes rows. LeavesNone bytes (Some rows)) (P.remaining file)
-        (J.remaining journal) (H.refused_for watch.new, H.shown watch.old, H.shown watch.new) result }
-    ensures any { IfErr result (λ fault. fault ≢ AppFault.OpenDesk) }
-    ensures reads { IfErr result (λ fault. fault ≢ AppFault.Write) }
+        (J.remaining journal) (H.refused_for watch.new, H.shown watch.old, H.shown watch.new) (as_run result) }
 {
     let election = match own_election(alloc, file, watch) {
         Ok(election) => election,
         Err(fault) => return Err(fault),
     };
-    Ok(audit(alloc, election, ROOM, journal)?)
-}
-
-/// Reads a .pb file and a journal, and audits the journal: the election whose ballots are those that its shut
-/// desk leaves.
-fn left_election<P: Read + Drop, J: Read + Drop, H: Heed>(
-    alloc: Global,
-    file: P,
-    journal: J,
-    watch: &mut H,
-) -> Result<Election, AppFault>
-    ensures ok { IfOk result (λ e. IfBothKnown (P.remaining file) (J.remaining journal) (λ bytes rows.
-        Leaves bytes (Some rows) e)) }
-    ensures ends { Ends (λ bytes rows. Leaves bytes (Some rows)) (λ bytes rows. LeavesNone bytes (Some rows))
-        (P.remaining file) (J.remaining journal) (H.refused_for watch.new, H.shown watch.old, H.shown watch.new) result }
-    ensures reads { IfErr result (λ fault. fault ≢ AppFault.Write) }
-{
-    let desk = match audited_desk(alloc, file, journal, watch) {
-        Ok(desk) => desk,
-        Err(fault) => return Err(fault),
-    };
-    if desk.is_shut() {
-        left_by(desk)
-    } else {
-        drop(desk);
-        Err(AppFault::OpenDesk)
+    match audit(alloc, election, ROOM, journal) {
+        Ok(desk) => Ok(desk),
+        Err(fault) => Err(InputFault::Journal(fault)),
     }
 }
 

@@ -16,6 +16,7 @@ mod export_text;
 mod fairness_table;
 mod history_table;
 mod in_units;
+mod input_fault;
 mod inputs;
 pub mod laws;
 mod losers_table;

@@ -36,10 +36,7 @@ pub fn run_ballots<P: Read + Drop, J: Read + Drop, W: Write>(
     // An open desk is not refused.
     ensures any { IfErr result (λ fault. fault ≢ AppFault.OpenDesk) }
 {
-    let desk = match audited_desk(alloc, file, journal, &mut NoWatch) {
-        Ok(desk) => desk,
-        Err(fault) => return Err(fault),
-    };
+    let desk = audited_desk(alloc, file, journal, &mut NoWatch)?;
     let made = ballots_text(alloc, &desk, voter);
     drop(desk);
     let text = made?;

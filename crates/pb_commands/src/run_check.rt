@@ -13,8 +13,7 @@ ghost use Rattle.pb_read.specs.Shown.{IsAll, WereShown};
 ghost use Rattle.pb_read.specs.StandsFor.{StandsFor};
 ghost use Rattle.pb_commands.specs.Checked.{IsTextOfCheck, warning_row};
 ghost use Rattle.pb_commands.specs.Closed.{Gives};
-ghost use Rattle.pb_commands.specs.Inner.Checked.{CheckFails, fault_row};
-ghost use Rattle.pb_commands.specs.Inner.Written.{HasBegun, HasWritten};
+ghost use Rattle.pb_commands.specs.Inner.Checked.{fault_row};
 
 use crate::counting::{Counting, counted};
 use crate::report::{put_row, whole};
@@ -65,12 +64,11 @@ pub fn run_check<R: Read + Drop, W: Write, N: Warn>(
 {
     let checked = check_pb(alloc, reader, notes)?;
     let faults = checked.into_faults();
-    match put_out(alloc, writer, faults.as_slice(), notes) {
+    let warnings = notes.warnings()?;
+    let text = check_text(alloc, faults.as_slice(), warnings)?;
+    match write_out(writer, text.as_slice(), AppFault::Write) {
         Ok(()) => Ok(faults),
-        Err(fault) => {
-            drop(faults);
-            Err(fault)
-        }
+        Err(fault) => Err(fault),
     }
 }
 
@@ -121,41 +119,12 @@ pub fn run_check_against<T: Threads + Sync, R: Read + Drop, G: Gate, W: Write, N
 {
     let checked = check_pb(counting.alloc, reader, notes)?;
     let Checked { faults, election } = checked;
-    match put_checked(counting, writer, faults.as_slice(), election, notes) {
-        Ok(()) => Ok(faults),
-        Err(fault) => {
-            drop(faults);
-            Err(fault)
-        }
-    }
-}
-
-/// Writes the rows of what was checked, and counts the election for the warnings, if there is one.
-fn put_checked<T: Threads + Sync, G: Gate, W: Write, N: Compare>(
-    counting: &Counting<T, G>,
-    writer: &mut W,
-    faults: &[ReadFault],
-    election: Option<Election>,
-    notes: &mut N,
-) -> Result<(), AppFault>
-    ensures written { OnOk result
-        (HasWritten (IsTextOfCheck faults.now (N.warns notes.new)) (W.contents writer.old) (W.contents writer.new)) }
-    ensures compared { OnOk result (IfSome election (λ e.
-        (x : CountedElectionView) × IsCountIn counting.now.rule.now e x
-        × N.has_compared notes.new (map (slice_index x.order) (winners_of x.counted)))) }
-    ensures fault { IfErr result (CheckFails (λ e. election ≡ Some e) counting.now.rule.now) }
-    ensures unchanged { IfErr result (λ fault. fault ≢ AppFault.Write → writer.new ≡ writer.old) }
-    ensures front { IfErr result (λ fault. fault ≡ AppFault.Write
-        → HasBegun (IsTextOfCheck faults.now (N.warns notes.new)) (W.contents writer.old) (W.contents writer.new)) }
-    ensures still { IfErr result (λ fault. fault ≡ AppFault.Write → IfSome election (λ e.
-        (x : CountedElectionView) × IsCountIn counting.now.rule.now e x
-        × N.has_compared notes.new (map (slice_index x.order) (winners_of x.counted)))) }
-    ensures shown { N.shown notes.new ≡ N.shown notes.old }
-{
     let warnings = warnings_against(counting, election, notes)?;
-    let put = put_rows(counting.alloc, writer, faults, warnings.as_slice());
-    drop(warnings);
-    put
+    let rows = check_text(counting.alloc, faults.as_slice(), warnings)?;
+    match write_out(writer, rows.as_slice(), AppFault::Write) {
+        Ok(()) => Ok(faults),
+        Err(fault) => Err(fault),
+    }
 }
 
 /// The warnings of what was checked; where it handed out an election, those beside its count.
@@ -163,19 +132,22 @@ fn warnings_against<T: Threads + Sync, G: Gate, N: Compare>(
     counting: &Counting<T, G>,
     election: Option<Election>,
     notes: &mut N,
-) -> Result<Vec<WarningRow>, AppFault>
+) -> Result<Vec<WarningRow>, CountFault>
     ensures compared { OnOk result (IfSome election (λ e.
         (x : CountedElectionView) × IsCountIn counting.now.rule.now e x
         × N.has_compared notes.new (map (slice_index x.order) (winners_of x.counted)))) }
     ensures rows { IfOk result (λ rows. N.warns notes.new rows.items) }
-    ensures fault { IfErr result (CheckFails (λ e. election ≡ Some e) counting.now.rule.now) }
-    ensures reads { IfErr result (λ fault. fault ≢ AppFault.Write) }
+    ensures fault { IfErr result (λ fault. fault ≢ CountFault.NoMemory
+        → (e : ElectionView) × (election ≡ Some e) × IsFaultIn counting.now.rule.now e fault) }
     ensures shown { N.shown notes.new ≡ N.shown notes.old }
 {
     let Some(election) = election else {
         return Ok(notes.warnings()?);
     };
-    let count = counted(counting, election)?;
+    let count = match counted(counting, election) {
+        Ok(count) => count,
+        Err(fault) => return Err(fault),
+    };
     let winners = count.winners_in_file(counting.alloc)?;
     drop(count);
     let warnings = notes.warnings_beside(winners.as_slice());
@@ -183,74 +155,19 @@ fn warnings_against<T: Threads + Sync, G: Gate, N: Compare>(
     Ok(warnings?)
 }
 
-/// Writes the rows of these faults, and of the warnings of what was seen.
-fn put_out<W: Write, N: Warn>(
-    alloc: Global,
-    writer: &mut W,
-    faults: &[ReadFault],
-    notes: &mut N,
-) -> Result<(), AppFault>
-    ensures ok { OnOk result (HasWritten (IsTextOfCheck faults.now (N.warns notes.new)) (W.contents writer.old)
-        (W.contents writer.new)) }
-    ensures fault { IfErr result (λ fault. (fault ≡ AppFault.Write) ⊎ (fault ≡ AppFault.Memory)) }
-    ensures unchanged { IfErr result (λ fault. fault ≢ AppFault.Write → writer.new ≡ writer.old) }
-    ensures front { IfErr result (λ fault. fault ≡ AppFault.Write
-        → HasBegun (IsTextOfCheck faults.now (N.warns notes.new)) (W.contents writer.old) (W.contents writer.new)) }
-    ensures shown { N.shown notes.new ≡ N.shown notes.old }
-{
-    let warnings = notes.warnings()?;
-    let put = put_rows(alloc, writer, faults, warnings.as_slice());
-    drop(warnings);
-    put
-}
-
-/// Writes the rows of these faults, and of these warnings.
-fn put_rows<W: Write>(
-    alloc: Global,
-    writer: &mut W,
-    faults: &[ReadFault],
-    warnings: &[WarningRow],
-) -> Result<(), AppFault>
-    ensures ok { OnOk result (HasWritten (IsTextOfCheck faults.now (λ rows. rows ≡ warnings.now)) (W.contents writer.old)
-        (W.contents writer.new)) }
-    ensures fault { IfErr result (λ fault. (fault ≡ AppFault.Write) ⊎ (fault ≡ AppFault.Memory)) }
-    ensures unchanged { IfErr result (λ fault. fault ≢ AppFault.Write → writer.new ≡ writer.old) }
-    ensures front { IfErr result (λ fault. fault ≡ AppFault.Write
-        → HasBegun (IsTextOfCheck faults.now (λ rows. rows ≡ warnings.now)) (W.contents writer.old) (W.contents writer.new)) }
-{
-    let text = check_text(alloc, faults, warnings)?;
-    write_out(writer, text.as_slice(), AppFault::Write)
-}
-
 /// The text of the rows of these faults, and of these warnings.
 fn check_text(
     alloc: Global,
     faults: &[ReadFault],
-    warnings: &[WarningRow],
+    warnings: Vec<WarningRow>,
 ) -> Result<Vec<u8>, NoMemory>
-    ensures { IfOk result (λ text. IsTextOfCheck faults.now (λ rows. rows ≡ warnings.now) text.items) }
+    ensures { IfOk result (λ text. text.items
+        ≡ text_of_rows (map fault_row faults.now ++ map warning_row warnings.items)) }
 {
     let mut rows = RowsWriter::start(alloc);
-    match put_check(&mut rows, faults, warnings) {
-        Ok(()) => whole(rows),
-        Err(refused) => {
-            drop(rows);
-            Err(refused)
-        }
-    }
-}
-
-/// Puts the rows of faults and of warnings after those that stand there.
-fn put_check(
-    rows: &mut RowsWriter,
-    faults: &[ReadFault],
-    warnings: &[WarningRow],
-) -> Result<(), NoMemory>
-    ensures { OnOk result ((text : List ℕ)
-        × IsTextOfCheck faults.now (λ rows. rows ≡ warnings.now) text × (rows.new.text ≡ rows.old.text ++ text)) }
-{
-    put_faults(rows, faults)?;
-    put_warnings(rows, warnings)
+    put_faults(&mut rows, faults)?;
+    put_warnings(&mut rows, warnings.as_slice())?;
+    whole(rows)
 }
 
 /// Puts a row for each fault.

@@ -74,10 +74,7 @@ pub fn run_decided_audit<
         journal,
         demand,
     } = inputs;
-    let desk = match audited_desk(counting.alloc, file, journal, watch) {
-        Ok(desk) => desk,
-        Err(fault) => return Err(fault),
-    };
+    let desk = audited_desk(counting.alloc, file, journal, watch)?;
     *counts = EntryCounts::of(&desk, 0);
     if is_refused(&desk, demand) {
         drop(desk);

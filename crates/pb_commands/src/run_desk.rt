@@ -122,7 +122,7 @@ pub fn run_admitted_desk<
         Ok(election) => election,
         Err(fault) => {
             drop(rules);
-            return Err(fault);
+            return Err(AppFault::from(fault));
         }
     };
     let admission = match admission_of(alloc, rules, &election) {

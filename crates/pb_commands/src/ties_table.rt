@@ -33,40 +33,19 @@ pub(crate) fn ties_text<T: Threads + Sync, G: Gate>(
         → IsTiesOf rule e text.items) }
     ensures fault { IfErr result (AreUntold count) }
 {
-    match ids_of(counting.alloc, count.election()) {
-        Ok(ids) => {
-            let text = text_by_ids(counting, count, ids.as_slice());
-            drop(ids);
-            text
-        }
+    let alloc = counting.alloc;
+    let ids = match ids_of(alloc, count.election()) {
+        Ok(ids) => ids,
         Err(_) => {
             drop(count);
-            Err(AppFault::Memory)
+            return Err(AppFault::Memory);
         }
-    }
-}
-
-/// The same, where these are the ids of the projects.
-fn text_by_ids<T: Threads + Sync, G: Gate>(
-    counting: &Counting<T, G>,
-    count: CountedElection,
-    ids: &[String],
-) -> Result<Vec<u8>, AppFault>
-    requires { map string_bytes ids.now ≡ project_ids count.election }
-    ensures ok { IfOk result (λ text. (rule : Rule) (e : ElectionView) → IsCountIn rule e count
-        → IsTiesOf rule e text.items) }
-    ensures fault { IfErr result (AreUntold count) }
-{
-    let alloc = counting.alloc;
+    };
     match all_ties(counting.rt, alloc, counting.gate, count) {
-        Ok(Some(ties)) => {
-            let text = table_of(alloc, ids, &ties);
-            drop(ties);
-            match text {
-                Ok(text) => Ok(text),
-                Err(_) => Err(AppFault::Memory),
-            }
-        }
+        Ok(Some(ties)) => match table_of(alloc, ids.as_slice(), &ties) {
+            Ok(text) => Ok(text),
+            Err(_) => Err(AppFault::Memory),
+        },
         Ok(None) => Err(AppFault::TooManyRuns),
         Err(_) => Err(AppFault::Memory),
     }

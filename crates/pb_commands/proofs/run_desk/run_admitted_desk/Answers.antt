@@ -6,6 +6,8 @@ use Rattle.pb_script.specs.Served.{IsServeFault, IsServed}
 use Rattle.pb_script.specs.declared.admission.Admission.{Admission}
 use Rattle.pb_commands.proofs.DeskRuns.{desk_known, own_passes, script_ends}
 use Rattle.pb_commands.proofs.Endings.{memory_end, run_ended, run_written}
+use Rattle.pb_commands.proofs.InputEnds.{input_reads}
+use Rattle.pb_commands.specs.Inner.Inputs.{of_input}
 use Rattle.pb_commands.specs.DeskRun.{DeskRefuses, DeskWrites}
 use Rattle.pb_commands.specs.Ends.{IfBothKnown}
 use Rattle.pb_faults.specs.declared.fault.AppFault.TheVariants.{Memory}
@@ -15,8 +17,9 @@ pub returns-in-Err-clause-runs : goal.returns-in-Err-clause-runs
 returns-in-Err-clause-runs g c =
     let files = g.P.Read.remaining c.args.file in
     let scripts = g.S.Read.remaining c.args.script in
-    run_ended (λ bytes rows. DeskWrites c.args.rules bytes rows c.args.clerks c.args.shuts) (λ _ rows. DeskRefuses c.args.rules rows c.args.clerks) files scripts (None, None, None) g.W.Write.contents _ c.in-Err.fault
-    (own_passes c.args.rules c.args.clerks c.args.shuts files scripts c.in-Err.fault c.in-Err.ensures.reads c.in-Err.ensures.ends)
+    rw c.from.ensures
+    (run_ended (λ bytes rows. DeskWrites c.args.rules bytes rows c.args.clerks c.args.shuts) (λ _ rows. DeskRefuses c.args.rules rows c.args.clerks) files scripts (None, None, None) g.W.Write.contents _ (of_input c.in-Err.fault)
+    (own_passes c.args.rules c.args.clerks c.args.shuts files scripts (of_input c.in-Err.fault) (input_reads c.in-Err.fault).0 c.in-Err.ensures.ends))
 
 pub returns-in-Err-admission_of-clause-runs : goal.returns-in-Err-admission_of-clause-runs
 returns-in-Err-admission_of-clause-runs g c =
