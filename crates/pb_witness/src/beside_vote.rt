@@ -4,6 +4,8 @@ use crate::behind_vote::{OF_VOTES, names_other};
 use crate::changed::{has_part, is_one_of};
 use crate::choices::{Choices, Named};
 use crate::columns::MOST_COLUMNS;
+use crate::crosses::Crosses;
+use crate::filled_down::LastEmpty;
 use crate::prelude::*;
 
 /// The fewest rows by which something is so of all.
@@ -36,6 +38,8 @@ struct OtherColumn {
     choices: Choices,
     /// Whether just the rows with a vote have a text in it.
     is_of_votes: bool,
+    last_empty: LastEmpty,
+    crosses: Crosses,
 }
 
 /// The columns of VOTES beside the voter's id and the vote.
@@ -120,6 +124,16 @@ impl BesideVote {
         are_enough.then_some(odd.at(column.place).named_in(self.header))
     }
 
+    /// The first of the last rows, if all of these have the vote of the row above them, and nothing in a column that all rows
+    /// above fill.
+    pub(crate) fn filled_down(&self, election: &Election) -> Option<Odd> {
+        let odd_in = |column: &OtherColumn| {
+            let odd = column.last_empty.filled_down(election)?;
+            Some(odd.at(column.place).named_in(self.header))
+        };
+        self.columns.iter().find_map(odd_in)
+    }
+
     /// Takes the end of the file, and adds the columns that seem to hold votes to these.
     pub(crate) fn end(&self, all: &mut Vec<Odd>, found: &mut Oddities) -> Result<(), AllocError> {
         for column in &self.columns {
@@ -135,7 +149,9 @@ impl BesideVote {
                 .instead
                 .filter(|odd| column.is_instead && odd.number > 1);
             let more = column.more.filter(|odd| column.names_it && is_many(odd));
-            if let Some(odd) = instead.or(more).or(column.choices.other_than_votes()) {
+            let other = column.choices.other_than_votes();
+            let crosses = column.crosses.with_more(self.rows);
+            if let Some(odd) = instead.or(more).or(other).or(crosses) {
                 if !all.iter().any(|other| other.value_place == odd.value_place) {
                     all.push(odd)?;
                 }
@@ -159,12 +175,14 @@ impl OtherColumn {
             more: None,
             choices: Choices::of(name),
             is_of_votes: true,
+            last_empty: LastEmpty::new(),
+            crosses: Crosses::of(name),
         }
     }
 
     /// Whether something may be true of it; and of its texts.
     fn is_open(&self) -> bool {
-        self.is_of_votes || self.is_of_text()
+        self.is_of_votes || self.last_empty.is_open || self.crosses.is_open || self.is_of_text()
     }
 
     fn is_of_text(&self) -> bool {
@@ -174,7 +192,15 @@ impl OtherColumn {
     /// Takes a row below the column names, which begin here.
     fn take(&mut self, alloc: Global, row: &Row<'_>, header: Mark) {
         let has_vote = !row.ballot().is_empty();
-        self.is_of_votes &= bytes_at(row.record, self.place).is_empty() != has_vote;
+        let bytes = bytes_at(row.record, self.place);
+        self.is_of_votes &= bytes.is_empty() != has_vote;
+        if self.last_empty.is_open {
+            self.last_empty.take(row, bytes.is_empty());
+        }
+        if self.crosses.is_open {
+            let odd = self.odd(row, header).in_form(6);
+            self.crosses.take(bytes, row.ballot().len(), odd);
+        }
         if !self.is_of_text() {
             return;
         }

@@ -19,6 +19,11 @@ const STATES: &str =
     vrai|faux|vero|falso|not approved|not accepted|feasible|unfeasible|infeasible|not feasible|positive|\
     negative|pozytywna|negatywna|missing|preview|survey preview|spam";
 
+/// What stands in a database's column of bits, which are bytes and no digits; and the form of an oddity by them.
+const BITS: &str = "\u{0}|\u{1}";
+
+const OF_BITS: usize = 7;
+
 /// Words for currencies, and for how many of them an amount is.
 const UNITS: &str =
     "pln|zl|zł|złoty|złotych|eur|euro|euros|usd|gbp|chf|czk|kč|huf|ft|forint|ron|lei|bgn|sek|nok|dkk|kr|\
@@ -185,7 +190,7 @@ impl FurtherColumn {
             }
             Some(first) if self.is_other(value) => {
                 let before = Some(first.mark);
-                let odd = Odd { before, ..odd };
+                let odd = self.of_bits(Odd { before, ..odd }, value);
                 if self.has != Has::Units {
                     self.tell(odd, found);
                 } else if self.further.is_none() {
@@ -197,11 +202,22 @@ impl FurtherColumn {
         Ok(())
     }
 
+    /// A row that is odd for this value, of a column of bits if both it and the first row's are one.
+    fn of_bits(&self, odd: Odd, value: &str) -> Odd {
+        let are_bits = is_one_of(BITS, value) && is_one_of(BITS, self.value.as_str());
+        if are_bits && odd.oddity == Oddity::ValidColumn {
+            odd.in_form(OF_BITS)
+        } else {
+            odd
+        }
+    }
+
     /// Whether a value says something else of a row than the section's first row has.
     fn is_other(&self, value: &str) -> bool {
         let first = self.value.as_str();
         let is_number = |text: &str| is_digits(text) && !is_one_of("0|1", text);
-        let is_state = is_one_of(STATES, value) || is_one_of(STATES, first);
+        let says = |text: &str| is_one_of(STATES, text) || is_one_of(BITS, text);
+        let is_state = says(value) || says(first);
         let differs = !value.eq_ignore_ascii_case(first);
         match self.has {
             Has::Currencies | Has::Units => differs,
@@ -234,7 +250,7 @@ impl FurtherColumn {
 }
 
 /// Whether a value is a currency or says of how many an amount is: each of its words is one for that.
-fn is_money(value: &str) -> bool {
+pub(crate) fn is_money(value: &str) -> bool {
     let mut words = value.split(|c: char| c.is_whitespace() || "().,/".contains(c));
     !value.is_empty() && words.all(|word| word.is_empty() || is_one_of(UNITS, word))
 }

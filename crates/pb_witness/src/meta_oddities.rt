@@ -1,6 +1,7 @@
 //! What in META can change a result, and what META says that other warnings rest on.
 
-use crate::changed::{begins, has_one_of, has_part, has_word, is_one_of};
+use crate::changed::{begins, has_digit, has_one_of, has_part, has_word, is_one_of};
+use crate::columns::is_money;
 use crate::keys::Keys;
 use crate::prelude::*;
 use crate::row::{Limits, day_of};
@@ -76,6 +77,8 @@ pub(crate) struct MetaOddities {
     /// The row of the budget, and whether three digits stand behind its mark.
     budget: Mark,
     has_thousands: bool,
+    /// Whether only rows without a key have come since.
+    is_below_budget: bool,
     /// The first row of a budget beside it, measured by how many there are, and whether one is of each
     /// district.
     further: Option<Odd>,
@@ -99,6 +102,7 @@ impl MetaOddities {
             rule_mark: Mark::start(),
             budget: Mark::start(),
             has_thousands: false,
+            is_below_budget: false,
             further: None,
             has_budget_per: false,
             unread: UnreadKeys::new(alloc),
@@ -127,7 +131,10 @@ impl MetaOddities {
         found: &mut Oddities,
     ) -> Result<(), AllocError> {
         let (key, value) = (text_at(row, 0), text_at(row, 1));
-        if let Some(used) = MetaKey::of(key) {
+        self.is_below_budget &= key.is_empty();
+        if self.is_below_budget && is_like_amount(value) {
+            found.take(Odd::of_key(Oddity::RepeatedKey, mark).in_form(6));
+        } else if let Some(used) = MetaKey::of(key) {
             if let Some(given) = keys.given(used) {
                 let before = Some(given.last);
                 let odd = Odd::of_key(Oddity::RepeatedKey, mark);
@@ -139,6 +146,7 @@ impl MetaOddities {
                     found.take(Odd::of_key(Oddity::SurplusFields, mark).in_form(1).at(2));
                 }
                 self.budget = mark;
+                self.is_below_budget = true;
                 self.has_thousands = has_thousands_mark(value);
                 found.has_decimals |= has_decimals(value);
             }
@@ -376,6 +384,15 @@ fn are_amounts(value: &str) -> bool {
     value
         .split(',')
         .all(|piece| Money::read(piece.trim()).is_ok())
+}
+
+/// Whether a value is digits with marks of an amount between them, and perhaps a currency behind them.
+fn is_like_amount(value: &str) -> bool {
+    let is_of_number = |c: char| c.is_ascii_digit() || c.is_whitespace() || ".,'".contains(c);
+    let number = value.trim_end_matches(|c: char| !is_of_number(c));
+    let unit = value.get(number.len()..).unwrap_or("");
+    let is_amount = has_digit(number) && number.chars().all(is_of_number);
+    is_amount && (unit.is_empty() || is_money(unit))
 }
 
 /// What is claimed after a value of this key, whose record begins here. An empty value claims nothing; that

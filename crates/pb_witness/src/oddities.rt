@@ -1,5 +1,11 @@
 //! What is accepted in a .pb file and probably not meant, as it is found.
 
+ghost use Rattle.std.specs.Prelude.{◌≡◌, ◌≢◌, ◌<◌, ℕ, if◌then◌else◌, nat_eq, nat_lt, slice_index};
+ghost use Rattle.std.specs.Prelude.{find};
+ghost use Rattle.std.specs.Option.{option_map};
+ghost use denote.Enum.Declared.{tag_of};
+ghost use Rattle.pb_read.specs.contracts.warning.Oddity.{the_type};
+
 use crate::prelude::*;
 use pb_core::no_memory::NoMemory;
 use pb_read::{Warning, WarningRow};
@@ -270,8 +276,16 @@ impl Oddities {
         self.kinds.contains(&oddity)
     }
 
-    /// Takes an odd record.
-    pub fn take(&mut self, odd: Odd) {
+    /// Takes an odd record. The first of its kind that is taken stays; of other kinds nothing changes.
+    pub fn take(&mut self, odd: Odd)
+        ensures first { slice_index self.new.firsts (tag_of the_type odd.oddity)
+            ≡ (if nat_eq (slice_index self.old.counts (tag_of the_type odd.oddity)) 0
+            then odd.mark.at else slice_index self.old.firsts (tag_of the_type odd.oddity)) }
+        ensures counted { 0 < slice_index self.new.counts (tag_of the_type odd.oddity) }
+        ensures others { (kind : ℕ) → kind ≢ tag_of the_type odd.oddity
+            → (slice_index self.new.firsts kind ≡ slice_index self.old.firsts kind)
+            × (slice_index self.new.counts kind ≡ slice_index self.old.counts kind) }
+    {
         let place = odd.oddity as usize;
         if self.counts[place] == 0 {
             self.firsts[place] = odd.mark.at;
@@ -280,6 +294,21 @@ impl Oddities {
         if self.counts[place] <= self.most && self.found.push(odd).is_err() {
             self.is_whole = false;
         }
+    }
+
+    /// Gives those of a kind that are odd in the first of these forms the second.
+    pub(crate) fn reform(&mut self, oddity: Oddity, (before, form): (usize, usize)) {
+        for odd in self.found.iter_mut() {
+            if odd.oddity == oddity && odd.form == before {
+                odd.form = form;
+            }
+        }
+    }
+
+    /// Whether it is kept that this record is odd so, in any form.
+    pub(crate) fn tells_of(&self, odd: Odd) -> bool {
+        let is_it = |other: &Odd| other.oddity == odd.oddity && other.mark.at == odd.mark.at;
+        self.found.iter().any(is_it)
     }
 
     /// Takes an odd record, if there is one.
@@ -322,7 +351,9 @@ impl Oddities {
     }
 
     /// Whether there are any of a kind.
-    pub fn has(&self, oddity: Oddity) -> bool {
+    pub fn has(&self, oddity: Oddity) -> bool
+        ensures { result ≡ nat_lt 0 (slice_index self.now.counts (tag_of the_type oddity)) }
+    {
         self.counts[oddity as usize] > 0
     }
 
@@ -347,7 +378,14 @@ impl Oddities {
     }
 
     /// The first of the first kind that is told.
-    pub fn first(&self) -> Option<Warning> {
+    pub fn first(&self) -> Option<Warning>
+        ensures { result ≡ option_map (λ oddity. record {
+          oddity = oddity;
+          at = slice_index self.now.firsts (tag_of the_type oddity);
+        })
+            (find (λ oddity. nat_lt 0 (slice_index self.now.counts (tag_of the_type oddity)))
+            self.now.kinds.now) }
+    {
         let oddity = *self.kinds.iter().find(|oddity| self.has(**oddity))?;
         let at = self.firsts[oddity as usize];
         Some(Warning { oddity, at })

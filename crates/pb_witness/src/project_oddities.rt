@@ -2,6 +2,7 @@
 
 use crate::approvals::Approvals;
 use crate::behind_vote::names_other;
+use crate::carried_forward::ProjectsAbove;
 use crate::changed::{has_digit, has_one_of, is_digits, is_one_of, is_power};
 use crate::columns::FurtherColumns;
 use crate::fields::{has_byte, has_lines};
@@ -21,6 +22,9 @@ const TOTALS: &str =
 
 /// The fewest projects above a last one that is their sum by its cost alone.
 const MANY: usize = 4;
+
+/// The fewest voters of whom somebody should approve a project.
+const FEWEST_VOTERS: usize = 3;
 
 /// What columns are called that name a part of the city.
 const DISTRICTS: &str = "district|subdistrict|neighborhood|subunit";
@@ -186,6 +190,7 @@ impl ProjectOddities {
         if !found.refuses_votes {
             self.twins.end(supporters, found);
             self.values.end(election, supporters, found);
+            self.take_carried(election, supporters, found);
         }
         let form = if self.has_other_ids(supporters) { 2 } else { 0 };
         let rows = self.accepted.iter().zip(election.projects());
@@ -263,6 +268,18 @@ impl ProjectOddities {
             found.take(first.odd.in_form(2));
         } else if place >= 2 && is_total(election) {
             found.take(last.odd.in_form(4));
+        }
+    }
+
+    /// Takes the rows that are sums of the projects above, unless they are totals.
+    fn take_carried(&self, election: &Election, supporters: &[u64], found: &mut Oddities) {
+        let mut above = ProjectsAbove::default();
+        let rows = self.accepted.iter().zip(election.projects());
+        for ((row, project), number) in rows.zip(supporters) {
+            let is_sum = above.is_sum(project.cost().0, *number);
+            if is_sum && election.voters().len() >= FEWEST_VOTERS && !found.tells_of(row.odd) {
+                found.take(row.odd.in_form(7));
+            }
         }
     }
 

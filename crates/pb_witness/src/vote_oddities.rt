@@ -2,10 +2,10 @@
 
 use crate::behind_vote::{BehindVote, names_other};
 use crate::beside_vote::BesideVote;
-use crate::changed::{form_of, has_digit, has_one_of, is_digits, without_hidden};
+use crate::brackets::Brackets;
+use crate::changed::{form_of, has_digit, has_one_of, is_digits};
 use crate::columns::FurtherColumns;
 use crate::copies::Copies;
-use crate::fields::{count_of, has_byte};
 use crate::last_vote::LastVote;
 use crate::meta_oddities::whole_number;
 use crate::names_row::NamesRow;
@@ -17,7 +17,10 @@ use crate::proxies::Proxies;
 use crate::rankings::Rankings;
 use crate::rows::VoteRows;
 use crate::runs::Runs;
+use crate::same_voters::SameVoters;
 use crate::ticked::Ticked;
+use crate::turnout::take_turnout;
+use crate::twice_in_vote::TwiceInVote;
 use crate::unread::Unread;
 use crate::voter_lists::ends_in_projects;
 
@@ -44,13 +47,13 @@ pub(crate) struct VoteOddities {
     unread: Unread,
     runs: Runs,
     ticked: Ticked,
+    twice: TwiceInVote,
     copies: Copies,
     parts: Parts,
     phones: Phones,
     proxies: Proxies,
-    /// The voters whose ids have a character at an end that can't be seen, or are e-mail addresses with capital letters:
-    /// the place among all, and the row.
-    marked: Vec<(u32, Mark)>,
+    same: SameVoters,
+    brackets: Brackets,
     /// Where the last row begins, and what it is.
     last_row: Option<(Mark, Part)>,
     /// How many ballots approve nothing, and how many of them come behind the last that approves something.
@@ -86,11 +89,13 @@ impl VoteOddities {
             unread: Unread::of(alloc, names, header)?,
             runs: Runs::new(alloc),
             ticked: Ticked::default(),
+            twice: TwiceInVote::new(alloc),
             copies: Copies::new(alloc),
             parts: Parts::new(alloc),
             phones: Phones::new(alloc),
             proxies: Proxies::of(alloc, names, header)?,
-            marked: Vec::new(alloc),
+            same: SameVoters::new(alloc),
+            brackets: Brackets::default(),
             last_row: None,
             empty: 0,
             last_empty: 0,
@@ -116,9 +121,7 @@ impl VoteOddities {
         if self.rankings.asks(length, row.election.projects().len()) {
             self.rankings.take(row.value())?;
         }
-        if count_of(vote, b',') >= length && names_twice(row.value(), length) {
-            found.take(row.odd(Oddity::TwiceInVote));
-        }
+        self.twice.take(row, vote, found)?;
         self.last_row = Some((row.mark, row.part));
         self.first_row.take(row.record);
         self.beside.take(row);
@@ -167,16 +170,14 @@ impl VoteOddities {
         found: &mut Oddities,
     ) -> Result<(), AllocError> {
         let is_plain = is_plain_end(id.first()) && is_plain_end(id.last());
-        let is_address = has_byte(id, b'@') && has_capital(row.id());
-        if is_address || (!is_plain && is_marked(row.id())) {
-            let voters = row.election.voters().len().saturating_sub(1);
-            let place = u32::try_from(voters).unwrap_or(u32::MAX);
-            self.marked.push((place, row.mark))?;
-        }
+        self.same.take(row, (id, is_plain))?;
         if !is_plain && id.len() > 1 && is_of_signs(id) {
             let odd = row.odd(Oddity::NoteRows).in_form(8);
             found.take(odd.at(odd.id_place));
             return Ok(());
+        }
+        if !is_plain {
+            self.brackets.take(row, id);
         }
         let is_begun = matches!(id.first(), Some(b'#' | b'/'));
         if is_begun && (id.starts_with(b"#") || id.starts_with(b"//")) {
@@ -289,7 +290,7 @@ impl VoteOddities {
         self.further.end(found);
         self.behind.end(self.alloc, &self.beside, found)?;
         self.unread.end(found)?;
-        self.take_marked(election, found)
+        self.same.end(election, last, found)
     }
 
     /// Takes what rows show that follow each other, or belong to others; the last is odd so.
@@ -300,9 +301,13 @@ impl VoteOddities {
         found: &mut Oddities,
     ) -> Result<(), AllocError> {
         let projects = election.projects().len();
+        self.twice.end(found);
         self.runs.end(projects, found);
         found.take_some(self.ticked.ticked(projects));
+        found.take_some(self.brackets.odd(election));
+        take_turnout(election, last, found);
         self.copies.end(last, found)?;
+        found.take_some(self.beside.filled_down(election));
         let first = match (last, rows.first) {
             (Some(odd), Some(mark)) => Some(Odd { mark, ..odd }),
             _ => None,
@@ -352,35 +357,6 @@ impl VoteOddities {
         }
         Ok(true)
     }
-
-    /// Takes the rows of voters who are there twice but for a character that can't be seen, or for capital letters of
-    /// an e-mail address.
-    fn take_marked(&self, election: &Election, found: &mut Oddities) -> Result<(), AllocError> {
-        if self.marked.is_empty() {
-            return Ok(());
-        }
-        let mut ids = IdTable::new(self.alloc);
-        let is_other = |id: &str| is_marked(id) || (id.contains('@') && has_capital(id));
-        for voter in election
-            .voters()
-            .iter()
-            .filter(|voter| !is_other(voter.id.text()))
-        {
-            let _ = ids.insert(self.alloc, voter.id.text(), 0)?;
-        }
-        for (place, mark) in &self.marked {
-            let voter = election.voters().get(*place as usize);
-            let id = voter.map_or("", |voter| voter.id.text());
-            let bare = bare_id(self.alloc, id)?;
-            let before = ids.insert(self.alloc, bare.as_str(), 0)?;
-            if let (Some(_), Some((_, part))) = (before, self.last_row) {
-                let odd = Odd::of_row(Oddity::HiddenCharacter, *mark, part);
-                found.take(odd.in_form(usize::from(!is_marked(id))));
-            }
-        }
-        drop(ids);
-        Ok(())
-    }
 }
 
 /// The last row of a file in which no vote names a project, odd for that, and for how many voters have ids of projects.
@@ -420,12 +396,6 @@ fn take_cost(row: &Row<'_>, found: &mut Oddities) {
     });
 }
 
-/// Whether a vote that approves so many projects names more.
-fn names_twice(vote: &str, length: usize) -> bool {
-    let pieces = vote.split(',');
-    pieces.filter(|piece| !piece.trim().is_empty()).count() > length
-}
-
 /// Whether a byte at an end of an id is a letter or a digit of ASCII, if there is one.
 fn is_plain_end(byte: Option<&u8>) -> bool {
     match byte {
@@ -437,33 +407,6 @@ fn is_plain_end(byte: Option<&u8>) -> bool {
 /// Whether bytes are signs of ASCII alone.
 fn is_of_signs(bytes: &[u8]) -> bool {
     bytes.iter().all(|byte| byte.is_ascii_punctuation())
-}
-
-/// Whether an id has a character at an end that can't be seen, and is not of ASCII.
-fn is_marked(id: &str) -> bool {
-    let bytes = id.as_bytes();
-    let is_foreign = |byte: Option<&u8>| byte.is_some_and(|byte| !byte.is_ascii());
-    let has_some = is_foreign(bytes.first()) || is_foreign(bytes.last());
-    has_some && without_hidden(id).len() < id.len()
-}
-
-/// Whether a text has a capital letter of ASCII.
-fn has_capital(text: &str) -> bool {
-    text.contains(|c: char| c.is_ascii_uppercase())
-}
-
-/// An id without the characters at its ends that can't be seen, and an e-mail address in small letters.
-fn bare_id(alloc: Global, id: &str) -> Result<String, AllocError> {
-    let bare = without_hidden(id);
-    let mut out = String::new(alloc);
-    for c in bare.chars() {
-        out.push(if bare.contains('@') {
-            c.to_ascii_lowercase()
-        } else {
-            c
-        })?;
-    }
-    Ok(out)
 }
 
 /// Whether a text has white space in it.

@@ -9,7 +9,7 @@ use pb_witness::heads::{head_of, section_of};
 
 /// What to do where VOTES has a column for each project.
 pub(crate) const BY_COLUMN: &str =
-    "VOTES has a column for each project. Make one column `vote` of them, with the ids of the projects that the voter approves, and `,` between them. If the columns have codes, such as 1 and 2, first find out which of them means yes.\n";
+    "VOTES has a column for each project. Make one column `vote` of them, with the ids of the projects that the voter approves, and `,` between them.\n";
 
 /// What to do about a ballot without an id.
 const NO_ID: &str =

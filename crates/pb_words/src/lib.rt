@@ -10,6 +10,7 @@
 pub mod answer_words;
 pub mod belonging_words;
 mod case;
+mod code_words;
 mod command_words;
 pub mod count_words;
 pub mod either_words;

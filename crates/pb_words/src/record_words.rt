@@ -211,6 +211,9 @@ impl<R: Files> Case<'_, R> {
                 "This is the last line of the file. If the file is cut off, get the whole file again. If not:\n",
             );
         }
+        if self.faulty.kind() == ReadKind::MissingColumn {
+            self.put_codes(out, self.faulty.mark);
+        }
         put_joined(out, self.faulty.joined(), self.remedy(), VOTE);
         self.put_command(out)
     }

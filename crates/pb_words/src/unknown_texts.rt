@@ -51,6 +51,14 @@ pub(crate) const EXAMPLE: &str =
 pub(crate) const TRIAL: &str =
     "A trial version of a program may have written this in place of the vote. Get the table again, by the whole program.\n";
 
+/// What is said first where a key may have given a digit twice, and another project's id may have come so too.
+pub(crate) const TWICE: &str =
+    "If a key gave the digit twice, {} may stand for {} in other votes: compare all votes for {} with the ballots. If not:\n";
+
+/// What is said where a web form may have sent the vote.
+pub(crate) const WEB_FORM: &str =
+    "A web form sends this for a ticked box that has no value: these voters chose something. Get the votes again.\n";
+
 /// What is said where each vote is 1 or 0.
 pub(crate) const TURNOUT: &str =
     "Each vote is 1 or 0: this may be a list of who has voted, and has no votes. Get the ballots.\n";
@@ -119,7 +127,7 @@ pub(crate) fn remedy_of(cause: Cause) -> &'static str {
         Cause::Date =>
             "A spreadsheet may have made a date of the id. Get the votes again, as text.\n",
         Cause::Nothing =>
-            "Programs write this where a value is missing. Look for the ballot. If there is none, as in a list of all voters, the row is no vote: take it out. If the voter approves no project, leave the field empty.\n",
+            "Programs write this where a value is missing. Look for the ballot (of a vote on the web: what the voter sent). If nobody voted there, as in a list of all voters, the row is no vote: take it out. If the voter approves no project, leave the field empty.\n",
         Cause::Beside =>
             "Programs write this where a value is missing: to fill up a vote, or for a name that they did not find. Look at the ballot. If no id is missing there, take it out of the vote.\n",
         Cause::Places =>
@@ -148,7 +156,7 @@ pub(crate) fn remedy_of(cause: Cause) -> &'static str {
 fn list_remedy(cause: Cause) -> &'static str {
     match cause {
         Cause::Word =>
-            "This seems to be a word in place of an id. Look for the ballot. If there is none, the row is no vote: take it out. If nothing was chosen there, delete the word, and keep the row. If the ballot can't be read, or the word says something else, ask whoever made the file.\n",
+            "This seems to be a word in place of an id. Look for the ballot (of a vote on the web: what the voter sent). If nobody voted there, the row is no vote: take it out. If nothing was chosen there, delete the word, and keep the row. If the ballot can't be read, or the word says something else, ask whoever made the file.\n",
         Cause::OtherElection =>
             "No vote of the file names a project. PROJECTS and VOTES may be of two elections, or the ids of one of them were changed. Get the whole file again.\n",
         Cause::Range =>

@@ -5,8 +5,8 @@ use crate::prelude::*;
 use crate::read_texts::NOTE;
 use crate::unknown_texts::{
     ALL_WITHDRAWN, COUNTED_ON, EXAMPLE, FOR_A_BOX, LAST_ROW, LISTED, NAMES, NOT_RENUMBERED,
-    ODD_LETTER, ONE_BEFORE, OTHER_ALPHABET, PART, READ_AS, RENUMBERED, TRIAL, TURNOUT, WORD_BESIDE,
-    difference, is_cut_code, remedy_of, what_of,
+    ODD_LETTER, ONE_BEFORE, OTHER_ALPHABET, PART, READ_AS, RENUMBERED, TRIAL, TURNOUT, TWICE,
+    WEB_FORM, WORD_BESIDE, difference, is_cut_code, remedy_of, what_of,
 };
 use pb_read::Column;
 use pb_witness::cause::{Cause, comes_next, odd_letter};
@@ -18,6 +18,9 @@ use pb_witness::unknown::Votes;
 
 /// What a trial version of a program writes in place of texts.
 const TRIALS: &str = "trial|demo|evaluation|unregistered|sample";
+
+/// What a web form sends for a box that is ticked and has no value.
+const TICKED: &str = "on|checked";
 
 /// What programs make of an id such as `NO`.
 const READ: &str = "false|true|nan";
@@ -97,6 +100,9 @@ impl<R: Files> Case<'_, R> {
         }
         if is_open && has_one_of(TRIALS, self.faulty.piece()) {
             return out.put(TRIAL);
+        }
+        if is_open && is_of_boxes(self.faulty.value()) {
+            return out.put(WEB_FORM);
         }
         if is_open && self.put_row_cause(out) {
             return;
@@ -191,12 +197,26 @@ impl<R: Files> Case<'_, R> {
         rest.is_some_and(|rest| self.known.witness.ids.projects.has(rest))
     }
 
-    /// Puts what is said before the remedy, of a form's example and of a 1 too many.
+    /// Puts what is said before the remedy, of a form's example, of codes and of a 1 too many.
     fn put_likely(&self, out: &mut WordsWriter, found: &FoundCause) {
         match found.cause {
             Cause::More if self.is_example(&found.votes) => out.put(EXAMPLE),
+            Cause::Columns => self.put_codes(out, self.faulty.seen.names),
             Cause::Together if self.has_one_before(self.faulty.piece()) => out.put(ONE_BEFORE),
-            _ => {}
+            _ => self.put_twice(out),
+        }
+    }
+
+    /// Puts which project's id may stand for another one in votes, if both have one digit, which is there twice in the first,
+    /// and the unknown id is such a digit too.
+    fn put_twice(&self, out: &mut WordsWriter) {
+        let ids = &self.known.witness.ids.projects;
+        let is_twice = |id: &str| once(id).is_some_and(|digit| ids.has(digit));
+        let other = (0..self.projects()).find(|place| is_twice(self.id_of(*place)));
+        if let (true, Some(place)) = (is_twice(self.faulty.piece()), other) {
+            let id = self.id_of(place);
+            let digit = once(id).unwrap_or("");
+            out.fill(TWICE, &[Quoted(id), Quoted(digit), Quoted(id)])
         }
     }
 
@@ -357,8 +377,8 @@ impl<R: Files> Case<'_, R> {
     /// Puts which character of this id no project's id has, and what to do.
     fn put_odd_letter(&self, out: &mut WordsWriter, id: &str) {
         let mut letters = id.chars();
-        let is_letter = letters.next().is_some_and(|c| c.is_alphanumeric());
-        if is_letter && letters.next().is_none() && self.id_of(0).len() == 1 {
+        let is_other = letters.next().is_some_and(is_of_other_alphabet);
+        if is_other && letters.next().is_none() && self.id_of(0).len() == 1 {
             return out.put(OTHER_ALPHABET);
         }
         if let Some(letter) = odd_letter(id, &self.known.again.projects) {
@@ -458,4 +478,22 @@ pub(crate) fn put_lines<R: Files>(out: &mut WordsWriter, text: &Text<R>, rows: &
         }
     }
     out.put(".");
+}
+
+/// The digit that an id is, twice.
+fn once(id: &str) -> Option<&str> {
+    match id.as_bytes() {
+        [digit @ b'1'..=b'9', other] if digit == other => id.get(1..),
+        _ => None,
+    }
+}
+
+/// Whether a vote is what a web form sends for boxes without values, and nothing else.
+fn is_of_boxes(vote: &str) -> bool {
+    vote.split(',').all(|piece| is_one_of(TICKED, piece.trim()))
+}
+
+/// Whether a character is a letter of an alphabet such as the Greek or the Cyrillic one, and no Latin letter.
+fn is_of_other_alphabet(c: char) -> bool {
+    matches!(u32::from(c), 0x370..=0x1dff) && c.is_alphabetic()
 }

@@ -73,6 +73,9 @@ Compare the column `vote` with the ballots: the votes may stand in another colum
     write them there, or get the votes again.",
         "none of the {number} rows of VOTES names a project, and {limit} voters have ids of projects
 {own_rows}",
+        "all {number} votes that are not empty name one and the same project, and no other
+This may be a list of who has voted, in which 1 stands for yes. Look at some ballots. If they differ, get all votes again, from \
+    the ballots. If all voters chose this project alone, nothing is wrong.",
     ],
     &[TOO_FEW_ROWS, TOO_MANY_ROWS, NO_NUMBER],
     &[
@@ -150,6 +153,10 @@ Check whether votes for that project are meant for this one. If so, get the vote
         "{value} is ignored: the key for the most projects of a ballot is `max_length`. This concerns {ballots}
 a key of META is ignored: the key for the most projects of a ballot is `max_length`. This concerns {ballots}
 If it is the most projects that a ballot may name, call the key `max_length`, and do with these ballots what your rules say.",
+        "{value} stands below `budget`, without a key, and is ignored
+an amount stands below `budget`, without a key, and is ignored
+If both are parts of one budget, write their sum as `budget`, and delete this row. If not, ask what it is: then give it a \
+    key of its own, or delete it.",
     ],
     &[
         "its cost, {value}, is the sum of all costs above
@@ -174,6 +181,10 @@ If the row is meant for META, move it there. If not, give it another id.",
 a cost is less than a thousandth of every other cost
 It is counted as a project. If it is one, check its cost. If it is an answer such as `none of these`, delete its row, take its id \
     out of the votes, and keep these ballots.",
+        "its cost, {value}, is the sum of the projects above, and no vote names it
+a cost is the sum of the projects above, and no vote names the project
+It is counted as a project. It may be a sum that was carried forward to the next page: if so, delete the row. If it is a project, \
+    compare its cost with the office's list.",
     ],
     &[
         "the column `votes` says {value}, but the number of vote rows that name the project is {number}
@@ -238,6 +249,14 @@ It is counted as a voter. Such signs may say of rows that they do not count, as 
 but for their ids, {rows} are earlier ones again, in the opposite order
 A stack of ballots may have been scanned or typed again, from the bottom. Count the ballots on paper. If these are too many, \
     delete the later rows of the two. If not, keep all.",
+        "the id stands in brackets, and other ids have none. This concerns {rows}
+an id stands in brackets, and other ids have none. This concerns {rows}
+It is counted as a voter. Ask what the brackets mean. If these ballots do not count, delete the rows. If they do, delete the \
+    brackets.",
+        "{rows} from here on have the vote of the row above, and nothing in column {column}, where every row above has something
+the last {rows} of VOTES have the vote of the row above them, and nothing in a column that every row above fills
+They are counted as voters. The vote may have been filled down to rows that have only an id. Look for these ballots. If there \
+    are none, delete these rows. If there are, nothing is wrong.",
     ],
     &[
         "a field in quotation marks runs over several lines that look like rows
@@ -280,11 +299,17 @@ The two columns may be exchanged in a part of the table. Compare all rows that h
     with one id in that column. Where the columns are exchanged, exchange them back. If they are not, and these choices \
     count as much as those in `vote`, write all ids of a voter into the column `vote`. If they are no votes in any row, call \
     the column `comment`.",
+        "{value}, in column {column}, is more than the number of projects in the vote, and in most rows it is this number. This \
+    concerns {rows}
+a column has a number above that of the vote's projects, and in most rows it is this number. This concerns {rows}
+Ids of these votes may be missing. Look at their ballots. If a choice is missing, write its id. If not, as where a cross was \
+    struck out, call the column `comment`.",
     ],
     &[
         "the vote names {twice} more than once, which counts once
 the vote names a project more than once, which counts once
-If another project was meant, correct the id by the voter's ballot. If not, write it once.",
+If another project was meant, correct the id by the voter's ballot. If voters may give a project several votes, these are points, which \
+    this program can't count. If neither, write it once.",
         "the vote has all projects of the one above it, and more; and so has each of the next ones. This concerns {rows}
 a vote has all projects of the one above it, and more; and so has each of the next ones. This concerns {rows}
 A form may not have been cleared between voters, so that these votes have other voters' choices too. Compare all of them \
@@ -296,6 +321,10 @@ A cell may have been copied downwards, and a spreadsheet counted on. Compare all
 a vote names all projects, and every other vote names all or at most {limit}. This concerns {rows}
 The boxes may have been ticked before the voters saw them. Find out how these votes were cast, or ask the voters. If your \
     rules do not count them, delete these rows. If the voters chose so, nothing is wrong.",
+        "the vote names {first} more than once, and every vote begins with it
+a vote names a project more than once, and every vote begins with it
+An answer to another question may stand before the votes. Look at some ballots. If so, take the first id out of every vote. If \
+    not, write it once.",
     ],
     &[
         "{number} columns have this name, and only the first is read
@@ -352,6 +381,10 @@ If the costs are in different units, such as thousands, write all of them in tha
         "{value} and all other dates in column {column} are far from the date that META gives on line {line}
 all dates of a column are far from those that META gives
 META may be that of another year. Compare its dates and its budget with the decision on this vote, and correct them.",
+        "{value} differs from line {line} in column {column}: they are bytes of 0 and 1. The column is ignored: every row is counted
+a column has bytes of 0 and 1. The column is ignored: every row is counted
+A database writes no and yes so, and they can't be seen. Get the column again as numbers (in SQL, `column + 0`). If it says that \
+    rows do not count, take these out, and the id of such a project also out of the votes.",
     ],
     &[
         "{value} is not counted: all projects share the amount of the key `budget`
@@ -387,6 +420,10 @@ Each group may be the sheets of one ballot, and is counted as several voters. Lo
         "but for the code of its country this phone number is that of another row, so the voter may be counted twice
 but for the code of its country a voter's phone number is that of another row, so the voter may be counted twice
 Find out whether these are one voter, and which of the two ballots is valid. Take the other one out.",
+        "but for a word behind `+` this e-mail address is that of another row, so the voter may be counted twice
+but for a word behind `+` a voter's e-mail address is that of another row, so the voter may be counted twice
+Both may be one mailbox. Find out whether these are one voter, and which of the ballots is valid. Take the others out. If they \
+    are two people who share a mailbox, keep both.",
     ],
     &[
         "all projects together cost {sum}, which is less than a hundredth of it

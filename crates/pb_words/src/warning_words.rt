@@ -367,6 +367,10 @@ fn put_figure(out: &mut WordsWriter, name: &str, odd: &Odd, value: &str) {
     let limit = odd.limit.unwrap_or(0);
     match name {
         "value" => out.fill("{}", &[Quoted(value)]),
+        "first" => {
+            let first = value.split(',').next().unwrap_or("");
+            out.fill("{}", &[Quoted(first.trim())])
+        }
         "short" => out.fill("{}", &[Quoted(value.trim_end_matches('0'))]),
         "number" => out.fill("{}", &[Number(odd.number)]),
         "rows" => out.fill("{}", &[Count(odd.number, "row")]),
