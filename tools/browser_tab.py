@@ -56,7 +56,7 @@ class Tab:
         act()
         while not self.take_events():
             self.led.events.append(self.led._message())
-        until = time.monotonic() + 30
+        until = time.monotonic() + 120
         waits = ('document.querySelector("main[inert]") !== null || document.activeElement === document.body '
                  '&& !!document.querySelector("[autofocus]")')
         while self.ask(waits) and time.monotonic() < until:

@@ -3,13 +3,13 @@ something else."""
 import concurrent.futures, contextlib, itertools, os, pathlib, re, shutil, signal, socket, ssl, struct, subprocess
 import threading, time
 
-from window_clerk import LIMIT, PYTHON, TOP, Clerk, Window, until
+from window_clerk import LIMIT, PYTHON, TOP, Clerk, Window, stop, until
 from window_seen import CITY, NAMES, new_folder, see
 
 # How many connections of each kind, and how many seconds a page is waited for. A page that waits until the window cuts
 # a connection takes 10 seconds at least, and one that waits for a `serve` that is held 30 or more: by these two limits
-# they are told from a slow machine.
-MANY, PATIENCE, UNCUT, UNHELD = 500, 30, 8, 20
+# they are told from a slow machine. Of so many tries one is enough where it may stand still for a moment.
+MANY, PATIENCE, UNCUT, UNHELD, TRIES = 500, 30, 8, 20, 6
 # How long pages took in this part.
 waits = []
 
@@ -41,10 +41,10 @@ def beside(begin, *pages):
 
 
 def see_soon(what, measure, most=UNCUT):
-    """Sees that what `measure` gives is less than `most`, in one of three tries: a machine may stand still for a moment.
+    """Sees that what `measure` gives is less than `most`, in one of some tries: a machine may stand still for a moment.
     Gives how many tries that took, or 0."""
     found = []
-    while len(found) < 3 and min(found, default=most) >= most:
+    while len(found) < TRIES and min(found, default=most) >= most:
         found.append(measure())
     see(min(found) < most, what, found)
     return len(found) if min(found) < most else 0
@@ -297,7 +297,7 @@ def try_held(program, work):
         forms = [ann.look('cast', f'v{number}', ['12']) for number in range(90)]
         form = ben.look('cast', 'later', ['7'])
         number = window.serve_id()
-        os.kill(number, signal.SIGSTOP)
+        stop(number)
         try:
             with concurrent.futures.ThreadPoolExecutor(90) as pool:
                 sent = [pool.submit(record_from, ann, f'127.0.0.{80 + n % 3}', it) for n, it in enumerate(forms)]
@@ -329,7 +329,7 @@ def try_held(program, work):
         # Rows that fill the pipe to a serve that is held.
         forms = [ann.look('cast', f'long {number}', ids) for number in range(3)]
         number = window.serve_id()
-        os.kill(number, signal.SIGSTOP)
+        stop(number)
         try:
             with concurrent.futures.ThreadPoolExecutor(3) as pool:
                 sent = [pool.submit(ann.record, form) for form in forms]

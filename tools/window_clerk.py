@@ -31,6 +31,17 @@ def until(is_so, seconds=LIMIT):
     return is_so()
 
 
+def stop(number):
+    """Stops a process, and waits until it stands still: on a machine with much to do its threads may go on for a moment."""
+    def stands_still():
+        try:
+            return all(') T ' in path.read_text() for path in pathlib.Path(f'/proc/{number}/task').glob('*/stat'))
+        except OSError:     # A thread has ended meanwhile.
+            return False
+    os.kill(number, signal.SIGSTOP)
+    until(stands_still)
+
+
 def passphrase_of(name):
     return f'a long passphrase of {name}'
 

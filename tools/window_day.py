@@ -3,7 +3,7 @@ import os, signal, threading, time
 
 import browser
 from browser_tab import Tab
-from window_clerk import TOP, Window, passphrase_of, until
+from window_clerk import TOP, Window, passphrase_of, stop, until
 from window_seen import MARKUP, NAMES, new_folder, see
 
 LOOK = (TOP / 'tools/look_at_window.js').read_text()
@@ -287,8 +287,7 @@ def try_keys(window, tab):
     tab.enter()
     tab.type('7')
     tab.enter(loads=False)
-    os.kill(window.child.pid,
-            signal.SIGSTOP)       # No connection is taken any more, and the one that is sent is reset.
+    stop(window.child.pid)      # No connection is taken any more, and the one that is sent is reset.
     threading.Timer(0.5, window.child.kill).start()
     tab.enter()
     see('The window did not answer.' in tab.text() and chosen() == '7',
@@ -370,11 +369,11 @@ def try_deaths_in_browser(window, ann, pictures):
     ann.enter(loads=False)
     ann.enter()
     number = window.serve_id()
-    os.kill(number, signal.SIGSTOP)
+    stop(number)
     see(not ann.text('.waits'), 'nothing is said of waiting before it waits')
     ann.enter(loads=False)
     words = 'Waiting for the answer, a minute at most. Leave this page open; nothing has to be sent again.'
-    see(until(lambda: ann.text('.waits[role=status]') == words, 30) and ann.ask('!document.querySelector("[inert] .waits")'),
+    see(until(lambda: ann.text('.waits[role=status]') == words, 50) and ann.ask('!document.querySelector("[inert] .waits")'),
         'a page that waits says so, where it can be read aloud', ann.text())
     look_at(ann, 'waiting', pictures)
     window.await_asked('ann 3')

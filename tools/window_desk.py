@@ -1,7 +1,7 @@
 """Tries the desk of the clerks' window, without a browser: deaths of `serve` and of the window, faults, ballots of others, the shut desk."""
 import concurrent.futures, hashlib, os, pathlib, re, shutil, signal, subprocess
 
-from window_clerk import Clerk, Window, at_terminal, ended, passphrase_of
+from window_clerk import Clerk, Window, at_terminal, ended, passphrase_of, stop
 from window_seen import NAMES, new_folder, see
 
 
@@ -17,7 +17,7 @@ def try_deaths(program, work):
         # Killed with a request under way: stopped before, so that it cannot answer.
         form = ann.look('cast', 'v3', ['12'])
         number = window.serve_id()
-        os.kill(number, signal.SIGSTOP)
+        stop(number)
         with concurrent.futures.ThreadPoolExecutor(1) as pool:
             waiting = pool.submit(ann.record, form)
             window.await_asked('v3')
@@ -46,7 +46,7 @@ def try_deaths(program, work):
         form = ann.look('cast', 'v4', ['99'])
         count = len(window.entries())
         number = window.serve_id()
-        os.kill(number, signal.SIGSTOP)
+        stop(number)
         with concurrent.futures.ThreadPoolExecutor(1) as pool:
             waiting = pool.submit(ann.record, form)
             window.await_asked('v4')
@@ -111,7 +111,7 @@ def try_settled(window, ann):
     """A request without an answer is settled as soon as its clerk has one recorded for this voter."""
     form = ann.look('cast', 'v9', ['12'])
     number = window.serve_id()
-    os.kill(number, signal.SIGSTOP)
+    stop(number)
     with concurrent.futures.ThreadPoolExecutor(1) as pool:
         waiting = pool.submit(ann.record, form)
         window.await_asked('v9')

@@ -3,7 +3,7 @@ with many words."""
 import concurrent.futures, json, os, re, signal, stat, subprocess, time
 
 from window_clerk import (CLERKS, LIMIT, PYTHON, RUN, SCRIPT, TOP, Clerk, Window, at_terminal, ended, passphrase_of,
-                          roll_given, typed_at_terminal, until)
+                          roll_given, stop, typed_at_terminal, until)
 from window_seen import MARKUP, NAMES, new_folder, see
 
 # Runs the window with another number of seconds for an answer.
@@ -165,11 +165,11 @@ def try_late(program, work):
         ann, ben = Clerk(window), Clerk(window)
         ann.sign_in('Ann'), ben.sign_in(NAMES[2])
         form, others, number = ann.look('cast', 'v1', ['12']), ben.look('cast', 'v1', ['7']), window.serve_id()
-        os.kill(number, signal.SIGSTOP)
+        stop(number)
         try:
             begun = time.monotonic()
             page = ann.record(form)
-            see('It is not known whether this was recorded.' in page.seen and 1 <= time.monotonic() - begun < 20,
+            see('It is not known whether this was recorded.' in page.seen and 1 <= time.monotonic() - begun < 50,
                 'after the wait it is not known', page.seen, time.monotonic() - begun)
             page = ann.get('/')
             see('no answer came: cast, voter v1. It may still come.' in page.seen and 'It was not recorded' not in page.seen,
@@ -273,7 +273,7 @@ def try_after_shut(program, work):
         ann, head = Clerk(window), Clerk(window)
         ann.sign_in('Ann'), head.sign_in('Head')
         form, number = ann.look('cast', 'v1', ['12']), window.serve_id()
-        os.kill(number, signal.SIGSTOP)
+        stop(number)
         with concurrent.futures.ThreadPoolExecutor(1) as pool:
             waiting = pool.submit(ann.record, form)
             window.await_asked('v1')
