@@ -1,9 +1,10 @@
 -- The fields of a record that are kept.
-use Rattle.std.proofs.Common.{◌≡◌, ◌<◌, ◌≤◌, ◌+◌, ◌++◌, ℕ, zero, suc, List, [], ◌∷◌, append-nil, append_assoc, drop, get_or, length, Option, refl, ap, sym, ◌∙◌, arith}
+use Rattle.std.proofs.Common.{◌≡◌, ◌<◌, ◌≤◌, ◌+◌, ◌++◌, ℕ, zero, suc, List, [], ◌∷◌, append_assoc, drop, get_or, length, Option, refl, ap, sym, ◌∙◌, arith}
 use Rattle.std.specs.Prelude.{option_map, unwrap_or}
 use Rattle.std.specs.Str.{IsUtf8, trim}
 use Rattle.std.proofs.lemmas.Bool.{le-ltb, lt-ltb}
 use Rattle.std.proofs.lemmas.List.{drop_more}
+use Rattle.std.proofs.lemmas.Str.{IsUtf8-nil}
 use Rattle.csv.specs.Records.{AllText, field_at}
 use Rattle.pb_read.specs.Rows.{field}
 use Rattle.pb_rows.specs.Reading.{Fields}
@@ -24,6 +25,13 @@ unfolding AllText
 field_is_text [] place are within = absurd (omega (arith, within))
 field_is_text (x ∷ row) zero are within = are.0
 field_is_text (x ∷ row) (suc place) are within = field_is_text row place are.1 (omega (arith, within))
+
+-- also where the record does not have it
+pub field_is_utf8 : (row : Fields) (place : ℕ) → AllText row → IsUtf8 (field row place)
+unfolding AllText
+field_is_utf8 [] place are = IsUtf8-nil
+field_is_utf8 (x ∷ row) zero are = are.0
+field_is_utf8 (x ∷ row) (suc place) are = field_is_utf8 row place are.1
 
 module _ (row : Fields) (places : List ℕ) (i place : ℕ) (more : i < length places) (is : place ≡ get_or places i 0) (kept : Fields)
     (so_far : kept ++ texts_at row (drop i places) ≡ texts_at row places) where

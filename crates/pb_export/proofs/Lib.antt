@@ -2,6 +2,7 @@
 pub mod Tidy
 pub mod Pieces
 pub mod KeptFields
+pub mod NewColumns
 pub mod KeysBehind
 pub mod Headers
 pub mod Metas

@@ -29,11 +29,15 @@ pub struct Further {
 
 impl Further {
     ghost use Rattle.std.specs.Prelude.{◌≡◌, [], string_bytes};
+    ghost use Rattle.std.specs.FinMap as finite;
     ghost use Rattle.pb_export.specs.Inner.Behind.{behind, of_project, of_voter};
 
     /// Nothing further.
     pub fn none(alloc: Global) -> Further
-        ensures { result.projects.items ≡ [] }
+        ensures projects { result.projects.items ≡ [] }
+        ensures voters { (result.voters.items ≡ []) × (result.places ≡ finite.empty) }
+        ensures names { (result.project_names ≡ []) × (result.voter_names ≡ []) }
+        ensures keys { (result.keys ≡ []) × (string_bytes result.comment ≡ []) }
     {
         Further {
             comment: String::new(alloc),

@@ -1,6 +1,6 @@
 //! Further keys of META.
 
-ghost use Rattle.std.specs.Prelude.{◌≡◌, ◌≤◌, length};
+ghost use Rattle.std.specs.Prelude.{◌≡◌, ◌≤◌, [], length};
 
 use pb_core::no_memory::NoMemory;
 use std::alloc::Global;
@@ -43,7 +43,9 @@ impl Model for FurtherKeys {
 
 impl FurtherKeys {
     /// No keys.
-    pub(crate) fn none(alloc: Global) -> FurtherKeys {
+    pub(crate) fn none(alloc: Global) -> FurtherKeys
+        ensures { result ≡ [] }
+    {
         FurtherKeys {
             keys: Vec::new(alloc),
         }
