@@ -11,6 +11,7 @@ use crate::section::{due_at_end, end_remedy};
 use crate::unknown_texts::{LATE_PROJECT, is_cut_code};
 use pb_read::Stage;
 use pb_witness::cause::Cause;
+use pb_witness::faulty_record::FaultyRecord;
 use pb_witness::fields::{JoinedBy, column_of};
 use pb_witness::heads::{head_of, section_of};
 use pb_witness::quote::{Span, span_of};
@@ -214,8 +215,26 @@ impl<R: Files> Case<'_, R> {
         if self.faulty.kind() == ReadKind::MissingColumn {
             self.put_codes(out, self.faulty.mark);
         }
+        if self.may_have_slid() {
+            out.put(
+                "The costs may have slid by a row, as where a cell was deleted: compare each cost with its project first. If they have slid, correct all of them. If not:\n",
+            );
+        }
         put_joined(out, self.faulty.joined(), self.remedy(), VOTE);
         self.put_command(out)
+    }
+
+    /// Whether it is the first or the last project, which has more than an id, and the only one without a cost.
+    fn may_have_slid(&self) -> bool {
+        let has_none = |it: &&FaultyRecord| {
+            it.kind() == ReadKind::BadMoney && it.is_of_projects() && it.value().is_empty()
+        };
+        let behind = self.text.row_behind(self.faulty.mark);
+        let is_last = behind.is_some_and(|row| text_at(&row, 0).eq_ignore_ascii_case("VOTES"));
+        has_none(&self.faulty)
+            && !self.faulty.is_id_alone()
+            && (self.faulty.is_first_row() || is_last)
+            && self.known.witness.refused.iter().filter(has_none).count() == 1
     }
 
     /// Puts which command mends a record, if one does.
