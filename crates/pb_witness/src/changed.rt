@@ -80,6 +80,13 @@ pub fn has_one_of(words: &str, text: &str) -> bool {
         .any(|word| is_one_of(words, word))
 }
 
+/// The first word of a text by white space, and what is behind it.
+pub(crate) fn first_word(text: &str) -> (&str, &str) {
+    let text = text.trim();
+    text.split_once(|c: char| c.is_whitespace())
+        .unwrap_or((text, ""))
+}
+
 /// The last word of a text; the empty text if it has none.
 pub(crate) fn last_word(text: &str) -> &str {
     let mut words = text.rsplit(|c: char| !c.is_alphanumeric());

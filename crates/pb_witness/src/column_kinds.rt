@@ -1,6 +1,6 @@
 //! What a column of PROJECTS or VOTES may have that no count reads, as its name says.
 
-use crate::changed::{begins, has_one_of, has_part, has_word, is_one_of};
+use crate::changed::{begins, first_word, has_digit, has_one_of, has_part, has_word, is_one_of};
 use crate::prelude::*;
 
 /// What columns of VOTES are called that have points, and then those that say how many ballots a row is.
@@ -34,15 +34,35 @@ const BESIDE: &str = "is|has|was|ok|flag|vote|ballot|row|entry|record";
 /// Those of them that may have something else, and others that may.
 const VALID_OR_MORE: &str = "status|accepted|finished|completed|voted|has_voted";
 
-/// What columns are called that have remarks, which no list of words knows.
+/// What columns of PROJECTS are called beside these that may have the answer of a check; and what any of them says of a
+/// project that passed it, or failed.
+const CHECKS: &str =
+    "assessment|opinion|admitted|admissible|legal|lawful|check|legal_check|formal_check|legal_opinion|formal_opinion|\
+    opinia|ocena_formalna";
+
+pub(crate) const PASSED: &str =
+    "positive|passed|pass|admitted|accepted|approved|legal|lawful|admissible|feasible|ok|pozytywna|pozytywny|positiv";
+
+pub(crate) const FAILED: &str =
+    "negative|failed|fail|not passed|not admitted|rejected|refused|not accepted|not approved|illegal|not legal|unlawful|\
+    inadmissible|not admissible|unfeasible|infeasible|not feasible|not ok|negatywna|negatywny|negativ";
+
+/// What columns are called that have remarks, which no list of words knows; how remarks begin that say that their row does
+/// not count, and what may stand behind that.
 pub(crate) const NOTES: &str = "remark|remarks|comment|comments|note|notes";
+
+const NOT_COUNTED: &str =
+    "invalid|not valid|not counted|does not count|void|duplicate|withdrawn|rejected|cancelled|canceled|\
+    disqualified|ungültig|nieważny|nieważna|wycofany|wycofane|zurückgezogen|abgelehnt";
+
+const BEHIND: &str = "|by|on|in|from|since|of|because|as|-|\u{2013}";
 
 /// What columns are called that have currencies.
 const CURRENCIES: &str =
     "currency|currencies|waluta|waehrung|währung|devise|moneda|valuta|mena|měna";
 
 /// Words in the name of a column of costs that may be later ones.
-const LATER: &str =
+pub(crate) const LATER: &str =
     "after|corrected|correction|verified|verification|revised|updated|new|amended|changed";
 
 /// Parts of the name of a column that may have the dates of the votes, and of one that has other dates.
@@ -60,7 +80,7 @@ pub(crate) enum Has {
     Valid,
     ValidOrMore,
     Currencies,
-    /// Perhaps units of the costs.
+    /// Perhaps units of the costs, or the answers of a check.
     Units,
     /// Perhaps dates of votes.
     Dates,
@@ -68,6 +88,19 @@ pub(crate) enum Has {
     Costs,
     /// Rounds of votes.
     Rounds,
+    Notes,
+}
+
+/// Whether a remark begins with words which say that its row does not count.
+pub(crate) fn says_not_counted(remark: &str) -> bool {
+    let begin = remark
+        .split(|c: char| ",;:.!(".contains(c))
+        .next()
+        .unwrap_or("");
+    let (first, rest) = first_word(begin);
+    let next = first_word(rest).0;
+    let is_said = is_one_of(BEHIND, next) || has_digit(next);
+    is_one_of(NOT_COUNTED, begin.trim()) || (is_one_of(NOT_COUNTED, first) && is_said)
 }
 
 /// Whether a column of this name says which rows are valid, or has remarks.
@@ -104,7 +137,7 @@ impl Has {
     /// What a column of another name may have.
     fn of_others(name: &str, is_votes: bool) -> Option<Has> {
         if !is_votes {
-            Some(Has::Units)
+            (!has_one_of(OF_OTHERS, name)).then_some(Has::Units)
         } else if has_part(OF_DATES, name) && !has_part(OF_OTHER_DATES, name) {
             Some(Has::Dates)
         } else {
@@ -117,7 +150,9 @@ impl Has {
         let is_votes = matches!(section, Section::Votes);
         let is_later = has_word(name, "cost") && has_one_of(LATER, name);
         if is_one_of(NOTES, name) {
-            None
+            Some(Has::Notes)
+        } else if !is_votes && is_one_of(CHECKS, name) {
+            Some(Has::ValidOrMore)
         } else if name.eq_ignore_ascii_case("round") {
             is_votes.then_some(Has::Rounds)
         } else if is_one_of(VALID_OR_MORE, name) {

@@ -1,7 +1,7 @@
 //! Columns of PROJECTS and VOTES that no count reads, and that may say what should count.
 
 use crate::changed::{is_digits, is_one_of};
-use crate::column_kinds::{Has, NUMBERS, POINTS};
+use crate::column_kinds::{FAILED, Has, NUMBERS, PASSED, POINTS, says_not_counted};
 use crate::prelude::*;
 use crate::row::{Limits, day_of};
 
@@ -17,7 +17,7 @@ const STATES: &str =
     canceled|deleted|removed|counted|not counted|void|ok|eligible|ineligible|disqualified|duplicate|\
     blank|spoiled|spoilt|tak|nie|ja|nein|oui|non|si|ano|ne|nee|y|n|t|f|x|wahr|falsch|prawda|fałsz|falsz|\
     vrai|faux|vero|falso|not approved|not accepted|feasible|unfeasible|infeasible|not feasible|positive|\
-    negative|pozytywna|negatywna|missing|preview|survey preview|spam";
+    negative|pozytywna|negatywna|missing|preview|survey preview|spam|passed|failed|not ok|+";
 
 /// What stands in a database's column of bits, which are bytes and no digits; and the form of an oddity by them.
 const BITS: &str = "\u{0}|\u{1}";
@@ -155,13 +155,19 @@ impl FurtherColumn {
             Has::Points => {
                 return self.take_state(value, of_column(Oddity::VotesWithPoints), found);
             }
+            Has::Units if is_answer(value) => return self.take_state(value, odd.in_form(0), found),
             Has::Units if !is_money(value) => self.is_open = value.is_empty(),
             Has::Ballots if is_number(value, row.ballot().len() as u64) => {
                 self.tell(of_column(Oddity::SeveralBallots), found)
             }
             Has::Ballots => {}
             Has::Currencies if value.is_empty() => {}
-            Has::Valid | Has::ValidOrMore | Has::Rounds | Has::Currencies | Has::Units => {
+            Has::Valid
+            | Has::ValidOrMore
+            | Has::Rounds
+            | Has::Currencies
+            | Has::Units
+            | Has::Notes => {
                 return self.take_state(value, odd, found);
             }
             Has::Costs => self.take_cost(value, Money::read(row.value()).ok()),
@@ -220,7 +226,9 @@ impl FurtherColumn {
         let is_state = says(value) || says(first);
         let differs = !value.eq_ignore_ascii_case(first);
         match self.has {
-            Has::Currencies | Has::Units => differs,
+            Has::Units => differs && is_one_of(PASSED, value) == is_one_of(FAILED, first),
+            Has::Notes => says_not_counted(value) != says_not_counted(first),
+            Has::Currencies => differs,
             Has::Points => differs && (has_points(value) || has_points(first)),
             Has::ValidOrMore => differs && is_state && !is_number(value) && !is_number(first),
             _ => differs && (is_state || value.is_empty() != first.is_empty()),
@@ -253,6 +261,11 @@ impl FurtherColumn {
 pub(crate) fn is_money(value: &str) -> bool {
     let mut words = value.split(|c: char| c.is_whitespace() || "().,/".contains(c));
     !value.is_empty() && words.all(|word| word.is_empty() || is_one_of(UNITS, word))
+}
+
+/// Whether a value is the answer of a check.
+fn is_answer(value: &str) -> bool {
+    is_one_of(PASSED, value) || is_one_of(FAILED, value)
 }
 
 /// Whether a value of a column of points says that not each project has one.

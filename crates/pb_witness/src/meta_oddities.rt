@@ -1,10 +1,11 @@
 //! What in META can change a result, and what META says that other warnings rest on.
 
 use crate::changed::{begins, has_digit, has_one_of, has_part, has_word, is_one_of};
+use crate::column_kinds::LATER;
 use crate::columns::is_money;
 use crate::keys::Keys;
 use crate::prelude::*;
-use crate::row::{Limits, day_of};
+use crate::row::{Limits, day_of, year_of};
 use crate::unread::UnreadKeys;
 use pb_core::money_fault::MoneyFault;
 use pb_core::project::Project;
@@ -83,6 +84,8 @@ pub(crate) struct MetaOddities {
     /// district.
     further: Option<Odd>,
     has_budget_per: bool,
+    /// The row of a later budget, by its key, with its hundredths, and its year or the largest number: the latest.
+    later: Option<Odd>,
     unread: UnreadKeys,
     /// The row that may be meant for `max_length`, by its key, with what it allows.
     most: Option<Odd>,
@@ -105,6 +108,7 @@ impl MetaOddities {
             is_below_budget: false,
             further: None,
             has_budget_per: false,
+            later: None,
             unread: UnreadKeys::new(alloc),
             most: None,
         }
@@ -210,6 +214,17 @@ impl MetaOddities {
 
     /// Takes a key that may be a budget beside the one that is counted.
     fn take_further(&mut self, key: &str, value: &str, mark: Mark) {
+        if let (Some(year), Some(amount)) = (year_of_later(key), hundredths(value)) {
+            let odd = Odd::of_key(Oddity::RepeatedKey, mark).in_form(7).by(amount);
+            let is_last = self.later.is_none_or(|odd| odd.limit <= Some(year));
+            let limit = Some(year);
+            self.later = if is_last {
+                Some(Odd { limit, ..odd })
+            } else {
+                self.later
+            };
+            return;
+        }
         let is_per = begins(key, "budget_per_") && !value.is_empty();
         if !is_per && !(is_of_budget(key) && !is_of_no_district(key) && are_amounts(value)) {
             return;
@@ -255,6 +270,11 @@ impl MetaOddities {
         let are_of_parts = self.has_budget_per || has_districts;
         let further = self.further.filter(|odd| are_of_parts || odd.number > 1);
         found.take_some(further.map(|odd| odd.by(0)));
+        let day = self.limits.begin.or(self.limits.end).unwrap_or(u64::MAX);
+        let is_later = |odd: &Odd| {
+            odd.number != election.budget().0 && odd.limit >= Some(year_of(day))
+        };
+        found.take_some(self.later.filter(is_later));
         found.take_some(self.most.and_then(|odd| broken_by_few(odd, election)));
         self.unread.end(election, found)
     }
@@ -377,6 +397,22 @@ fn is_of_budget(key: &str) -> bool {
 fn is_of_no_district(key: &str) -> bool {
     let is_year = |word: &str| matches!(whole_number(word), Some(1900..=2100));
     has_one_of(NO_DISTRICT, key) || key.split(|c: char| !c.is_alphanumeric()).any(is_year)
+}
+
+/// The year in a key that has only `budget` and this, or a word such as `new` for one that replaces an earlier budget: then
+/// the largest number.
+fn year_of_later(key: &str) -> Option<u64> {
+    let mut year = None;
+    for word in key.split(|c: char| !c.is_alphanumeric()) {
+        let said = whole_number(word).filter(|year| matches!(*year, 1900..=2100));
+        year = match said {
+            _ if word.eq_ignore_ascii_case("budget") => year,
+            None if is_one_of(LATER, word) => Some(u64::MAX),
+            Some(_) => year.max(said),
+            None => return None,
+        };
+    }
+    year
 }
 
 /// Whether a value is amounts, with `,` between them.

@@ -3,7 +3,9 @@
 use crate::approvals::Approvals;
 use crate::behind_vote::names_other;
 use crate::carried_forward::ProjectsAbove;
-use crate::changed::{has_digit, has_one_of, is_digits, is_one_of, is_power};
+use crate::changed::{
+    first_word, has_digit, has_one_of, is_digits, is_one_of, is_power, last_word,
+};
 use crate::columns::FurtherColumns;
 use crate::fields::{has_byte, has_lines};
 use crate::meta_oddities::{
@@ -23,19 +25,23 @@ const TOTALS: &str =
 /// The fewest projects above a last one that is their sum by its cost alone.
 const MANY: usize = 4;
 
+/// The fewest costs that count on, from this one on, in hundredths, and of how many projects they are one at least.
+const FEWEST_COUNTED: u64 = 3;
+
+const LEAST_COUNTED: u64 = 10_000;
+
+const PART_COUNTED: u64 = 25;
+
 /// The fewest voters of whom somebody should approve a project.
 const FEWEST_VOTERS: usize = 3;
 
 /// What columns are called that name a part of the city.
 const DISTRICTS: &str = "district|subdistrict|neighborhood|subunit";
 
-/// What the name of a project says that can't win, and what may stand behind that, or in brackets or before a
-/// number.
+/// What the name of a project says that can't win, and what may stand behind that.
 const WITHDRAWN: &str =
     "withdrawn|rejected|cancelled|canceled|disqualified|wycofany|wycofane|odrzucony|odrzucone|\
     zurückgezogen|abgelehnt";
-
-const BEHIND: &str = "|-|\u{2013}|\u{2014}";
 
 const SAID_BY: &str = "by|on|in|from|since";
 
@@ -183,7 +189,7 @@ impl ProjectOddities {
         found: &mut Oddities,
     ) -> Result<(), AllocError> {
         self.take_total(election, found);
-        self.take_answer(election, found);
+        self.take_costs(election, found);
         let compares = self.votes.is_some() && !has_fault;
         let approvals = Approvals::of(self.alloc, election)?;
         let supporters = approvals.all.as_slice();
@@ -233,20 +239,38 @@ impl ProjectOddities {
         said == sum && differ > 2
     }
 
-    /// Takes the project that costs less than 1, and less than a thousandth of each other one, as an answer such as `none of
-    /// these` that needed a cost.
-    fn take_answer(&self, election: &Election, found: &mut Oddities) {
+    /// Takes costs that are at most a hundredth of every other one, of five or more (of three below 1, and a thousandth), as
+    /// where one is in thousands or stands for none; and those that each are 1 above the one before, as a cell that was
+    /// copied downwards counts on.
+    fn take_costs(&self, election: &Election, found: &mut Oddities) {
+        let count = self.accepted.len() as u64;
         let (mut least, mut next, mut cheapest) = (u64::MAX, u64::MAX, None);
+        let (mut before, mut open, mut counted) = (0u64, None, None);
         for (row, project) in self.accepted.iter().zip(election.projects()) {
             let cost = project.cost().0;
             if cost < least {
-                (next, least, cheapest) = (least, cost, Some(row.odd));
+                (next, least, cheapest) = (least, cost, Some(row.odd.behind(None)));
+            } else if cost == least {
+                cheapest = Some(row.odd.behind(cheapest));
             } else {
                 next = next.min(cost);
             }
+            let goes_on = before >= LEAST_COUNTED && cost == before.saturating_add(100);
+            open = goes_on.then_some(row.odd.behind(open));
+            let are_enough = |odd: &Odd| {
+                odd.number >= FEWEST_COUNTED && odd.number.saturating_mul(PART_COUNTED) >= count
+            };
+            counted = counted.or(open.filter(are_enough));
+            before = cost;
         }
-        let is_so = self.accepted.len() > 2 && least < 100 && least.saturating_mul(1_000) < next;
-        found.take_some(cheapest.filter(|_| is_so).map(|odd| odd.in_form(6)));
+        let is_far = |times: u64| least.saturating_mul(times) <= next;
+        let is_least = |odd: &Odd| {
+            let are_few = odd.number.saturating_mul(2) < count;
+            let is_answer = count > 2 && least < 100 && is_far(1_000);
+            are_few && (is_answer || (count > MANY as u64 && is_far(100)))
+        };
+        found.take_some(cheapest.filter(is_least).map(|odd| odd.in_form(6)));
+        found.take_some(counted.map(|odd| odd.in_form(8)));
     }
 
     /// Takes the first or the last row if it is probably a total.
@@ -328,34 +352,35 @@ pub(crate) fn has_total(text: &str) -> bool {
     !is_digits(text) && has_one_of(TOTALS, text)
 }
 
-/// Whether the name of a project says that it is withdrawn or the like: with such a word at its start or in
-/// brackets, which is alone there, in capitals, or has a sign behind it, or `by` or the like (at the start with a
-/// number).
+/// Whether the name of a project says that it is withdrawn or the like: with such a word in capitals at its end, or at the
+/// start of a part of it.
 fn says_withdrawn(name: &str) -> bool {
-    let parts = name.split(|c: char| "()[]".contains(c));
-    for (place, part) in parts.enumerate() {
-        let (first, rest) = first_word(part);
-        let word = first.trim_matches(|c: char| "*:!-".contains(c));
-        if !is_one_of(WITHDRAWN, word) {
-            continue;
-        }
-        let is_small = |c: char| c.is_lowercase();
-        let is_loud = name.contains(is_small) && !word.contains(is_small);
-        let next = first_word(rest).0;
-        let is_said = is_one_of(SAID_BY, next) && (place > 0 || has_digit(rest));
-        let is_apart = word.len() < first.len() || is_one_of(BEHIND, next) || is_said;
-        if is_loud || is_apart {
-            return true;
+    for (place, piece) in name.split(|c: char| "()[]".contains(c)).enumerate() {
+        for part in piece.split(|c: char| ",/\u{2013}\u{2014}".contains(c)) {
+            let tail = part.rsplit_once(" - ").map_or("", |(_, tail)| tail);
+            if begins_withdrawn(part, name, place > 0) || begins_withdrawn(tail, name, false) {
+                return true;
+            }
         }
     }
-    false
+    is_loud(last_word(name), name)
 }
 
-/// The first word of a text, and what is behind it.
-fn first_word(text: &str) -> (&str, &str) {
-    let text = text.trim();
-    text.split_once(|c: char| c.is_whitespace())
-        .unwrap_or((text, ""))
+/// Whether a part of a name begins with such a word, which is alone, in capitals, or has a sign or a number behind it, or `by` or
+/// the like (outside brackets with a number).
+fn begins_withdrawn(part: &str, name: &str, is_inside: bool) -> bool {
+    let (first, rest) = first_word(part);
+    let word = first.trim_matches(|c: char| "*:!-".contains(c));
+    let next = first_word(rest).0;
+    let is_said = is_one_of(SAID_BY, next) && (is_inside || has_digit(rest));
+    let is_apart = word.len() < first.len() || matches!(next, "" | "-") || has_digit(next);
+    is_loud(word, name) || (is_one_of(WITHDRAWN, word) && (is_apart || is_said))
+}
+
+/// Whether a word says so in capitals, and not the whole name is written so.
+fn is_loud(word: &str, name: &str) -> bool {
+    let is_small = |c: char| c.is_lowercase();
+    is_one_of(WITHDRAWN, word) && name.contains(is_small) && !word.contains(is_small)
 }
 
 /// Whether the project at this place costs as much as all others together, and no ballot approves it.

@@ -64,6 +64,11 @@ pub(crate) fn day_of(text: &str) -> Option<u64> {
     (is_day && !text.contains('/')).then_some(months.saturating_mul(31).saturating_add(days))
 }
 
+/// The year of the day with this number.
+pub(crate) fn year_of(day: u64) -> u64 {
+    day.saturating_sub(32) / 372
+}
+
 /// A row of PROJECTS or VOTES that is accepted.
 #[derive(Clone, Copy)]
 pub(crate) struct Row<'a> {

@@ -1,6 +1,6 @@
 //! Columns of PROJECTS whose values votes may name in place of the ids.
 
-use crate::changed::{has_one_of, has_word, is_digits};
+use crate::changed::{has_one_of, has_word, is_digits, is_one_of};
 use crate::columns::MOST_COLUMNS;
 use crate::meta_oddities::whole_number;
 use crate::prelude::*;
@@ -13,6 +13,9 @@ const LONGEST: usize = 20;
 /// Words in the name of a column that may have the ids of the projects, and of one that has none.
 const IDS: &str = "id|ids|no|nr|number|code|ballot";
 
+/// Words that may stand before the number of a project in its name.
+const NUMBERS: &str = "no|nr|number|project|projekt";
+
 const NO_IDS: &str = "of|related|parent|order|rank|score|vote|votes|page|district";
 
 /// Words in the name of a column that may have a part of the budget for each row.
@@ -23,6 +26,8 @@ const BUDGETS: &str =
 #[derive(Drop)]
 struct ValueColumn {
     place: usize,
+    /// Whether it has the names, of which what may be the number on the ballot is the value.
+    is_name: bool,
     values: IdTable,
     /// Whether its name may be that of ids, and of those on the ballot paper, which may number the rows.
     may_be_ids: bool,
@@ -37,7 +42,7 @@ struct ValueColumn {
     sum: u64,
 }
 
-/// The columns of PROJECTS beside the id, the cost and the name.
+/// The columns of PROJECTS beside the id and the cost.
 #[derive(Drop)]
 pub(crate) struct ValueColumns {
     alloc: Global,
@@ -53,17 +58,19 @@ impl ValueColumns {
         names: &ByteRecord,
         header: Mark,
     ) -> Result<ValueColumns, AllocError> {
-        let read = [Column::ProjectId.name(), Column::Cost.name(), "name"];
+        let read = [Column::ProjectId.name(), Column::Cost.name()];
         let mut columns = Vec::new(alloc);
         for place in 0..names.len().min(MOST_COLUMNS) {
             let name = text_at(names, place);
             if !read.iter().any(|read| name.eq_ignore_ascii_case(read)) {
                 let values = IdTable::new(alloc);
+                let is_name = name.eq_ignore_ascii_case("name");
                 columns.push(ValueColumn {
                     place,
+                    is_name,
                     values,
-                    may_be_ids: has_one_of(IDS, name) && !has_one_of(NO_IDS, name),
-                    is_of_ballot: has_word(name, "ballot"),
+                    may_be_ids: is_name || (has_one_of(IDS, name) && !has_one_of(NO_IDS, name)),
+                    is_of_ballot: is_name || has_word(name, "ballot"),
                     may_be_budgets: has_one_of(BUDGETS, name),
                     count: 0,
                     other: 0,
@@ -84,6 +91,11 @@ impl ValueColumns {
     pub(crate) fn take(&mut self, row: &Row<'_>) -> Result<(), AllocError> {
         for column in self.columns.iter_mut() {
             let value = row.at(column.place);
+            let value = if column.is_name {
+                number_of(value)
+            } else {
+                value
+            };
             let is_new = value.len() <= LONGEST
                 && column.values.insert(self.alloc, value, 0)?.is_none();
             let is_number = whole_number(value) == Some(row.election.projects().len() as u64);
@@ -128,11 +140,19 @@ impl ValueColumns {
             let is_order = may_be && column.count == all && column.other > 0;
             let is_number = column.numbered == all && !column.is_of_ballot;
             let odd = Odd::of_column(Oddity::RepeatedColumn, self.header, column.place);
-            if has_all && without > 0 {
+            if has_all && without > 0 && column.other > 0 && !column.is_name {
                 found.take(odd.in_form(4).by(without as u64));
             } else if has_all && is_order && !is_number {
-                found.take(odd.in_form(5));
+                found.take(odd.in_form(if column.is_name { 6 } else { 5 }));
             }
         }
     }
+}
+
+/// The first word of a name, or the one behind such as `No.`, without signs, which may be a number on the ballot.
+fn number_of(name: &str) -> &str {
+    let mut words = name
+        .split(|c: char| c.is_whitespace() || ".:)#(".contains(c))
+        .filter(|word| !word.is_empty() && !is_one_of(NUMBERS, word));
+    words.next().unwrap_or("")
 }

@@ -157,6 +157,10 @@ If it is the most projects that a ballot may name, call the key `max_length`, an
 an amount stands below `budget`, without a key, and is ignored
 If both are parts of one budget, write their sum as `budget`, and delete this row. If not, ask what it is: then give it a \
     key of its own, or delete it.",
+        "{value} is ignored: only the amount of the key `budget` is counted
+an amount that may be a later budget is ignored: only that of the key `budget` is counted
+Compare both with the decision on this vote. If this one is right, write it as `budget`. If not, nothing is wrong, and you \
+    can delete this row.",
     ],
     &[
         "its cost, {value}, is the sum of all costs above
@@ -177,14 +181,18 @@ It is counted as a project. If it is a total, delete the row. If not, give it an
         "its id is a key of META, which is not read here: the row is counted as any other
 the id of a row is a key of META, which is not read here: the row is counted as any other
 If the row is meant for META, move it there. If not, give it another id.",
-        "its cost, {value}, is less than a thousandth of every other cost
-a cost is less than a thousandth of every other cost
-It is counted as a project. If it is one, check its cost. If it is an answer such as `none of these`, delete its row, take its id \
-    out of the votes, and keep these ballots.",
+        "its cost, {value}, is at most a hundredth of every other cost. This concerns {projects}
+a cost is at most a hundredth of every other cost. This concerns {projects}
+It is counted as a project. If it is one, find out its cost: it may be in thousands, or stand there until the right one is known. If \
+    it is an answer such as `none of these`, delete its row, take its id out of the votes, and keep these ballots. If it is a note \
+    that no vote names, read it, then delete it. If the cost is right, nothing is wrong.",
         "its cost, {value}, is the sum of the projects above, and no vote names it
 a cost is the sum of the projects above, and no vote names the project
 It is counted as a project. It may be a sum that was carried forward to the next page: if so, delete the row. If it is a project, \
     compare its cost with the office's list.",
+        "its cost, {value}, is 1 more than the cost above, and so is each of the next ones
+a cost is 1 more than the cost above, and so is each of the next ones
+A cell may have been copied downwards, and a spreadsheet counted on. Compare the costs with the office's list.",
     ],
     &[
         "the column `votes` says {value}, but the number of vote rows that name the project is {number}
@@ -348,6 +356,10 @@ Compare some votes with the ballots. If the ballots have the values of this colu
 a column of PROJECTS has the same ids as `project_id`, in another order, and is not read
 Ask which of the two the votes mean. Call that column `project_id`, and the other one `comment`. If only some voters mean \
     this one, as on ballots in another language, write the ids of `project_id` in their votes instead.",
+        "its texts begin with the ids of the projects, in another order
+the names of projects begin with their ids, in another order
+Compare some votes with the ballots. If they mean the numbers in the names, write these as `project_id`. If they mean the ids, take \
+    the numbers out of the names.",
     ],
     &[
         "points are ignored: every project named in a vote counts the same
