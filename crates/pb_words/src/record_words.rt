@@ -204,6 +204,13 @@ impl<R: Files> Case<'_, R> {
             });
             return;
         }
+        self.put_first_looks(out);
+        put_joined(out, self.faulty.joined(), self.remedy(), VOTE);
+        self.put_command(out)
+    }
+
+    /// Puts what to look at before the remedy.
+    fn put_first_looks(&self, out: &mut WordsWriter) {
         if self.faulty.is_short()
             && self.faulty.joined().is_none()
             && self.text.is_last(self.faulty.mark)
@@ -220,8 +227,6 @@ impl<R: Files> Case<'_, R> {
                 "The costs may have slid by a row, as where a cell was deleted: compare each cost with its project first. If they have slid, correct all of them. If not:\n",
             );
         }
-        put_joined(out, self.faulty.joined(), self.remedy(), VOTE);
-        self.put_command(out)
     }
 
     /// Whether it is the first or the last project, which has more than an id, and the only one without a cost.
