@@ -93,6 +93,7 @@ impl BesideVote {
 
     /// Takes a row that is accepted.
     pub(crate) fn take(&mut self, row: &Row<'_>) {
+        let above = usize::try_from(self.rows).unwrap_or(usize::MAX);
         self.rows = self.rows.saturating_add(1);
         self.has_list |= row.ballot().len() > 1;
         if row.ballot().is_empty() {
@@ -107,10 +108,11 @@ impl BesideVote {
         }
         self.is_open = false;
         for column in self.columns.iter_mut() {
-            if column.is_open() {
-                column.take(self.alloc, row, self.header);
-                self.is_open |= column.is_open();
+            let is_full = !bytes_at(row.record, column.place).is_empty();
+            if column.is_open() && !(is_full && column.waits()) {
+                column.take(self.alloc, row, self.header, above);
             }
+            self.is_open |= column.is_open();
         }
     }
 
@@ -185,17 +187,22 @@ impl OtherColumn {
         self.is_of_votes || self.last_empty.is_open || self.crosses.is_open || self.is_of_text()
     }
 
+    /// Whether only a row that has nothing in it can say something.
+    fn waits(&self) -> bool {
+        self.last_empty.waits() && !(self.is_of_votes || self.crosses.is_open || self.is_of_text())
+    }
+
     fn is_of_text(&self) -> bool {
         self.ends || self.is_instead || self.names_it || self.choices.is_open
     }
 
-    /// Takes a row below the column names, which begin here.
-    fn take(&mut self, alloc: Global, row: &Row<'_>, header: Mark) {
+    /// Takes a row below the column names, which begin here, and below so many rows.
+    fn take(&mut self, alloc: Global, row: &Row<'_>, header: Mark, above: usize) {
         let has_vote = !row.ballot().is_empty();
         let bytes = bytes_at(row.record, self.place);
         self.is_of_votes &= bytes.is_empty() != has_vote;
         if self.last_empty.is_open {
-            self.last_empty.take(row, bytes.is_empty());
+            self.last_empty.take(row, bytes.is_empty(), above);
         }
         if self.crosses.is_open {
             let odd = self.odd(row, header).in_form(6);

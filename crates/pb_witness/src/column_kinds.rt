@@ -57,6 +57,9 @@ const NOT_COUNTED: &str =
 
 const BEHIND: &str = "|by|on|in|from|since|of|because|as|-|\u{2013}";
 
+/// What columns of PROJECTS, and keys of META, are called that name a district.
+pub(crate) const DISTRICT: &str = "district|subunit";
+
 /// What columns are called that have currencies.
 const CURRENCIES: &str =
     "currency|currencies|waluta|waehrung|währung|devise|moneda|valuta|mena|měna";
@@ -89,6 +92,8 @@ pub(crate) enum Has {
     /// Rounds of votes.
     Rounds,
     Notes,
+    /// Districts of projects.
+    Districts,
 }
 
 /// Whether a remark begins with words which say that its row does not count.
@@ -130,6 +135,7 @@ impl Has {
             Has::Rounds => 4,
             Has::Units => 5,
             Has::Dates => 6,
+            Has::Districts => 9,
             _ => usize::from(is_vote),
         }
     }
@@ -163,6 +169,8 @@ impl Has {
             Some(Has::ValidOrMore)
         } else if is_of_validity(name) {
             Some(Has::Valid)
+        } else if !is_votes && is_one_of(DISTRICT, name) {
+            Some(Has::Districts)
         } else if !is_votes && is_one_of(CURRENCIES, name) {
             Some(Has::Currencies)
         } else if !is_votes && is_later && !has_one_of("of", name) {

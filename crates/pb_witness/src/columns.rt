@@ -1,9 +1,9 @@
 //! Columns of PROJECTS and VOTES that no count reads, and that may say what should count.
 
-use crate::changed::{is_digits, is_one_of};
+use crate::changed::{has_word, is_digits, is_one_of};
 use crate::column_kinds::{FAILED, Has, NUMBERS, PASSED, POINTS, says_not_counted};
 use crate::prelude::*;
-use crate::row::{Limits, day_of};
+use crate::row::{Limits, NEAR, NEXT, day_of};
 
 /// The fewest dates of votes that META excludes.
 const FEWEST_DATES: u64 = 5;
@@ -24,6 +24,9 @@ const BITS: &str = "\u{0}|\u{1}";
 
 const OF_BITS: usize = 7;
 
+/// The form of an oddity by a date before or behind those of most votes.
+const OUTSIDE: usize = 8;
+
 /// Words for currencies, and for how many of them an amount is.
 const UNITS: &str =
     "pln|zl|zł|złoty|złotych|eur|euro|euros|usd|gbp|chf|czk|kč|huf|ft|forint|ron|lei|bgn|sek|nok|dkk|kr|\
@@ -38,10 +41,13 @@ struct FurtherColumn {
     has: Has,
     /// Whether something may be said of it, by all that was read.
     is_open: bool,
-    /// How many of its values were looked at, and how many of them are others than the cost.
+    /// How many of its values were looked at, how many of them are others than the cost, or far from META's dates, and how
+    /// many are within these, or META's district.
     count: u64,
     other: u64,
-    /// The first row, and what it says; and the first with another unit, or a date that META excludes.
+    within: u64,
+    /// The first row, and what it says; and the first with another unit, or a date or district that META excludes, measured by
+    /// how many there are.
     first: Option<Odd>,
     value: String,
     further: Option<Odd>,
@@ -100,6 +106,7 @@ impl FurtherColumns {
             is_open: true,
             count: 0,
             other: 0,
+            within: 0,
             first: None,
             value: String::new(self.alloc),
             further: None,
@@ -127,10 +134,8 @@ impl FurtherColumns {
                 let odd = Odd::of_column(Oddity::RepeatedColumn, self.header, column.place);
                 found.take(odd.in_form(2).by(column.other))
             }
-            let are_many = column.other >= FEWEST_DATES
-                && column.other.saturating_mul(10) >= column.count.saturating_mul(9);
-            let is_told = column.is_open && (column.has != Has::Dates || are_many);
-            found.take_some(column.further.filter(|_| is_told));
+            let further = column.further.filter(|_| column.is_open);
+            found.take_some(further.and_then(|odd| column.told(odd)));
         }
     }
 }
@@ -172,6 +177,11 @@ impl FurtherColumn {
             }
             Has::Costs => self.take_cost(value, Money::read(row.value()).ok()),
             Has::Dates => self.take_date(value, row.limits, odd),
+            Has::Districts if value.eq_ignore_ascii_case(row.district) => {
+                self.within = self.within.saturating_add(1);
+            }
+            Has::Districts if value.is_empty() || has_word(value, row.district) => {}
+            Has::Districts => self.further = Some(odd.behind(self.further)),
         }
         Ok(())
     }
@@ -235,15 +245,34 @@ impl FurtherColumn {
         }
     }
 
-    /// Takes a value that may be the date of a vote, which META excludes.
+    /// Takes a value that may be the date of a vote, which META may exclude.
     fn take_date(&mut self, value: &str, limits: &Limits, odd: Odd) {
-        let is_outside = day_of(value).is_some_and(|day| limits.exclude(day));
-        self.is_open = is_outside || value.is_empty();
+        let (day, before) = (day_of(value), limits.dates);
+        let is_outside = |days: u64| day.is_some_and(|day| limits.exclude(day, days));
+        self.is_open = before.is_some() && (day.is_some() || value.is_empty());
         self.count = self.count.saturating_add(1);
-        self.other = self.other.saturating_add(u64::from(is_outside));
-        if is_outside {
-            let before = limits.dates;
-            self.further = self.further.or(Some(Odd { before, ..odd }));
+        self.other = self.other.saturating_add(u64::from(is_outside(NEAR)));
+        if is_outside(NEXT) {
+            self.further = Some(Odd { before, ..odd }.behind(self.further));
+        } else {
+            self.within = self.within.saturating_add(u64::from(day.is_some()));
+        }
+    }
+
+    /// The first row with another value, as odd so if three others for each such are what they should be, or if nearly all dates
+    /// are far from META's.
+    fn told(&self, odd: Odd) -> Option<Odd> {
+        let are_far = self.within == 0
+            && self.other == odd.number
+            && self.other >= FEWEST_DATES
+            && self.other.saturating_mul(10) >= self.count.saturating_mul(9);
+        let are_most = self.within >= odd.number.saturating_mul(3);
+        match self.has {
+            Has::Units => Some(odd),
+            Has::Dates if are_far => Some(odd),
+            Has::Dates if are_most && self.within >= FEWEST_DATES => Some(odd.in_form(OUTSIDE)),
+            Has::Districts if are_most => Some(odd),
+            _ => None,
         }
     }
 

@@ -12,7 +12,7 @@ const FEWEST: u64 = 4;
 pub(crate) struct LastEmpty {
     /// Whether each row without a text comes behind each with one, and behind some.
     pub(crate) is_open: bool,
-    /// How many rows have one.
+    /// How many rows have one, above the first that has none.
     full: usize,
     /// The first row that has none, measured by how many there are.
     empty: Option<Odd>,
@@ -28,10 +28,17 @@ impl LastEmpty {
         }
     }
 
-    /// Takes a row, which has nothing in the column or something.
-    pub(crate) fn take(&mut self, row: &Row<'_>, is_empty: bool) {
+    /// Whether each row so far has one: then nothing is to be taken of a further row that has one.
+    pub(crate) fn waits(&self) -> bool {
+        self.is_open && self.empty.is_none()
+    }
+
+    /// Takes a row, which has nothing in the column or something, below so many.
+    pub(crate) fn take(&mut self, row: &Row<'_>, is_empty: bool, above: usize) {
+        if self.empty.is_none() {
+            self.full = above;
+        }
         if !is_empty {
-            self.full = self.full.saturating_add(1);
             self.is_open = self.empty.is_none();
         } else if (self.full as u64) < FEWEST {
             self.is_open = false;

@@ -8,6 +8,7 @@
 //! for a warning.
 #![tactic(auto)]
 
+mod alike;
 mod approvals;
 pub mod audited;
 pub mod behind_vote;
@@ -39,8 +40,10 @@ mod meta_oddities;
 mod moved_cells;
 mod names_row;
 pub mod oddities;
+mod one_each;
 pub mod page_notes;
 mod parts;
+mod persons;
 mod phones;
 mod prelude;
 mod project_oddities;
@@ -65,6 +68,7 @@ pub mod unknown;
 mod unread;
 pub mod unwritable;
 mod value_columns;
+mod void_ids;
 mod vote_oddities;
 mod voter_lists;
 pub mod voters;

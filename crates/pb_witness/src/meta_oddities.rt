@@ -1,7 +1,7 @@
 //! What in META can change a result, and what META says that other warnings rest on.
 
 use crate::changed::{begins, has_digit, has_one_of, has_part, has_word, is_one_of};
-use crate::column_kinds::LATER;
+use crate::column_kinds::{DISTRICT, LATER};
 use crate::columns::is_money;
 use crate::keys::Keys;
 use crate::prelude::*;
@@ -72,6 +72,8 @@ pub(crate) struct MetaOddities {
     third_is_other: bool,
     /// The fewest ballots that have to approve a project, where META says so.
     pub(crate) fewest: Option<u64>,
+    /// The district that the file is of; empty if META names none.
+    pub(crate) district: String,
     /// The value of `rule`; empty if there is none.
     rule: String,
     rule_mark: Mark,
@@ -101,6 +103,7 @@ impl MetaOddities {
             limits: Limits::default(),
             third_is_other: false,
             fewest: None,
+            district: String::new(alloc),
             rule: String::new(alloc),
             rule_mark: Mark::start(),
             budget: Mark::start(),
@@ -201,6 +204,10 @@ impl MetaOddities {
             drop(mem::replace(&mut self.rule, rule));
             self.rule_mark = mark;
         } else {
+            if is_one_of(DISTRICT, key) {
+                let district = String::from_str(self.alloc, value)?;
+                drop(mem::replace(&mut self.district, district));
+            }
             self.take_further(key, value, mark);
             if is_of_length(key) {
                 let odd = Odd::of_key(Oddity::RepeatedKey, mark).in_form(5);

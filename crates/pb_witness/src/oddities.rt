@@ -285,6 +285,7 @@ impl Oddities {
         ensures others { (kind : ℕ) → kind ≢ tag_of the_type odd.oddity
             → (slice_index self.new.firsts kind ≡ slice_index self.old.firsts kind)
             × (slice_index self.new.counts kind ≡ slice_index self.old.counts kind) }
+        ensures kinds { self.new.kinds ≡ self.old.kinds }
     {
         let place = odd.oddity as usize;
         if self.counts[place] == 0 {
@@ -297,7 +298,12 @@ impl Oddities {
     }
 
     /// Gives those of a kind that are odd in the first of these forms the second.
-    pub(crate) fn reform(&mut self, oddity: Oddity, (before, form): (usize, usize)) {
+    pub(crate) fn reform(&mut self, oddity: Oddity, forms: (usize, usize))
+        ensures firsts { self.new.firsts ≡ self.old.firsts }
+        ensures counts { self.new.counts ≡ self.old.counts }
+        ensures kinds { self.new.kinds ≡ self.old.kinds }
+    {
+        let (before, form) = forms;
         for odd in self.found.iter_mut() {
             if odd.oddity == oddity && odd.form == before {
                 odd.form = form;
@@ -312,14 +318,20 @@ impl Oddities {
     }
 
     /// Takes an odd record, if there is one.
-    pub(crate) fn take_some(&mut self, odd: Option<Odd>) {
+    pub(crate) fn take_some(&mut self, odd: Option<Odd>)
+        ensures kinds { self.new.kinds ≡ self.old.kinds }
+    {
         if let Some(odd) = odd {
             self.take(odd);
         }
     }
 
     /// Takes a text that no count reads, unless its column is odd otherwise.
-    pub(crate) fn take_unread(&mut self, odd: Odd) -> Result<(), AllocError> {
+    pub(crate) fn take_unread(&mut self, odd: Odd) -> Result<(), AllocError>
+        ensures firsts { self.new.firsts ≡ self.old.firsts }
+        ensures counts { self.new.counts ≡ self.old.counts }
+        ensures kinds { self.new.kinds ≡ self.old.kinds }
+    {
         let is_it = |other: &Odd| match (other.names, odd.names) {
             (Some(one), Some(names)) => one.at == names.at && other.value_place == odd.value_place,
             _ => false,
@@ -341,7 +353,11 @@ impl Oddities {
     }
 
     /// Says that memory was refused.
-    pub fn fail(&mut self) {
+    pub fn fail(&mut self)
+        ensures firsts { self.new.firsts ≡ self.old.firsts }
+        ensures counts { self.new.counts ≡ self.old.counts }
+        ensures kinds { self.new.kinds ≡ self.old.kinds }
+    {
         self.is_whole = false;
     }
 

@@ -162,10 +162,10 @@ fn sheet_of(id: &str) -> Option<(&str, &str)> {
 }
 
 /// How many ballots there are if each voter's id ends in the number of a sheet: each ballot has all sheets, two or more, and no
-/// project is named on two of them, but two or more on each.
+/// project is named on two of them, but two or more on each. As one block for each end the rows may be of wards.
 fn sheets(alloc: Global, election: &Election) -> Result<Option<u64>, AllocError> {
     let (mut stems, mut ends) = (IdTable::new(alloc), IdTable::new(alloc));
-    let (mut ballots, mut kinds) = (0u64, 0u32);
+    let (mut ballots, mut kinds, mut blocks, mut above) = (0u64, 0u32, 0u32, NONE);
     let mut owners = Vec::new(alloc);
     owners.resize(election.projects().len(), NONE)?;
     let mut are_sheets = true;
@@ -179,6 +179,8 @@ fn sheets(alloc: Global, election: &Election) -> Result<Option<u64>, AllocError>
         let sheet = kept_in(&mut ends, alloc, end, kinds)?;
         kinds = kinds.saturating_add(u32::from(sheet.is_none()));
         let sheet = sheet.unwrap_or(kinds.saturating_sub(1));
+        blocks = blocks.saturating_add(u32::from(sheet != above));
+        above = sheet;
         are_sheets &= are_of(sheet, voter.ballot.places(), &mut owners);
         if !are_sheets {
             break;
@@ -187,7 +189,7 @@ fn sheets(alloc: Global, election: &Election) -> Result<Option<u64>, AllocError>
     let all = ballots.saturating_mul(u64::from(kinds));
     let are_all = are_sheets && all == election.voters().len() as u64 && kinds > 1;
     let has_two = |sheet: u32| owners.iter().filter(|owner| **owner == sheet).count() > 1;
-    let are_named = are_all && (0..kinds).all(has_two);
+    let are_named = are_all && blocks > kinds && (0..kinds).all(has_two);
     drop(owners);
     Ok((are_named && ballots >= FEWEST_SHEETS).then_some(ballots))
 }

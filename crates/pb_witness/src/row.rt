@@ -19,8 +19,11 @@ pub(crate) struct Limits {
     pub(crate) dates: Option<Mark>,
 }
 
-/// How many days a ballot may be cast before the first day or behind the last, and nothing is said.
-const NEAR: u64 = 31;
+/// How many days a ballot may be cast before the first day or behind the last, and nothing is said: where others are within,
+/// as for ballots that were typed later, and where none is.
+pub(crate) const NEXT: u64 = 3;
+
+pub(crate) const NEAR: u64 = 31;
 
 impl Limits {
     /// Whether META says what the projects of a ballot may cost together.
@@ -28,12 +31,12 @@ impl Limits {
         self.min_cost.is_some() || self.max_cost.is_some()
     }
 
-    /// Whether a day is long before the first one or behind the last.
-    pub(crate) fn exclude(&self, day: u64) -> bool {
+    /// Whether a day is more than so many days before the first one or behind the last.
+    pub(crate) fn exclude(&self, day: u64, days: u64) -> bool {
         let is_before = self
             .begin
-            .is_some_and(|begin| day.saturating_add(NEAR) < begin);
-        is_before || self.end.is_some_and(|end| end.saturating_add(NEAR) < day)
+            .is_some_and(|begin| day.saturating_add(days) < begin);
+        is_before || self.end.is_some_and(|end| end.saturating_add(days) < day)
     }
 }
 
@@ -47,7 +50,7 @@ fn has_number(bytes: &[u8]) -> bool {
     false
 }
 
-/// The number of the day that a text begins with, like `2026-05-31` or `31.5.2026`, if each month had 31 days.
+/// The number of the day that a text begins with, like `2026-05-31` or `31.5.2026`: 400 years have 146,097 of them.
 pub(crate) fn day_of(text: &str) -> Option<u64> {
     let mut parts = text.split(|c: char| !c.is_ascii_digit());
     let (first, month, last) = (parts.next()?, parts.next()?, parts.next()?);
@@ -58,15 +61,20 @@ pub(crate) fn day_of(text: &str) -> Option<u64> {
     };
     let (months, days) = (whole_number(month)?, whole_number(day)?);
     let is_day = year.len() == 4 && matches!((months, days), (1..=12, 1..=31));
-    let months = whole_number(year)?
-        .saturating_mul(12)
-        .saturating_add(months);
-    (is_day && !text.contains('/')).then_some(months.saturating_mul(31).saturating_add(days))
+    // Years that begin in March end with the day that some lack.
+    let months = months.saturating_add(9) % 12;
+    let year = whole_number(year)?.saturating_sub(months / 10);
+    let days = days
+        .saturating_add(months.saturating_mul(306).saturating_add(5) / 10)
+        .saturating_add(year.saturating_mul(365))
+        .saturating_add(year / 4)
+        .saturating_sub(year / 100);
+    (is_day && !text.contains('/')).then_some(days.saturating_add(year / 400))
 }
 
-/// The year of the day with this number.
+/// The year of the day with this number, or another one within two days of a new year.
 pub(crate) fn year_of(day: u64) -> u64 {
-    day.saturating_sub(32) / 372
+    day.saturating_add(59).saturating_mul(400) / 146_097
 }
 
 /// A row of PROJECTS or VOTES that is accepted.
@@ -84,6 +92,8 @@ pub(crate) struct Row<'a> {
     pub(crate) names: &'a Firsts,
     /// What META asks of it.
     pub(crate) limits: &'a Limits,
+    /// The district that META names; empty if it names none.
+    pub(crate) district: &'a str,
     /// The places of the projects that its vote names.
     pub(crate) ballot: &'a [u32],
 }

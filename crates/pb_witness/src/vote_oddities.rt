@@ -1,5 +1,6 @@
 //! What is odd in VOTES.
 
+use crate::alike::AlikeVoters;
 use crate::behind_vote::{BehindVote, names_other};
 use crate::beside_vote::BesideVote;
 use crate::brackets::Brackets;
@@ -9,7 +10,9 @@ use crate::copies::Copies;
 use crate::last_vote::LastVote;
 use crate::meta_oddities::whole_number;
 use crate::names_row::NamesRow;
+use crate::one_each::OneEach;
 use crate::parts::Parts;
+use crate::persons::Persons;
 use crate::phones::Phones;
 use crate::prelude::*;
 use crate::project_oddities::has_total;
@@ -22,6 +25,7 @@ use crate::ticked::Ticked;
 use crate::turnout::take_turnout;
 use crate::twice_in_vote::TwiceInVote;
 use crate::unread::Unread;
+use crate::void_ids::VoidIds;
 use crate::voter_lists::ends_in_projects;
 
 /// What stands in place of an id below a list that was signed.
@@ -53,6 +57,10 @@ pub(crate) struct VoteOddities {
     phones: Phones,
     proxies: Proxies,
     same: SameVoters,
+    alike: AlikeVoters,
+    one_each: OneEach,
+    persons: Persons,
+    void_ids: VoidIds,
     brackets: Brackets,
     /// Where the last row begins, and what it is.
     last_row: Option<(Mark, Part)>,
@@ -95,6 +103,10 @@ impl VoteOddities {
             phones: Phones::new(alloc),
             proxies: Proxies::of(alloc, names, header)?,
             same: SameVoters::new(alloc),
+            alike: AlikeVoters::new(alloc),
+            one_each: OneEach::of(alloc, names, header)?,
+            persons: Persons::of(alloc, names, header),
+            void_ids: VoidIds::new(),
             brackets: Brackets::default(),
             last_row: None,
             empty: 0,
@@ -159,6 +171,12 @@ impl VoteOddities {
         if self.proxies.are_open {
             self.proxies.take(row)?;
         }
+        if self.one_each.is_open {
+            self.one_each.take(row)?;
+        }
+        if self.persons.is_open {
+            self.persons.take(row)?;
+        }
         Ok(())
     }
 
@@ -171,6 +189,8 @@ impl VoteOddities {
     ) -> Result<(), AllocError> {
         let is_plain = is_plain_end(id.first()) && is_plain_end(id.last());
         self.same.take(row, (id, is_plain))?;
+        self.alike.take(row, id)?;
+        self.void_ids.take(row, id);
         if !is_plain && id.len() > 1 && is_of_signs(id) {
             let odd = row.odd(Oddity::NoteRows).in_form(8);
             found.take(odd.at(odd.id_place));
@@ -290,6 +310,10 @@ impl VoteOddities {
         self.further.end(found);
         self.behind.end(self.alloc, &self.beside, found)?;
         self.unread.end(found)?;
+        self.one_each.end(found);
+        if let Some(odd) = last {
+            self.alike.end(election, odd, found)?;
+        }
         self.same.end(election, last, found)
     }
 
@@ -313,6 +337,10 @@ impl VoteOddities {
             _ => None,
         };
         self.parts.end(election, first, found)?;
+        let void = self.void_ids.odd(election.voters().len() as u64);
+        let is_told = void.is_some_and(|odd| found.tells_of(odd));
+        found.take_some(void.filter(|_| !is_told));
+        found.take_some(self.persons.odd());
         self.phones.end(election, found)?;
         self.proxies.end(election, found)
     }

@@ -105,6 +105,7 @@ impl Warnings {
                     projects: &self.witness.ids.projects,
                     names: &self.witness.ids.names,
                     limits: &self.meta.limits,
+                    district: self.meta.district.as_str(),
                     ballot: last_ballot(election),
                 };
                 match (part, &mut self.projects, &mut self.votes) {

@@ -47,7 +47,7 @@ If the point or comma separates thousands, delete it. If not, round the amount t
     program takes.
 Check whether the amount has too many digits.\n",
     "a project's cost is 0, but every project must cost something.
-If this budget would pay for the project, write the amount. If others pay, it is done in any case, or it was withdrawn, \
+If the amounts are in thousands, it may be rounded: get all of them again. If this budget would pay for the project, write the amount. If others pay, it is done in any case, or it was withdrawn, \
     delete its row, take its id out of the votes, and keep these ballots.\n",
     "an id is empty.
 First compare a few rows with the original: a column may have slid down by one cell. Fill in the id only if the \

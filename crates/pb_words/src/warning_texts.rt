@@ -265,6 +265,10 @@ It is counted as a voter. Ask what the brackets mean. If these ballots do not co
 the last {rows} of VOTES have the vote of the row above them, and nothing in a column that every row above fills
 They are counted as voters. The vote may have been filled down to rows that have only an id. Look for these ballots. If there \
     are none, delete these rows. If there are, nothing is wrong.",
+        "the id, {value}, has a word such as `void` or `test` in it. This concerns {rows}
+an id has a word such as `void` or `test` in it. This concerns {rows}
+It is counted as a voter. Ask what the word means. If this ballot does not count, as a spoiled one or a test, delete the row. If it \
+    does, keep it.",
     ],
     &[
         "a field in quotation marks runs over several lines that look like rows
@@ -324,7 +328,7 @@ A form may not have been cleared between voters, so that these votes have other 
     with the ballots, or ask the voters. If all are right, nothing is wrong.",
         "the vote is the one above it but for one id, which is the next in number; and so is each of the next ones. This concerns {rows}
 a vote is the one above it but for one id, which is the next in number; and so is each of the next ones. This concerns {rows}
-A cell may have been copied downwards, and a spreadsheet counted on. Compare all of these votes with the ballots. If they are test ballots of a scanner or a form, delete these rows, and one beside them that names all projects or none. If neither, nothing is wrong.",
+A cell may have been copied downwards, and a spreadsheet counted on. Compare all of these votes with the ballots. If they are test ballots of a scanner or a form, delete these rows, and one beside them that names all projects or none. If a row counts several ballots, write a row for each of them. If each is one ballot as it was cast, nothing is wrong.",
         "the vote names all projects, and every other vote names all or at most {limit}. This concerns {rows}
 a vote names all projects, and every other vote names all or at most {limit}. This concerns {rows}
 The boxes may have been ticked before the voters saw them. Find out how these votes were cast, or ask the voters. If your \
@@ -397,6 +401,14 @@ META may be that of another year. Compare its dates and its budget with the deci
 a column has bytes of 0 and 1. The column is ignored: every row is counted
 A database writes no and yes so, and they can't be seen. Get the column again as numbers (in SQL, `column + 0`). If it says that \
     rows do not count, take these out, and the id of such a project also out of the votes.",
+        "{value}, in column {column}, is days outside the dates of META, and most others are within. This concerns {rows}
+a few dates of a column are days outside those of META, and most others are within. This concerns {rows}
+Find out what these rows are. If they are test ballots, delete them. If they came too late, do with them what your rules say. If \
+    the date is that on which a ballot was typed or changed, or META's dates are wrong, keep them.",
+        "{value}, in column {column}, is not the district that META names, as it is in most rows. This concerns {projects}
+a few projects are of another district than the one that META names. This concerns {projects}
+If projects of two votes stand here, make a file for each: its budget, its projects, and its voters. If this project \
+    belongs to this vote, keep it.",
     ],
     &[
         "{value} is not counted: all projects share the amount of the key `budget`
@@ -436,6 +448,9 @@ Find out whether these are one voter, and which of the two ballots is valid. Tak
 but for a word behind `+` a voter's e-mail address is that of another row, so the voter may be counted twice
 Both may be one mailbox. Find out whether these are one voter, and which of the ballots is valid. Take the others out. If they \
     are two people who share a mailbox, keep both.",
+        "but for capital letters, signs such as `-`, or letters like 0 and 1, this id is that of another row, so the voter may be counted twice
+but for capital letters, signs such as `-`, or letters like 0 and 1, a voter's id is that of another row, so the voter may be counted twice
+Find out whether these are one voter, and which of the two ballots is valid. Take the other one out. If they are two people, keep both.",
     ],
     &[
         "all projects together cost {sum}, which is less than a hundredth of it
@@ -456,6 +471,14 @@ If a row stands for several ballots, write a row for each of them, with an id of
 a column has ids like those of voters, but no row has one of them
 If the row is also the ballot of that voter, as where somebody voted for others, write a row for each of them, with the same vote. \
     If it takes the place of that voter's ballot, or is of somebody else, call the column `comment`.",
+        "its values stand in several rows, each time with another project, and every vote names one
+a column of VOTES has values that stand in several rows, each time with another project, and every vote names one
+If it says whose choice a row is, each choice is counted as a voter. Write one row for each of these voters, with the ids of all \
+    its rows, and `,` between them. If each row is a ballot of its own, nothing is wrong.",
+        "{value}, in column {column}, stands in an earlier row too, and most others stand in one. This concerns {rows}
+a column has something of its own in most rows, and repeats it in a few. This concerns {rows}
+These may be several ballots of one voter. Find out whether they are, and which of them is valid. Take the others out. If they \
+    are people who share it, keep all.",
     ],
 ];
 
