@@ -65,7 +65,7 @@ mod turnout;
 mod twice_in_vote;
 mod twins;
 pub mod unknown;
-mod unread;
+pub mod unread;
 pub mod unwritable;
 mod value_columns;
 mod void_ids;

@@ -76,8 +76,8 @@ const COUNT: usize = LISTED.len();
 /// The most warnings of one kind that a check lists.
 pub const MOST: u64 = 100;
 
-/// The most texts that no count reads of which words speak.
-const MOST_UNREAD: usize = 3;
+/// The most texts that no count reads of which words speak: as many as a section has columns that are looked at.
+const MOST_UNREAD: usize = 100;
 
 /// What a row is of.
 #[derive(Clone, Copy, PartialEq, Eq)]
@@ -326,7 +326,7 @@ impl Oddities {
         }
     }
 
-    /// Takes a text that no count reads, unless its column is odd otherwise.
+    /// Takes a text that no count reads, unless its column or key is odd otherwise.
     pub(crate) fn take_unread(&mut self, odd: Odd) -> Result<(), AllocError>
         ensures firsts { self.new.firsts ≡ self.old.firsts }
         ensures counts { self.new.counts ≡ self.old.counts }
@@ -334,6 +334,7 @@ impl Oddities {
     {
         let is_it = |other: &Odd| match (other.names, odd.names) {
             (Some(one), Some(names)) => one.at == names.at && other.value_place == odd.value_place,
+            (None, None) => other.mark.at == odd.mark.at,
             _ => false,
         };
         if self.unread.len() < MOST_UNREAD && !self.found.iter().any(is_it) {

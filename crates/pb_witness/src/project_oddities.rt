@@ -4,7 +4,7 @@ use crate::approvals::Approvals;
 use crate::behind_vote::names_other;
 use crate::carried_forward::ProjectsAbove;
 use crate::changed::{
-    first_word, has_digit, has_one_of, is_digits, is_one_of, is_power, last_word,
+    begins, first_word, has_digit, has_one_of, is_digits, is_one_of, is_power, last_word,
 };
 use crate::columns::FurtherColumns;
 use crate::fields::{has_byte, has_lines};
@@ -44,6 +44,13 @@ const WITHDRAWN: &str =
     zurückgezogen|abgelehnt";
 
 const SAID_BY: &str = "by|on|in|from|since";
+
+/// What the name of an answer is that stands for no project, or how it begins.
+const NO_PROJECT: &str =
+    "none|nothing|no project|abstain|abstention|blank|keines|keiner|enthaltung|żaden|żadne|zaden|aucun|ninguno|\
+    nessuno|žádný";
+
+const NO_PROJECTS: &str = "none of |against all|neither of ";
 
 /// What is kept of a project.
 #[derive(Clone, Copy)]
@@ -105,7 +112,7 @@ impl ProjectOddities {
             twins: Twins::new(alloc),
             further: FurtherColumns::of(alloc, names, header, Section::Projects)?,
             values: ValueColumns::of(alloc, names, header)?,
-            unread: Unread::of(alloc, names, header)?,
+            unread: Unread::of(alloc, names, header, Section::Projects)?,
             withdrawn: None,
             accepted: Vec::new(alloc),
         })
@@ -131,6 +138,9 @@ impl ProjectOddities {
             let odd = row.odd(Oddity::ValidColumn).in_form(3);
             let odd = odd.at(self.name.unwrap_or(usize::MAX));
             self.withdrawn = Some(odd.behind(self.withdrawn));
+        }
+        if is_no_project(name) {
+            found.take(row.odd(Oddity::FooterRow).in_form(9));
         }
         self.further.take(row, found)?;
         self.accepted.push(CheckedProject {
@@ -269,7 +279,8 @@ impl ProjectOddities {
             let is_answer = count > 2 && least < 100 && is_far(1_000);
             are_few && (is_answer || (count > MANY as u64 && is_far(100)))
         };
-        found.take_some(cheapest.filter(is_least).map(|odd| odd.in_form(6)));
+        let cheapest = cheapest.filter(|odd| is_least(odd) && !found.tells_of(*odd));
+        found.take_some(cheapest.map(|odd| odd.in_form(6)));
         found.take_some(counted.map(|odd| odd.in_form(8)));
     }
 
@@ -364,6 +375,11 @@ fn says_withdrawn(name: &str) -> bool {
         }
     }
     is_loud(last_word(name), name)
+}
+
+/// Whether the name of a project says that it is an answer for none.
+fn is_no_project(name: &str) -> bool {
+    is_one_of(NO_PROJECT, name) || NO_PROJECTS.split('|').any(|words| begins(name, words))
 }
 
 /// Whether a part of a name begins with such a word, which is alone, in capitals, or has a sign or a number behind it, or `by` or

@@ -1,32 +1,40 @@
 //! Texts that no count reads, of which words alone ask whether they say what should count: in columns of PROJECTS
-//! and VOTES that are empty in most rows, and in values of META that name a project or a voter.
+//! and VOTES and keys of META that are not usual, and in values of META that name a project or a voter.
 
 use crate::behind_vote::OF_VOTERS;
 use crate::changed::{has_digit, has_one_of, is_one_of};
+use crate::column_kinds::{Has, NUMBERS};
 use crate::columns::MOST_COLUMNS;
 use crate::meta_oddities::whole_number;
 use crate::prelude::*;
 
-/// What columns are called whose texts say nothing of whether the row counts, beside those of voters.
+/// What columns are called whose texts say nothing of whether the row counts, or how, beside those of voters.
 const USUAL: &str =
-    "voter_id|vote|project_id|cost|comment|against|name|category|target|url|link|image|address|location|description";
+    "voter_id|vote|project_id|cost|comment|against|name|category|target|url|link|image|address|location|description|\
+    title|score|selected|latitude|longitude|date|time|timestamp";
+
+/// What keys of META are called whose values say nothing of what counts, unless they name a project or a voter.
+const USUAL_KEYS: &str =
+    "description|country|unit|city|subunit|district|instance|edition|year|language|comment|currency|title|name|url|link|\
+    source|author|license|version|contact|categories|neighborhoods|subdistricts|acknowledgments|experimental";
+
+/// The forms of a key of META: its value names a project or a voter; it sets a limit; or it is not usual.
+const NAMES_ONE: usize = 0;
+
+pub const SETS_LIMIT: usize = 1;
+
+pub const IS_NOT_READ: usize = 2;
 
 /// Words in a key that asks for so many votes, which no count uses.
 const LIMITS: &str = "min|minimum|quorum|threshold";
 
 const OF_VOTES: &str = "vote|votes|ballot|ballots|approvals|support|supporters|quorum|turnout";
 
-/// How many rows with a text may come before most rows have none.
-const MANY: u64 = 8;
-
-/// A column that no count reads.
+/// A column that no count reads, with the first row that has a text in it.
 #[derive(Clone, Copy)]
 struct UnreadColumn {
     place: usize,
-    /// The first row with a text, measured by how many there are.
     first: Option<Odd>,
-    /// Whether all of its texts are words, and most rows have none.
-    is_open: bool,
 }
 
 /// The columns of a section that no count reads.
@@ -34,9 +42,8 @@ struct UnreadColumn {
 pub(crate) struct Unread {
     /// Where the row of column names begins.
     header: Mark,
-    rows: u64,
     columns: Vec<UnreadColumn>,
-    /// Whether something may be said of one of them.
+    /// Whether one of them has no text yet.
     pub(crate) are_open: bool,
 }
 
@@ -46,52 +53,57 @@ impl Unread {
         alloc: Global,
         names: &ByteRecord,
         header: Mark,
+        section: Section,
     ) -> Result<Unread, AllocError> {
         let mut columns = Vec::new(alloc);
         for place in 0..names.len().min(MOST_COLUMNS) {
             let name = text_at(names, place);
-            columns.push(UnreadColumn {
-                place,
-                first: None,
-                is_open: !is_one_of(USUAL, name) && !is_one_of(OF_VOTERS, name),
-            })?;
+            if !is_known(name, section) {
+                columns.push(UnreadColumn { place, first: None })?;
+            }
         }
         Ok(Unread {
             header,
-            rows: 0,
+            are_open: !columns.is_empty(),
             columns,
-            are_open: true,
         })
     }
 
     /// Takes a row that is accepted.
     pub(crate) fn take(&mut self, row: &Row<'_>) {
-        self.rows = self.rows.saturating_add(1);
-        let most = (self.rows / 2).saturating_add(MANY);
         self.are_open = false;
         for column in self.columns.iter_mut() {
-            if column.is_open && !bytes_at(row.record, column.place).is_empty() {
-                let odd = row.odd(Oddity::ValidColumn).at(column.place);
-                let first = odd.named_in(self.header).behind(column.first);
-                column.first = Some(first);
-                column.is_open = first.number <= most && has_letter(row.at(column.place));
+            if column.first.is_some() {
+                continue;
             }
-            self.are_open |= column.is_open;
+            if bytes_at(row.record, column.place).is_empty() {
+                self.are_open = true;
+            } else {
+                let odd = row.odd(Oddity::ValidColumn).at(column.place);
+                column.first = Some(odd.named_in(self.header));
+            }
         }
     }
 
     /// Takes the end of the section. Of a column that is odd otherwise nothing more is said.
     pub(crate) fn end(&self, found: &mut Oddities) -> Result<(), AllocError> {
-        for column in &self.columns {
-            let is_few = |odd: &Odd| odd.number.saturating_mul(2) < self.rows;
-            let is_told = column.is_open && found.is_of_check();
-            if let Some(odd) = column.first.filter(|odd| is_told && is_few(odd)) {
-                let limit = Some(self.rows);
-                found.take_unread(Odd { limit, ..odd })?;
+        for odd in self.columns.iter().filter_map(|column| column.first) {
+            if found.is_of_check() {
+                found.take_unread(odd)?;
             }
         }
         Ok(())
     }
+}
+
+/// Whether a column of this name is usual, or other warnings say what in it should count.
+fn is_known(name: &str, section: Section) -> bool {
+    let is_of_number = matches!(section, Section::Votes) && is_one_of(NUMBERS, name);
+    let has = Has::by(name, section);
+    is_one_of(USUAL, name)
+        || is_one_of(OF_VOTERS, name)
+        || is_of_number
+        || !matches!(has, None | Some(Has::Units | Has::Dates | Has::Notes))
 }
 
 /// Whether a text has a letter.
@@ -103,8 +115,9 @@ fn has_letter(text: &str) -> bool {
 #[derive(Drop)]
 pub(crate) struct UnreadKeys {
     alloc: Global,
-    /// Words with a digit and a letter, each with the place of its row among those that have some.
+    /// Words with a digit and a letter, each with the place of its row among those that may be spoken of.
     words: IdTable,
+    has_words: bool,
     rows: Vec<Odd>,
 }
 
@@ -114,6 +127,7 @@ impl UnreadKeys {
         UnreadKeys {
             alloc,
             words: IdTable::new(alloc),
+            has_words: false,
             rows: Vec::new(alloc),
         }
     }
@@ -132,30 +146,40 @@ impl UnreadKeys {
                 has_ids = true;
             }
         }
+        self.has_words |= has_ids;
         let is_limit = has_one_of(LIMITS, key) && has_one_of(OF_VOTES, key);
-        let sets_one = is_limit && whole_number(value).is_some_and(|number| number > 1);
-        if has_ids || sets_one {
+        let form = if is_limit && whole_number(value).is_some_and(|number| number > 1) {
+            SETS_LIMIT
+        } else if is_one_of(USUAL_KEYS, key) || key.is_empty() || value.is_empty() {
+            NAMES_ONE
+        } else {
+            IS_NOT_READ
+        };
+        if has_ids || form != NAMES_ONE {
             let odd = Odd::of_key(Oddity::ValidColumn, mark);
-            self.rows.push(odd.in_form(usize::from(sets_one)))?;
+            self.rows.push(odd.in_form(form))?;
         }
         Ok(())
     }
 
-    /// Takes the end of the file: of each id in one of them its row is odd, and each that sets a limit.
+    /// Takes the end of the file: of each id in one of them its row is odd, and each that sets a limit; for a check each that
+    /// is not usual.
     pub(crate) fn end(&self, election: &Election, found: &mut Oddities) -> Result<(), AllocError> {
-        if self.rows.is_empty() {
-            return Ok(());
-        }
         let mut is_said = Vec::new(self.alloc);
         is_said.resize(self.rows.len(), false)?;
-        for project in election.projects() {
-            self.say(project.id(), &mut is_said);
+        if self.has_words {
+            for project in election.projects() {
+                self.say(project.id(), &mut is_said);
+            }
+            for voter in election.voters() {
+                self.say(voter.id.text(), &mut is_said);
+            }
         }
-        for voter in election.voters() {
-            self.say(voter.id.text(), &mut is_said);
-        }
+        let is_of_check = found.is_of_check();
         for (odd, is_said) in self.rows.iter().zip(&is_said) {
-            if *is_said || odd.form > 0 {
+            if *is_said {
+                found.take_unread(odd.in_form(NAMES_ONE))?;
+            } else if odd.form == SETS_LIMIT || (odd.form == IS_NOT_READ && is_of_check) {
                 found.take_unread(*odd)?;
             }
         }

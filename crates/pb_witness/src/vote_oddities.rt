@@ -94,7 +94,7 @@ impl VoteOddities {
             further: FurtherColumns::of(alloc, names, header, Section::Votes)?,
             behind: BehindVote::of(alloc, names, header, projects)?,
             beside: BesideVote::of(alloc, names, header)?,
-            unread: Unread::of(alloc, names, header)?,
+            unread: Unread::of(alloc, names, header, Section::Votes)?,
             runs: Runs::new(alloc),
             ticked: Ticked::default(),
             twice: TwiceInVote::new(alloc),

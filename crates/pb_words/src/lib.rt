@@ -38,6 +38,7 @@ mod saying;
 pub mod script_words;
 mod section;
 pub mod serve_words;
+mod shared_texts;
 pub mod tally_words;
 mod unknown_texts;
 mod unknown_words;

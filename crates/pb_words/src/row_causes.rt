@@ -5,6 +5,7 @@ use crate::prelude::*;
 use crate::unknown_texts::{LATE_PROJECT, is_cut_code};
 use pb_core::money::Money;
 use pb_witness::cause::Cause;
+use pb_witness::changed::is_one_of;
 use pb_witness::faulty_record::{FaultyRecord, has_other_line_end, is_spaced_mark};
 use pb_witness::fields::raw_text;
 use pb_witness::quote::Span;
@@ -19,6 +20,24 @@ pub(crate) const ESCAPED: &str =
 
 /// What to do about a space before a mark.
 pub(crate) const SPACED: &str = "Delete the space between `;` and the quotation mark.\n";
+
+/// What to do about a vote of zeros and ones.
+pub(crate) const OF_MARKS: &str =
+    "The vote is a row of zeros and ones: it may have a 1 for each project that the voter chose, in the order of a list. If so, find out that order, and write in all votes the ids of the projects with a 1. If not, look at the ballots.\n";
+
+/// What a web form sends for a box that is ticked and has no value.
+const TICKED: &str = "on|checked";
+
+/// Whether a vote is what a web form sends for boxes without values, and nothing else.
+pub(crate) fn is_of_boxes(vote: &str) -> bool {
+    vote.split(',').all(|piece| is_one_of(TICKED, piece.trim()))
+}
+
+/// Whether a vote is zeros and ones alone, three or more.
+pub(crate) fn is_of_marks(vote: &str) -> bool {
+    let is_mark = |piece: &str| matches!(piece.trim(), "0" | "1");
+    vote.split(',').count() > 2 && vote.split(',').all(|piece| is_mark(piece))
+}
 
 /// What to do about a row with more fields than there are column names, if it shows why: line ends of another kind, a code
 /// of a web page, or quotation marks that are not read as such.

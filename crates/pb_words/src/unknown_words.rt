@@ -3,6 +3,7 @@
 use crate::command_words::{put_clean, put_dropping};
 use crate::prelude::*;
 use crate::read_texts::NOTE;
+use crate::row_causes::{OF_MARKS, is_of_boxes, is_of_marks};
 use crate::unknown_texts::{
     ALL_WITHDRAWN, COUNTED_ON, EXAMPLE, FOR_A_BOX, LAST_ROW, LISTED, NAMES, NOT_RENUMBERED,
     ODD_LETTER, ONE_BEFORE, OTHER_ALPHABET, PART, READ_AS, RENUMBERED, TRIAL, TURNOUT, TWICE,
@@ -18,9 +19,6 @@ use pb_witness::unknown::Votes;
 
 /// What a trial version of a program writes in place of texts.
 const TRIALS: &str = "trial|demo|evaluation|unregistered|sample";
-
-/// What a web form sends for a box that is ticked and has no value.
-const TICKED: &str = "on|checked";
 
 /// What programs make of an id such as `NO`.
 const READ: &str = "false|true|nan";
@@ -103,6 +101,9 @@ impl<R: Files> Case<'_, R> {
         }
         if is_open && is_of_boxes(self.faulty.value()) {
             return out.put(WEB_FORM);
+        }
+        if is_of_marks(self.faulty.value()) {
+            return out.put(OF_MARKS);
         }
         if is_open && self.put_row_cause(out) {
             return;
@@ -486,11 +487,6 @@ fn once(id: &str) -> Option<&str> {
         [digit @ b'1'..=b'9', other] if digit == other => id.get(1..),
         _ => None,
     }
-}
-
-/// Whether a vote is what a web form sends for boxes without values, and nothing else.
-fn is_of_boxes(vote: &str) -> bool {
-    vote.split(',').all(|piece| is_one_of(TICKED, piece.trim()))
 }
 
 /// Whether a character is a letter of an alphabet such as the Greek or the Cyrillic one, and no Latin letter.

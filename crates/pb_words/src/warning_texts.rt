@@ -3,54 +3,16 @@
 //! same where the row can't be read again, unless it is equal; and what to do. They are in two tables, since a proof
 //! that reads one takes steps for each letter of it.
 
+use crate::shared_texts::{
+    NO_NUMBER, STRAY_ID, STRAY_VOTE, TOO_CHEAP, TOO_COSTLY, TOO_FEW_ROWS, TOO_LONG, TOO_MANY_ROWS,
+    TOO_SHORT,
+};
 use pb_read::Oddity;
 
 /// What to do about three digits behind a mark where other amounts have decimals.
 pub(crate) const BESIDE_DECIMALS: &str =
     "Other amounts have decimals. If the point or comma separates thousands here, \
     delete it where three digits follow it, and nowhere else. Otherwise write two decimals.\n";
-
-/// What is said of a row without a vote in which another field seems to be it.
-const STRAY_ID: &str = "{value} stands in place of a voter's id, and the vote is empty
-ids of projects stand in place of a voter's id, and the vote is empty
-Find out whose vote it is. If the row above has no vote, look at that voter's ballot: if this is its vote, write it there, and delete this row.";
-
-const STRAY_VOTE: &str = "the vote is empty, but {value} stands in column {column}
-the vote is empty, but another field of the row names projects
-If the voter chose these projects, write their ids into the column `vote`.";
-
-const TOO_COSTLY: &str =
-    "the projects of the vote {value} cost {sum} together, and `max_sum_cost` allows {most}
-the projects of the vote cost more together than `max_sum_cost` allows
-This ballot is counted. Check this key and the costs. If your rules do not allow the ballot, do with it what they say.";
-
-const TOO_CHEAP: &str =
-    "the projects of the vote {value} cost {sum} together, and `min_sum_cost` asks for {most}
-the projects of the vote cost less together than `min_sum_cost` asks for
-This ballot is counted. Check this key and the costs. If your rules do not allow the ballot, do with it what they say.";
-
-const TOO_LONG: &str = "the vote {value} names {projects}, and `max_length` allows {limit}
-the vote names {projects}, and `max_length` allows {limit}
-This ballot is counted. Look at it, and at that of the row below: they may be two voters' ballots in one field. If your \
-    rules do not allow the ballot, do with it what they say.";
-
-const TOO_SHORT: &str = "the vote {value} names {projects}, and `min_length` asks for {limit}
-the vote names {projects}, and `min_length` asks for {limit}
-This ballot is counted. Look at it. If the row is right, and your rules do not allow it, do with it what they say.";
-
-/// What is said of META's number of rows of votes or of projects.
-const TOO_FEW_ROWS: &str = "{value} is wrong: the number of {kind} rows in the file is {number}
-META's number of {kind}s is wrong: the number of {kind} rows in the file is {number}
-If rows are missing, get the whole file again. Correct the number only if you know that every row is here.";
-
-const TOO_MANY_ROWS: &str = "{value} is wrong: the number of {kind} rows in the file is {number}
-META's number of {kind}s is wrong: the number of {kind} rows in the file is {number}
-Find out which rows are too many: totals, notes, copies, rows of another year or of a test, ballots that are not valid, projects that were withdrawn. Correct the number only if you know that each row counts.";
-
-const NO_NUMBER: &str =
-    "{value} is not a whole number in digits; the number of {kind} rows in the file is {number}
-META's number of {kind}s is wrong: the number of {kind} rows in the file is {number}
-Write the number in digits.";
 
 /// How many kinds come first in `Oddity`.
 const FIRST_KINDS: usize = 14;
@@ -193,6 +155,10 @@ It is counted as a project. It may be a sum that was carried forward to the next
         "its cost, {value}, is 1 more than the cost above, and so is each of the next ones
 a cost is 1 more than the cost above, and so is each of the next ones
 A cell may have been copied downwards, and a spreadsheet counted on. Compare the costs with the office's list.",
+        "its name is that of an answer for none of the projects
+a project's name is that of an answer for none of the projects
+It is counted as a project, and wins money if enough voters chose it. If it is no project, delete its row, take its id out of the \
+    votes, and keep these ballots. If it is one, nothing is wrong.",
     ],
     &[
         "the column `votes` says {value}, but the number of vote rows that name the project is {number}

@@ -3,7 +3,7 @@
 use crate::mark_words::put_swallower;
 use crate::prelude::*;
 use crate::read_texts::{NOTE, OWN_ROWS};
-use crate::row_causes::cut_cause;
+use crate::row_causes::{OF_MARKS, cut_cause, is_of_marks};
 use crate::warning_texts::{BESIDE_DECIMALS, forms_of};
 use pb_core::money::Money;
 use pb_read::Oddity;
@@ -11,8 +11,9 @@ use pb_rounds::options::Completion;
 use pb_rounds::rule::Rule;
 use pb_witness::changed::is_one_of;
 use pb_witness::firsts::twice_in;
-use pb_witness::oddities::{MOST, Odd, Oddities};
+use pb_witness::oddities::{MOST, Odd, Oddities, Subject};
 use pb_witness::quote::span_of;
+use pb_witness::unread::{IS_NOT_READ, SETS_LIMIT};
 
 /// What is said behind the line of rows that a quotation mark made one.
 const NAMED: &str = " (SwallowedRows)";
@@ -29,6 +30,10 @@ const LAST_NUMBER: usize = 4;
 /// What is said, beside the remedy for one vote, where several name a project twice.
 const MANY_TWICE: &str =
     " Several votes are so, and all votes for one project may have become votes for another: compare others with the ballots too. If these differ, get all votes again.\n";
+
+/// What to do about columns and keys that no count reads.
+const NOT_READ: &str =
+    "This is usual. Just make sure that none of them says that a row does not count, that it replaces another one, or that a cost or the budget has changed.\n";
 
 /// What is said of a row that is odd: what, with what is known of the row; the same where the row is not
 /// known; and what to do.
@@ -122,9 +127,7 @@ A desk can open on this file. If it should have votes, get the whole file again.
             put_more(out, oddity, more, oddities.is_of_check());
         }
     }
-    for odd in &oddities.unread {
-        put_unread(out, text, odd);
-    }
+    put_unread(out, text, oddities);
 }
 
 /// Puts how many more there are of a kind, which a check does not list, or a count does not tell.
@@ -176,14 +179,22 @@ fn put_odd<R: Files>(
     let form = if row.is_some() { what } else { alone };
     put_text(out, text, odd, (form, row.as_ref()));
     out.fill(" ({}).\n", &[Own(odd.oddity.name())]);
-    let is_cut = matches!(odd.oddity, Oddity::CutName | Oddity::SurplusFields) && odd.number > 0;
-    match row
-        .filter(|_| is_cut)
-        .and_then(|row| cut_cause(&row, span_of(text, odd.mark)))
-    {
+    match row.and_then(|row| row_remedy(text, odd, &row)) {
+        Some(OF_MARKS) if is_again => {}
         Some(words) => out.put(words),
         None if is_again => {}
         None => put_odd_remedy(out, text, odd, oddities),
+    }
+}
+
+/// What to do about an odd record, if its row shows that.
+fn row_remedy<R: Files>(text: &Text<R>, odd: &Odd, row: &ByteRecord) -> Option<&'static str> {
+    match odd.oddity {
+        Oddity::CutName | Oddity::SurplusFields if odd.number > 0 => {
+            cut_cause(row, span_of(text, odd.mark))
+        }
+        Oddity::TwiceInVote if is_of_marks(text_at(row, odd.value_place)) => Some(OF_MARKS),
+        _ => None,
     }
 }
 
@@ -210,8 +221,69 @@ fn put_odd_remedy<R: Files>(out: &mut WordsWriter, text: &Text<R>, odd: &Odd, od
     }
 }
 
-/// Puts what is said of a text that no count reads.
-fn put_unread<R: Files>(out: &mut WordsWriter, text: &Text<R>, odd: &Odd) {
+/// Puts what is said of texts that no count reads: of unusual columns and keys a list for each section.
+fn put_unread<R: Files>(out: &mut WordsWriter, text: &Text<R>, oddities: &Oddities) {
+    let unread = oddities.unread.as_slice();
+    for odd in unread.iter().filter(|odd| !is_only_unread(odd)) {
+        put_unread_key(out, text, odd);
+    }
+    put_not_read(out, text, unread, (Subject::Key, "keys of META"));
+    put_not_read(out, text, unread, (Subject::Project, "columns of PROJECTS"));
+    put_not_read(out, text, unread, (Subject::Voter, "columns of VOTES"));
+    if unread.iter().any(is_only_unread) {
+        out.put(NOT_READ);
+    }
+}
+
+/// Whether nothing more is known of an odd text than that no count reads it.
+fn is_only_unread(odd: &Odd) -> bool {
+    odd.names.is_some() || odd.form == IS_NOT_READ
+}
+
+/// Puts those of a section that no count reads, each with its text, or its first text, if there are any.
+fn put_not_read<R: Files>(
+    out: &mut WordsWriter,
+    text: &Text<R>,
+    unread: &[Odd],
+    (subject, called): (Subject, &str),
+) {
+    let is_it = |odd: &Odd| odd.subject == subject && is_only_unread(odd);
+    let mut is_first = true;
+    for odd in unread.iter().filter(|odd| is_it(odd)) {
+        if is_first {
+            out.fill(
+                "{}: no count reads these {}: ",
+                &[Name(text.path), Own(called)],
+            );
+        } else {
+            out.put("; ");
+        }
+        put_not_read_one(out, text, odd);
+        is_first = false;
+    }
+    if !is_first {
+        out.put(".\n");
+    }
+}
+
+/// Puts a column or a key that no count reads, with its text, if the row can be read again.
+fn put_not_read_one<R: Files>(out: &mut WordsWriter, text: &Text<R>, odd: &Odd) {
+    let row = text.row_at(odd.mark);
+    let key = row.as_ref().map_or("", |row| text_at(row, odd.id_place));
+    match odd.names {
+        Some(_) => put_column_name(out, text, odd),
+        None if row.is_none() => out.fill("row {}", &[Number(odd.mark.at)]),
+        None => out.fill("{}", &[Quoted(key)]),
+    }
+    if let Some(row) = row {
+        let value = text_at(&row, odd.value_place);
+        let line = line_of(text, odd.mark);
+        out.fill(", with {} on line {}", &[Quoted(value), Number(line)])
+    }
+}
+
+/// Puts what is said of a key whose value no count reads.
+fn put_unread_key<R: Files>(out: &mut WordsWriter, text: &Text<R>, odd: &Odd) {
     let row = text.row_at(odd.mark);
     match row {
         Some(_) => drop(put_mark(out, text, odd.mark)),
@@ -219,24 +291,12 @@ fn put_unread<R: Files>(out: &mut WordsWriter, text: &Text<R>, odd: &Odd) {
     }
     let value = row.as_ref().map_or("", |row| text_at(row, odd.value_place));
     let key = row.as_ref().map_or("", |row| text_at(row, odd.id_place));
-    match odd.limit {
-        Some(rows) => {
-            out.put(", column ");
-            put_column_name(out, text, odd);
-            out.fill(
-                ": the program does not read the text in {} of {}, such as {}.\nLook whether it says that a row does not count, or something else that the count needs.\n",
-                &[Number(odd.number), Count(rows, "row"), Quoted(value)],
-            )
-        }
-        None => {
-            let form = if odd.form == 1 {
-                ", key {}: {} sets a limit, which no count uses.\nIf your rules have it, see whether the result keeps it.\n"
-            } else {
-                ", key {}: {} names a project or a voter, and the program does not read it.\nLook whether it says that something does not count.\n"
-            };
-            out.fill(form, &[Quoted(key), Quoted(value)])
-        }
-    }
+    let form = if odd.form == SETS_LIMIT {
+        ", key {}: {} sets a limit, which no count uses.\nIf your rules have it, see whether the result keeps it.\n"
+    } else {
+        ", key {}: {} names a project or a voter, and the program does not read it.\nLook whether it says that something does not count.\n"
+    };
+    out.fill(form, &[Quoted(key), Quoted(value)])
 }
 
 /// Whether a ballot is odd for how many projects it names.

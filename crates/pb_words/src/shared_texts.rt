@@ -1,0 +1,47 @@
+//! What is said of several kinds or forms of warnings alike, in the form of `warning_texts`.
+
+/// What is said of a row without a vote in which another field seems to be it.
+pub(crate) const STRAY_ID: &str = "{value} stands in place of a voter's id, and the vote is empty
+ids of projects stand in place of a voter's id, and the vote is empty
+Find out whose vote it is. If the row above has no vote, look at that voter's ballot: if this is its vote, write it there, and delete this row.";
+
+pub(crate) const STRAY_VOTE: &str = "the vote is empty, but {value} stands in column {column}
+the vote is empty, but another field of the row names projects
+If the voter chose these projects, write their ids into the column `vote`.";
+
+pub(crate) const TOO_COSTLY: &str =
+    "the projects of the vote {value} cost {sum} together, and `max_sum_cost` allows {most}
+the projects of the vote cost more together than `max_sum_cost` allows
+This ballot is counted. Check this key and the costs. If your rules do not allow the ballot, do with it what they say.";
+
+pub(crate) const TOO_CHEAP: &str =
+    "the projects of the vote {value} cost {sum} together, and `min_sum_cost` asks for {most}
+the projects of the vote cost less together than `min_sum_cost` asks for
+This ballot is counted. Check this key and the costs. If your rules do not allow the ballot, do with it what they say.";
+
+pub(crate) const TOO_LONG: &str =
+    "the vote {value} names {projects}, and `max_length` allows {limit}
+the vote names {projects}, and `max_length` allows {limit}
+This ballot is counted. Look at it, and at that of the row below: they may be two voters' ballots in one field. If your \
+    rules do not allow the ballot, do with it what they say.";
+
+pub(crate) const TOO_SHORT: &str =
+    "the vote {value} names {projects}, and `min_length` asks for {limit}
+the vote names {projects}, and `min_length` asks for {limit}
+This ballot is counted. Look at it. If the row is right, and your rules do not allow it, do with it what they say.";
+
+/// What is said of META's number of rows of votes or of projects.
+pub(crate) const TOO_FEW_ROWS: &str =
+    "{value} is wrong: the number of {kind} rows in the file is {number}
+META's number of {kind}s is wrong: the number of {kind} rows in the file is {number}
+If rows are missing, get the whole file again. Correct the number only if you know that every row is here.";
+
+pub(crate) const TOO_MANY_ROWS: &str =
+    "{value} is wrong: the number of {kind} rows in the file is {number}
+META's number of {kind}s is wrong: the number of {kind} rows in the file is {number}
+Find out which rows are too many: totals, notes, copies, rows of another year or of a test, ballots that are not valid, projects that were withdrawn. Correct the number only if you know that each row counts.";
+
+pub(crate) const NO_NUMBER: &str =
+    "{value} is not a whole number in digits; the number of {kind} rows in the file is {number}
+META's number of {kind}s is wrong: the number of {kind} rows in the file is {number}
+Write the number in digits.";
