@@ -187,6 +187,10 @@ MADE = {
     # 13 records of the three voters, and as many more as make 2,000,000 and one more
     'records.pb': lambda: three_voters(['k;v'] * 1_999_987),
     'records-and-one.pb': lambda: three_voters(['k;v'] * 1_999_988),
+    # a project and a voter more than there may be: the 10,001st project is record 10,007, the 1,000,001st voter record 1,000,011
+    'projects-and-one.pb': lambda: three_voters().replace(
+        b'VOTES', ''.join(f'{place};1\n' for place in range(3, 10_002)).encode() + b'VOTES'),
+    'voters-and-one.pb': lambda: three_voters(tail=''.join(f'{voter};\n' for voter in range(4, 1_000_002))),
     # as many lines as a sheet of a spreadsheet has rows, without the number of votes and with it
     'full-sheet.pb': lambda: three_voters(['k;v'] * 65_523),
     'numbered-sheet.pb': lambda: three_voters(['k;v'] * 65_522 + ['num_votes;3']),

@@ -40,15 +40,6 @@ pub(crate) fn ballot(rt: &impl Abort, alloc: Global, places: &[u32]) -> Ballot {
     Ballot::of(alloc, places).expect(rt, "memory")
 }
 
-/// The places below 10,000, rising.
-pub(crate) fn ten_thousand(rt: &impl Abort, alloc: Global) -> Vec<u32> {
-    let mut places = Vec::new(alloc);
-    for place in 0..10_000u32 {
-        places.push(place).expect(rt, "memory");
-    }
-    places
-}
-
 /// Each project's id, name and cost.
 fn show_projects(rt: &impl Abort, text: &mut String, projects: &[Project]) {
     for project in projects {

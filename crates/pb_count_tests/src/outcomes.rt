@@ -1,10 +1,7 @@
-//! Outcomes of counts and of runs at a share.
+//! Outcomes of counts.
 
 use pb_core::election::Election;
-use pb_core::gate::NoGate;
-use pb_core::money::Money;
-use pb_rounds::count::{count, equal_shares};
-use pb_rounds::measure::Measure;
+use pb_rounds::count::count;
 use pb_rounds::options::CountOptions;
 use pb_rounds::outcome::Outcome;
 use std::alloc::Global;
@@ -19,18 +16,4 @@ pub(crate) fn counted(
     options: &CountOptions,
 ) -> Outcome {
     count(rt, alloc, election, options).expect(rt, "an outcome")
-}
-
-/// The outcome at a share, with one worker.
-pub(crate) fn run_at(
-    rt: &(impl Abort + Threads + Sync),
-    alloc: Global,
-    election: &Election,
-    share: u64,
-    measure: Measure,
-) -> Outcome {
-    let mut options = CountOptions::standard();
-    options.measure = measure;
-    let run = equal_shares(rt, alloc, election, Money(share), &options, &NoGate);
-    run.expect(rt, "an outcome")
 }

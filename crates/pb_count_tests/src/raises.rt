@@ -1,14 +1,11 @@
-//! Counts of made elections, by groups of raises and with raises left out, beside the rule alone: one raise
-//! after the other.
+//! A count of so many approvals that raises are tried in threads of their own, beside the count of one worker.
 
 use crate::checks::{holds, same};
 use crate::elections::{push_amount, read};
-use crate::outcomes::{counted, run_at};
+use crate::outcomes::counted;
 use pb_core::election::Election;
 use pb_core::money::Money;
 use pb_price::Grain;
-use pb_rounds::count::count;
-use pb_rounds::count_fault::CountFault;
 use pb_rounds::measure::Measure;
 use pb_rounds::options::{Completion, CountOptions};
 use pb_rounds::outcome::Outcome;
@@ -67,16 +64,6 @@ struct Size {
     voters: u64,
 }
 
-/// 1 to 5 projects that cost up to 1.50, and up to 6 voters, with a budget below 4.00.
-fn small(seed: &mut u64) -> Size {
-    Size {
-        budget: draw(seed, 400),
-        projects: draw_from_one(seed, 5),
-        most: 150,
-        voters: draw(seed, 7),
-    }
-}
-
 /// A file of this size.
 fn made_file(rt: &impl Abort, alloc: Global, seed: &mut u64, size: &Size) -> String {
     let mut file = String::from_str(alloc, SECTIONS.0).expect(rt, "memory");
@@ -90,181 +77,6 @@ fn made_file(rt: &impl Abort, alloc: Global, seed: &mut u64, size: &Size) -> Str
         add_voter(rt, &mut file, seed, voter, size.projects);
     }
     file
-}
-
-/// What the elected cost together.
-fn spent(rt: &impl Abort, election: &Election, outcome: &Outcome) -> u64 {
-    let mut spent: u64 = 0;
-    for elected in &outcome.elected {
-        let project = election
-            .projects()
-            .get(elected.place as usize)
-            .expect(rt, "a project");
-        spent = spent.saturating_add(project.cost().0);
-    }
-    spent
-}
-
-/// Whether a project that is not elected, and that somebody supports, costs at most this much.
-fn has_room(election: &Election, outcome: &Outcome, left: u64) -> bool {
-    for (place, project) in election.projects().iter().enumerate() {
-        let place = place as u32;
-        let is_elected = outcome.elected.iter().any(|elected| elected.place == place);
-        let is_supported = election
-            .voters()
-            .iter()
-            .any(|voter| voter.ballot.has(place));
-        if !is_elected && is_supported && project.cost().0 <= left {
-            return true;
-        }
-    }
-    false
-}
-
-/// How a run at a share ends.
-#[derive(Clone, Copy)]
-enum End {
-    /// The elected cost more than the budget.
-    Over,
-    /// Nothing more could be bought.
-    Exhausted,
-    /// Something could be bought.
-    Open,
-}
-
-/// How the run at this share ends.
-fn end_at(
-    rt: &(impl Abort + Threads + Sync),
-    alloc: Global,
-    election: &Election,
-    share: u64,
-    measure: Measure,
-) -> End {
-    let outcome = run_at(rt, alloc, election, share, measure);
-    let (budget, spent) = (election.budget().0, spent(rt, election, &outcome));
-    let end = if spent > budget {
-        End::Over
-    } else if has_room(election, &outcome, budget - spent) {
-        End::Open
-    } else {
-        End::Exhausted
-    };
-    drop(outcome);
-    end
-}
-
-/// The rule alone: the share of the first outcome that is exhausted, or of the last one before the first that
-/// is over.
-fn share_by_rule(
-    rt: &(impl Abort + Threads + Sync),
-    alloc: Global,
-    election: &Election,
-    options: &CountOptions,
-) -> Option<u64> {
-    let voters = election.voters().len() as u64;
-    let opening = election.budget().0.checked_div(voters).unwrap_or(0);
-    let mut last = None;
-    for raised in 0..options.max_raises.saturating_add(1) {
-        let raise = u64::from(raised).saturating_mul(options.step.0);
-        let share = opening.saturating_add(raise);
-        match end_at(rt, alloc, election, share, options.measure) {
-            End::Over => return last,
-            End::Exhausted => return Some(share),
-            End::Open => last = Some(share),
-        }
-    }
-    None
-}
-
-/// The two have the same share, the same elected, and the same left to each voter.
-fn are_same(rt: &impl Abort, counted: &Outcome, plain: &Outcome) {
-    same(rt, counted.share, plain.share, "the share");
-    let (found, wanted) = (counted.elected.as_slice(), plain.elected.as_slice());
-    same(rt, found, wanted, "the elected");
-    let (found, wanted) = (counted.rests.as_slice(), plain.rests.as_slice());
-    same(rt, found, wanted, "the rests");
-}
-
-/// A count has the outcome of the run at this share.
-fn counts_as(
-    rt: &(impl Abort + Threads + Sync),
-    alloc: Global,
-    election: &Election,
-    options: &CountOptions,
-    share: u64,
-) {
-    let plain = run_at(rt, alloc, election, share, options.measure);
-    let counted = counted(rt, alloc, election, options);
-    are_same(rt, &counted, &plain);
-    drop(counted);
-    drop(plain);
-}
-
-/// Counts with this many workers, and compares with what the rule gives.
-fn counts_by_rule(
-    rt: &(impl Abort + Threads + Sync),
-    alloc: Global,
-    election: &Election,
-    options: &CountOptions,
-    share: Option<u64>,
-) {
-    match share {
-        Some(share) => counts_as(rt, alloc, election, options, share),
-        None => {
-            let fault = count(rt, alloc, election, options).err();
-            same(rt, fault, Some(CountFault::RaisesSpent), "a count");
-        }
-    }
-}
-
-/// Some numbers of workers.
-const WORKERS: &[u32] = &[1, 2, 3, 64];
-
-/// Counts the election with several numbers of workers.
-fn counts_alike(
-    rt: &(impl Abort + Threads + Sync),
-    alloc: Global,
-    election: &Election,
-    one: &CountOptions,
-) {
-    let share = share_by_rule(rt, alloc, election, one);
-    for workers in WORKERS {
-        let options = CountOptions {
-            workers: *workers,
-            ..*one
-        };
-        counts_by_rule(rt, alloc, election, &options, share);
-    }
-}
-
-/// Counts one made election by both measures.
-fn counts_one(rt: &(impl Abort + Threads + Sync), alloc: Global, seed: &mut u64) {
-    let size = small(seed);
-    let file = made_file(rt, alloc, seed, &size);
-    let election = read(rt, alloc, file.as_str());
-    let votes = CountOptions {
-        step: Money(draw_from_one(seed, 20)),
-        max_raises: u32::try_from(draw(seed, 30)).unwrap_or(30),
-        workers: 1,
-        completion: Completion::Add1,
-        measure: Measure::Votes,
-        grain: Grain::Hundredths,
-    };
-    let cost = CountOptions {
-        measure: Measure::Cost,
-        ..votes
-    };
-    counts_alike(rt, alloc, &election, &votes);
-    counts_alike(rt, alloc, &election, &cost);
-    drop(election);
-}
-
-#[test]
-fn counts_as_the_rule_alone(rt: HostRuntime) {
-    let mut seed = 1;
-    for _ in 0..300 {
-        counts_one(&rt, rt.alloc(), &mut seed);
-    }
 }
 
 /// How many approvals the ballots have.
@@ -294,6 +106,32 @@ const RAISED: CountOptions = CountOptions {
     grain: Grain::Hundredths,
 };
 
+/// Some numbers of workers.
+const WORKERS: &[u32] = &[2, 3, 64];
+
+/// The two have the same share, the same elected, and the same left to each voter.
+fn are_same(rt: &impl Abort, counted: &Outcome, alone: &Outcome) {
+    same(rt, counted.share, alone.share, "the share");
+    let (found, wanted) = (counted.elected.as_slice(), alone.elected.as_slice());
+    same(rt, found, wanted, "the elected");
+    let (found, wanted) = (counted.rests.as_slice(), alone.rests.as_slice());
+    same(rt, found, wanted, "the rests");
+}
+
+/// This many workers count as one does.
+fn counts_alike(
+    rt: &(impl Abort + Threads + Sync),
+    alloc: Global,
+    election: &Election,
+    workers: u32,
+    alone: &Outcome,
+) {
+    let options = CountOptions { workers, ..RAISED };
+    let counted = counted(rt, alloc, election, &options);
+    are_same(rt, &counted, alone);
+    drop(counted);
+}
+
 /// 500,000 approvals are worth trials in threads of their own.
 #[test]
 fn counts_groups_of_raises(rt: HostRuntime) {
@@ -301,7 +139,11 @@ fn counts_groups_of_raises(rt: HostRuntime) {
     let file = made_file(&rt, rt.alloc(), &mut seed, &TOWN);
     let election = read(&rt, rt.alloc(), file.as_str());
     holds(&rt, approvals(&election) >= 500_000, "approvals");
-    counts_alike(&rt, rt.alloc(), &election, &RAISED);
+    let alone = counted(&rt, rt.alloc(), &election, &RAISED);
+    for workers in WORKERS {
+        counts_alike(&rt, rt.alloc(), &election, *workers, &alone);
+    }
+    drop(alone);
     drop(election);
     drop(file);
 }

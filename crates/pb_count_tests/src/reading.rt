@@ -1,10 +1,10 @@
-//! Files as the library shows them: names, limits, and the largest files. What else a file may say, and its
-//! faults, the cases of `crates/pb_app` show.
+//! Files as the library shows them: names and limits. What else a file may say, its faults, and the largest files, the
+//! cases of `crates/pb_app` show.
 
 use crate::checks::{same, tells};
-use crate::elections::{read, shown, ten_thousand};
+use crate::elections::{read, shown};
 use pb_core::election::Election;
-use pb_read::{MOST_RECORDS, ReadFault, ReadKind, read_pb};
+use pb_read::{ReadFault, ReadKind, read_pb};
 use std::alloc::Global;
 use std::process::Abort;
 
@@ -23,13 +23,6 @@ fn answers(rt: &impl Abort, alloc: Global, file: &str, wanted: &str) {
     same(rt, said.as_str(), wanted, "a file");
     drop(said);
     drop(answer);
-}
-
-/// The reader answers so to this file with one line more.
-fn answers_with(rt: &impl Abort, alloc: Global, file: &str, line: &str, wanted: &str) {
-    let whole = and(rt, alloc, file, line);
-    answers(rt, alloc, whole.as_str(), wanted);
-    drop(whole);
 }
 
 /// A file as a city publishes it.
@@ -117,96 +110,6 @@ fn with_lines(
         write!(whole, "{before}{i}{after}").expect(rt, "memory");
     }
     whole
-}
-
-/// The text and one line more.
-fn and(rt: &impl Abort, alloc: Global, text: &str, line: &str) -> String {
-    format!(in alloc; "{text}{line}").expect(rt, "memory")
-}
-
-/// The start of a file, up to its projects.
-const BEFORE_PROJECTS: &str =
-    "META\nk;v\nbudget;1\nvote_type;approval\nPROJECTS\nproject_id;cost\n";
-
-/// The election has this many projects, and its first ballot these places.
-fn is_ballot(rt: &impl Abort, election: &Election, projects: usize, places: &[u32]) {
-    same(rt, election.projects().len(), projects, "projects");
-    let voter = election.voters().first().expect(rt, "a voter");
-    same(rt, voter.ballot.places(), places, "places");
-}
-
-/// Ten thousand projects with these votes: the first ballot has these places.
-fn has_ballot(rt: &impl Abort, alloc: Global, projects: &str, votes: &str, places: &[u32]) {
-    let whole = and(rt, alloc, projects, votes);
-    let election = read(rt, alloc, whole.as_str());
-    is_ballot(rt, &election, 10_000, places);
-    drop(election);
-    drop(whole);
-}
-
-/// A vote for ten thousand projects, from the last to the first.
-fn vote_for_all(rt: &impl Abort, alloc: Global) -> String {
-    let mut vote = String::from_str(alloc, "VOTES\nvoter_id;vote\nw;").expect(rt, "memory");
-    for i in (0..10_000).rev() {
-        write!(vote, "p{i},").expect(rt, "memory");
-    }
-    vote
-}
-
-/// The ballot for ten thousand projects has each of their places.
-fn has_all(rt: &impl Abort, alloc: Global, projects: &str) {
-    let (vote, places) = (vote_for_all(rt, alloc), ten_thousand(rt, alloc));
-    has_ballot(rt, alloc, projects, vote.as_str(), places.as_slice());
-    drop(places);
-    drop(vote);
-}
-
-#[test]
-fn reads_ten_thousand_projects(rt: HostRuntime) {
-    let alloc = rt.alloc();
-    let projects = with_lines(&rt, alloc, BEFORE_PROJECTS, 10_000, ("p", ";1\n"));
-    answers_with(&rt, alloc, projects.as_str(), "q;1\n", "19 10007");
-    answers_with(&rt, alloc, projects.as_str(), "p0;1\n", "16 10007");
-    let vote = "VOTES\nvoter_id;vote\nv;p9999,p7\n";
-    has_ballot(&rt, alloc, projects.as_str(), vote, &[7, 9_999]);
-    has_all(&rt, alloc, projects.as_str());
-}
-
-/// The start of a file with two projects, up to its voters.
-const BEFORE_VOTERS: &str =
-    "META\nk;v\nbudget;1\nvote_type;approval\nPROJECTS\nproject_id;cost\na;1\nb;1\nVOTES\nvoter_id;vote\n";
-
-/// The file has this many voters.
-fn has_voters(rt: &impl Abort, alloc: Global, file: &str, voters: usize) {
-    let election = read(rt, alloc, file);
-    same(rt, election.voters().len(), voters, "voters");
-    drop(election);
-}
-
-#[test]
-fn reads_a_million_voters(rt: HostRuntime) {
-    let alloc = rt.alloc();
-    let voters = with_lines(&rt, alloc, BEFORE_VOTERS, 1_000_000, ("", ";a\n"));
-    has_voters(&rt, alloc, voters.as_str(), 1_000_000);
-    answers_with(&rt, alloc, voters.as_str(), "x;a\n", "20 1000011");
-}
-
-/// A text of META of two million records, as many as there may be.
-fn two_million_records(rt: &impl Abort, alloc: Global) -> String {
-    let mut records = String::from_str(alloc, "META\nk;v\n").expect(rt, "memory");
-    for _ in 2..MOST_RECORDS {
-        records.push_str("k;v\n").expect(rt, "memory");
-    }
-    records
-}
-
-#[test]
-fn reads_two_million_records(rt: HostRuntime) {
-    let alloc = rt.alloc();
-    let records = two_million_records(&rt, alloc);
-    answers(&rt, alloc, records.as_str(), "4 2000001");
-    answers_with(&rt, alloc, records.as_str(), ";\n", "3 2000001");
-    answers_with(&rt, alloc, records.as_str(), "k;v\n", "3 2000001");
 }
 
 /// The kinds, and what a fault of each at record 7 says of itself.

@@ -3,8 +3,7 @@
 use crate::checks::{holds, same, shows};
 use csv::StringRecord;
 use pb_rows::{
-    Field, Records, RecordsFault, RowsWriter, read_number, read_place_list, rows_come_back,
-    write_places,
+    Field, Records, RecordsFault, RowsWriter, read_number, read_place_list, write_places,
 };
 use std::alloc::Global;
 use std::io;
@@ -164,74 +163,6 @@ fn exact_amounts(rt: HostRuntime) {
         let found = rows.finish().expect(&rt, "memory");
         same(&rt, found.as_slice(), wanted.as_bytes(), wanted);
     }
-}
-
-/// Fields that need quotes, and some that need none.
-const FIELDS: &[&str] = &[
-    "1",
-    "",
-    "a;b",
-    ";",
-    "say \"hi\"",
-    "\"",
-    "two\nlines",
-    "\r\n",
-    "\r",
-    " c,d ",
-    "Łódź",
-    "\u{feff}",
-];
-
-/// Each of these fields in brackets, and a bar.
-fn show_fields(rt: &impl Abort, shown: &mut String, fields: &[&str]) {
-    for field in fields {
-        write!(shown, "[{field}]").expect(rt, "memory");
-    }
-    shown.push('|').expect(rt, "memory");
-}
-
-/// These two rows are read back from their text, and no others.
-fn come_back(rt: &impl Abort, alloc: Global, first: &[&str], second: &[&str]) {
-    let mut wanted = String::new(alloc);
-    show_fields(rt, &mut wanted, first);
-    show_fields(rt, &mut wanted, second);
-    wanted.push('.').expect(rt, "memory");
-    let mut rows = RowsWriter::start(alloc);
-    rows.put_row(first).expect(rt, "memory");
-    rows.put_row(second).expect(rt, "memory");
-    let text = rows.finish().expect(rt, "memory");
-    let found = shown(rt, alloc, text.as_slice(), 3);
-    same(rt, found.as_str(), wanted.as_str(), "rows");
-    drop(found);
-    drop(text);
-    drop(wanted);
-}
-
-/// A thousand of these fields.
-fn wide(rt: &impl Abort, alloc: Global) -> Vec<&'static str> {
-    let mut wide = Vec::new(alloc);
-    for place in 0..1_000usize {
-        let field = FIELDS.get(place % 12).expect(rt, "a field");
-        wide.push(*field).expect(rt, "memory");
-    }
-    wide
-}
-
-/// A field of ten thousand quotes, separators and line ends.
-fn long(rt: &impl Abort, alloc: Global) -> String {
-    let mut long = String::new(alloc);
-    for _ in 0..10_000 {
-        long.push_str("\";x\r\n").expect(rt, "memory");
-    }
-    long
-}
-
-#[test]
-fn rows_come_back_whole(rt: HostRuntime) {
-    rows_come_back();
-    let (wide, long) = (wide(&rt, rt.alloc()), long(&rt, rt.alloc()));
-    come_back(&rt, rt.alloc(), wide.as_slice(), FIELDS);
-    come_back(&rt, rt.alloc(), FIELDS, &[long.as_str(), "end"]);
 }
 
 /// Texts, and the number that each spells.

@@ -1,12 +1,12 @@
-//! Amounts, ids, ballots, elections and requests.
+//! Amounts, ids, ballots and elections.
 
 ghost use Rattle.std.specs.Prelude.{◌<◌, All, length};
 ghost use Rattle.std.specs.Bool.{OnTrue};
 
 use crate::checks::{holds, same, shows, tells};
-use crate::elections::{ballot, shown, ten_thousand, voter_id};
+use crate::elections::{ballot, shown, voter_id};
 use pb_core::laws::{money_is_what_its_text_names, money_reads_back};
-use pb_core::{Ballot, Election, Money, MoneyFault, NoMemory, Project, Request, Voter, VoterId};
+use pb_core::{Ballot, Election, Money, MoneyFault, NoMemory, Project, Voter, VoterId};
 use std::alloc::Global;
 use std::process::Abort;
 
@@ -156,15 +156,6 @@ fn trims_voter_ids(rt: HostRuntime) {
     }
 }
 
-#[test]
-fn keeps_a_long_id(rt: HostRuntime) {
-    let mut long = String::new(rt.alloc());
-    for _ in 0..1_000 {
-        long.push_str("Łódź ").expect(&rt, "memory");
-    }
-    is_trimmed(&rt, rt.alloc(), long.as_str(), long.as_str().trim());
-}
-
 /// The ballot has these places, and so has a copy of it.
 fn has_places(rt: &impl Abort, alloc: Global, ballot: &Ballot, wanted: &[u32]) {
     same(rt, ballot.places(), wanted, "a ballot");
@@ -180,49 +171,6 @@ fn orders_ballots(rt: HostRuntime) {
     holds(&rt, few.has(2), "2 of 0, 2, 9");
     holds(&rt, !few.has(3), "3 of 0, 2, 9");
     drop(few);
-}
-
-/// The places below 10,000, each twice, rising and falling in turn.
-fn twice_ten_thousand(rt: &impl Abort, alloc: Global) -> Vec<u32> {
-    let mut places = Vec::new(alloc);
-    for place in 0..10_000u32 {
-        places.push(9_999 - place).expect(rt, "memory");
-        places.push(place).expect(rt, "memory");
-    }
-    places
-}
-
-#[test]
-fn orders_a_long_ballot(rt: HostRuntime) {
-    let places = twice_ten_thousand(&rt, rt.alloc());
-    let all = ballot(&rt, rt.alloc(), places.as_slice());
-    let wanted = ten_thousand(&rt, rt.alloc());
-    has_places(&rt, rt.alloc(), &all, wanted.as_slice());
-    drop(wanted);
-    drop(all);
-    drop(places);
-}
-
-/// Whether a ballot is made of these places as they stand. It then has them.
-fn is_rising(rt: &impl Abort, alloc: Global, places: &[u32]) -> bool {
-    match &Ballot::rising(alloc, places).expect(rt, "memory") {
-        None => false,
-        Some(ballot) => {
-            has_places(rt, alloc, ballot, places);
-            true
-        }
-    }
-}
-
-#[test]
-fn takes_rising_places(rt: HostRuntime) {
-    let alloc = rt.alloc();
-    holds(&rt, is_rising(&rt, alloc, &[]), "no place");
-    holds(&rt, is_rising(&rt, alloc, &[5]), "one place");
-    holds(&rt, !is_rising(&rt, alloc, &[3, 3]), "a place twice");
-    holds(&rt, !is_rising(&rt, alloc, &[9, 0]), "two that fall");
-    let all = ten_thousand(&rt, alloc);
-    holds(&rt, is_rising(&rt, alloc, all.as_slice()), "ten thousand");
 }
 
 fn voter(rt: &impl Abort, alloc: Global, id: &str, places: &[u32]) -> Voter {
@@ -300,53 +248,4 @@ fn holds_projects_and_voters(rt: HostRuntime) {
     election.set_max_length(None);
     is_shown(&rt, alloc, &election, None, "10000;a,Park,3000;|v1 0;");
     drop(election);
-}
-
-/// A request's word, voter and places.
-type Parts<'a> = (&'static str, &'a str, &'a [u32]);
-
-fn parts(request: &Request) -> Parts<'_> {
-    match request {
-        Request::Cast(voter, ballot) => ("cast", voter.text(), ballot.places()),
-        Request::Replace(voter, ballot) => ("replace", voter.text(), ballot.places()),
-        Request::Withdraw(voter) => ("withdraw", voter.text(), &[]),
-        Request::Shut => ("shut", "", &[]),
-    }
-}
-
-/// What is asked by this word, for this voter and with these places.
-fn request(rt: &impl Abort, alloc: Global, parts: Parts<'_>) -> Request {
-    let (word, id, places) = parts;
-    match word {
-        "shut" => Request::Shut,
-        "withdraw" => Request::Withdraw(voter_id(rt, alloc, id)),
-        "cast" => Request::Cast(voter_id(rt, alloc, id), ballot(rt, alloc, places)),
-        _ => Request::Replace(voter_id(rt, alloc, id), ballot(rt, alloc, places)),
-    }
-}
-
-/// The request of these parts has them, with the places in order, and so has its copy.
-fn copies(rt: &impl Abort, alloc: Global, asked: Parts<'static>, ordered: &[u32]) {
-    let (word, id, _) = asked;
-    let request = request(rt, alloc, asked);
-    let copy = request.copy(alloc).expect(rt, "memory");
-    same(rt, parts(&request), (word, id, ordered), "a request");
-    same(rt, parts(&copy), (word, id, ordered), "its copy");
-    drop(copy);
-    drop(request);
-}
-
-/// Requests, and the places of each in order.
-const REQUESTS: &[(Parts<'static>, &[u32])] = &[
-    (("cast", "ann", &[1, 0]), &[0, 1]),
-    (("replace", "bob", &[]), &[]),
-    (("withdraw", "c;d", &[]), &[]),
-    (("shut", "", &[]), &[]),
-];
-
-#[test]
-fn copies_requests(rt: HostRuntime) {
-    for (asked, ordered) in REQUESTS {
-        copies(&rt, rt.alloc(), *asked, ordered);
-    }
 }

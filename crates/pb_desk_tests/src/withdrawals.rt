@@ -118,34 +118,3 @@ fn ballots_keep_their_order_where_many_withdraw(rt: HostRuntime) {
     leaves_the_same(&rt, alloc, desk, &plain);
     drop(plain);
 }
-
-/// The voter who withdraws at this step: from the back, and then from the middle.
-fn withdrawing(step: u32) -> u32 {
-    if step < 10 {
-        19 - step
-    } else {
-        step.wrapping_mul(7).wrapping_add(3) % 10
-    }
-}
-
-/// Voters withdraw from the back and from the middle until none stands, and then all cast again.
-#[test]
-fn a_desk_without_a_ballot_takes_ballots_again(rt: HostRuntime) {
-    let alloc = rt.alloc();
-    let (mut desk, mut plain) = (start(&rt, alloc), Vec::new(alloc));
-    all_cast(&rt, alloc, &mut desk, &mut plain, 20);
-    for step in 0..20u32 {
-        let number = withdrawing(step);
-        ask(
-            &rt,
-            alloc,
-            &mut desk,
-            &mut plain,
-            Asked("withdraw", number, 0),
-        );
-        are_same(&rt, alloc, &desk, &plain);
-    }
-    all_cast(&rt, alloc, &mut desk, &mut plain, 20);
-    leaves_the_same(&rt, alloc, desk, &plain);
-    drop(plain);
-}
