@@ -33,7 +33,7 @@ const MANY_TWICE: &str =
 
 /// What to do about columns and keys that no count reads.
 const NOT_READ: &str =
-    "This is usual. Just make sure that none of them says that a row does not count, that it replaces another one, or that a cost or the budget has changed.\n";
+    "This is usual. Just make sure that none of them says that a row does not count or replaces another one, that ballots are missing, that projects exclude each other, or that a cost or the budget is different.\n";
 
 /// What is said of a row that is odd: what, with what is known of the row; the same where the row is not
 /// known; and what to do.
