@@ -2,7 +2,7 @@
 
 use crate::faulty_record::LINE_ENDS;
 use crate::prelude::*;
-use crate::unknown_texts::{LATE_PROJECT, is_cut_code};
+use crate::unknown_texts::{LATE_PROJECT, WEB_FORM, is_cut_code};
 use pb_core::money::Money;
 use pb_witness::cause::Cause;
 use pb_witness::changed::is_one_of;
@@ -29,7 +29,7 @@ pub(crate) const OF_MARKS: &str =
 const TICKED: &str = "on|checked";
 
 /// Whether a vote is what a web form sends for boxes without values, and nothing else.
-pub(crate) fn is_of_boxes(vote: &str) -> bool {
+fn is_of_boxes(vote: &str) -> bool {
     vote.split(',').all(|piece| is_one_of(TICKED, piece.trim()))
 }
 
@@ -37,6 +37,17 @@ pub(crate) fn is_of_boxes(vote: &str) -> bool {
 pub(crate) fn is_of_marks(vote: &str) -> bool {
     let is_mark = |piece: &str| matches!(piece.trim(), "0" | "1");
     vote.split(',').count() > 2 && vote.split(',').all(|piece| is_mark(piece))
+}
+
+/// What to do about a vote that shows by itself why its ids are unknown; `is_open` if nothing else is known of that.
+pub(crate) fn vote_cause(vote: &str, is_open: bool) -> Option<&'static str> {
+    if is_open && is_of_boxes(vote) {
+        Some(WEB_FORM)
+    } else if is_of_marks(vote) {
+        Some(OF_MARKS)
+    } else {
+        None
+    }
 }
 
 /// What to do about a row with more fields than there are column names, if it shows why: line ends of another kind, a code

@@ -3,11 +3,11 @@
 use crate::command_words::{put_clean, put_dropping};
 use crate::prelude::*;
 use crate::read_texts::NOTE;
-use crate::row_causes::{OF_MARKS, is_of_boxes, is_of_marks};
+use crate::row_causes::vote_cause;
 use crate::unknown_texts::{
     ALL_WITHDRAWN, COUNTED_ON, EXAMPLE, FOR_A_BOX, LAST_ROW, LISTED, NAMES, NOT_RENUMBERED,
     ODD_LETTER, ONE_BEFORE, OTHER_ALPHABET, PART, READ_AS, RENUMBERED, TRIAL, TURNOUT, TWICE,
-    WEB_FORM, WORD_BESIDE, difference, is_cut_code, remedy_of, what_of,
+    WORD_BESIDE, difference, is_cut_code, remedy_of, what_of,
 };
 use pb_read::Column;
 use pb_witness::cause::{Cause, comes_next, odd_letter};
@@ -99,11 +99,8 @@ impl<R: Files> Case<'_, R> {
         if is_open && has_one_of(TRIALS, self.faulty.piece()) {
             return out.put(TRIAL);
         }
-        if is_open && is_of_boxes(self.faulty.value()) {
-            return out.put(WEB_FORM);
-        }
-        if is_of_marks(self.faulty.value()) {
-            return out.put(OF_MARKS);
+        if let Some(words) = vote_cause(self.faulty.value(), is_open) {
+            return out.put(words);
         }
         if is_open && self.put_row_cause(out) {
             return;
