@@ -12,16 +12,15 @@ QUOTES, SPACES = '\'"`´‘’‚‛“”„‟«»‹›', ' \u00a0\u2009\u202
 UNSEEN, GROUPED = "characters that can't be seen", 'groups of thousands'
 # Brackets around a vote, or each id; `c(..)` is R's.
 IN_BRACKETS = re.compile(r'(?:(?:c?\(|[\[{])[^\[\](){}]*[\])}](?:\s*,\s*|\Z))+\Z')
-# What is mended in an amount: what it is called, what has it, and what this becomes.
-AMOUNT_REPAIRS = [('dash for cents', re.compile(r'(?<=\d[.,])[-–—]{1,2}\Z'), '00'),
-                  (GROUPED, re.compile(rf'\A[1-9]\d?\d?([{SPACES}])\d{{3}}(\1\d{{3}})*([.,]\d+)?\Z'),
-                   lambda found: found[0].replace(found[1], ''))]
-# Groups of thousands by one mark: it, further groups, the mark of decimals. By an apostrophe too. Three digits or less.
+# Groups: by spaces; by `'` and a mark; by one mark: it, further ones, that of decimals. Amounts of three digits.
+SPACED = re.compile(rf'[1-9]\d?\d?([{SPACES}])\d{{3}}(\1\d{{3}})*([.,]\d+)?')
 MILLIONS = re.compile("([1-9][0-9]{0,2})['’]([0-9]{3})([.,])([0-9]{3})")
 GROUPS = re.compile(r'[1-9][0-9]{0,2}([.,])[0-9]{3}((?:\1[0-9]{3})*)(?:(?!\1)([.,])[0-9]+)?')
 SMALL = re.compile('[1-9][0-9]{0,2}(?:[.,][0-9]{1,2})?')
-# Ids that a spreadsheet shortened, or made dates of.
-CHANGED = re.compile(r'[0-9]+([.,][0-9]+)?E\+[0-9]+|[0-9]{15}0+|[0-9]{4}-[0-9]{2}-[0-9]{2} 00:00:00', re.I)
+# Ids that a spreadsheet shortened; those that repeat if it did so, or made dates of them.
+POWER = re.compile(r'[0-9]+([.,][0-9]+)?E\+[0-9]+', re.I)
+CHANGED = re.compile('[0-9]{15}0+|[0-9]{5,}0{5}|[0-9]{4}-[0-9]{2}-[0-9]{2} 00:00:00')
+SHORTENED = "a spreadsheet shortened the voter's id, or made it a date: get the ids again, as text"
 # A time, and how that begins which a log says was done to a vote.
 TIME = re.compile('[0-9]:[0-9]').search
 DONE = re.compile('insert|updat|delet|remov|cancel|revok|withdr', re.IGNORECASE).match
@@ -36,8 +35,7 @@ TEMPLATE = {'projects': 'project_id;cost;name\r\nP1;12000;Trees for the market s
 WRITER = csv.writer(types.SimpleNamespace(write=str), delimiter=';')
 
 def seen(text):
-    """The text without white space, and without what nobody sees, at its ends."""
-    # Most texts are printable ASCII, where only spaces can't be seen: this takes less time.
+    """The text without white space, and without what nobody sees, at its ends. Of ASCII this takes less time."""
     return text.strip(' ' if text.isascii() and text.isprintable() else EDGES)
 
 def name_of(field):
@@ -93,6 +91,10 @@ class Row:
             self.edit(column, UNSEEN, after)
 
     def leave_out(self, what):
+        """Leaves the row out, but no more than a text of one field above what it is not part of."""
+        if what.startswith('text above') and any(map(seen, self.fields[1:])):
+            return self.refuse(f'a {what} has one field, but this may be a vote, a project or column names: move it to '
+                               'where it belongs, or delete it if it is none')
         self.log, self.fields = [*self.log, ('', what, row_text(self.fields), '')], []
 
     def refuse(self, words):
@@ -126,17 +128,21 @@ class Cleaner:
     def __init__(self, rows, reading, given):
         self.rows, self.given = [*added_rows(rows, given)] if given.projects else rows, given
         self.is_cut = any(it[2] == 'separator' for it in reading)
-        self.votes, self.vote = Section(), 0
+        self.votes, self.vote, self.meta = Section(), 0, {}
 
     def clean(self):
         parts = self.parts()
         # Where a section or its column names are missing, `pb_app check` says so.
         if tuple(parts) == ('', *SECTIONS) and parts['projects'].names and parts['votes'].names:
             _, meta, self.projects, self.votes = parts.values()
-            self.clean_meta(meta.above)
+            for row in meta.above:
+                row.edit_unseen(0)
+                if name_of(row.fields[0]) in NEEDED:
+                    row.edit_unseen(1)
+                    self.meta[name_of(row.fields[0])] = row
+            self.refuse_cut(self.meta.values(), 2)
             for section in self.projects, self.votes:
-                # In a table that was sorted rows of several fields are votes.
-                for row in [it for it in section.above if sum(map(bool, map(seen, it.fields))) == 1]:
+                for row in section.above:
                     row.leave_out('text above the columns')
                 # A spreadsheet fills the row of names up with empty ones.
                 self.refuse_cut(section.below, max(at for at, it in enumerate(section.names, 1) if it))
@@ -177,20 +183,9 @@ class Cleaner:
                 row.refuse('these are the column names of the other table: `--projects` and `--votes` are exchanged')
             else:
                 section.above.append(row)
-        is_sorted = any(name_of(row.fields[0]) in NEEDED for row in parts[''].above)
-        for row in parts[''].above if 'meta' in parts and not is_sorted else ():
+        for row in parts[''].above if 'meta' in parts else ():
             row.leave_out('text above META')
         return parts
-
-    def clean_meta(self, rows):
-        """Mends META's keys, and the values that a count needs."""
-        self.meta = {}
-        for row in rows:
-            row.edit_unseen(0)
-            if name_of(row.fields[0]) in NEEDED:
-                row.edit_unseen(1)
-                self.meta[name_of(row.fields[0])] = row
-        self.refuse_cut(self.meta.values(), 2)
 
     def refuse_cut(self, rows, width):
         """Refuses rows that a separator within a field has cut."""
@@ -209,8 +204,9 @@ class Cleaner:
                 row.edit(column, '--marks', ''.join(found.group(1, 2, 4)))
             elif found and not marks:
                 row.refuse(f"`'` may mark millions, and `{found[3]}` thousands: name `--marks thousands` or `decimals`")
-            for what, form, gives in AMOUNT_REPAIRS:
-                row.edit(column, what, form.sub(gives, trimmed(row.fields[column])))
+            row.edit(column, 'dash for cents', re.sub(r'(?<=\d[.,])[-–—]{1,2}\Z', '00', trimmed(row.fields[column])))
+            if found := SPACED.fullmatch(trimmed(row.fields[column])):
+                row.edit(column, GROUPED, found[0].replace(found[1], ''))
             texts[row] = trimmed(row.fields[column])
             # The first row that shows a mark to be one of thousands, or of decimals.
             groups, decimals = GROUPS.fullmatch(texts[row]), re.fullmatch('[0-9]+([.,])([0-9]+)', texts[row])
@@ -220,24 +216,18 @@ class Cleaner:
                 shows[groups[1]].setdefault('thousands', row)
             elif marks and decimals and len(decimals[2]) == 3:
                 shows[decimals[1]].setdefault(marks, row)
-        if not self.refuse_small(texts):
-            for mark, (first, *others) in [(it, rows.values()) for it, rows in shows.items() if rows]:
-                for row in others:
-                    row.refuse(f'`{mark}` marks thousands and decimals, here and in record {first.key}, whatever '
-                               '`--marks` says: write all amounts alike')
-        for row, column in places:
-            self.clean_amount(row, column, shows)
-
-    def refuse_small(self, texts):
-        """Refuses small amounts beside `1.250.000` if none is like `940.000`, and answers whether there are some."""
+        for mark, (first, *others) in [(it, rows.values()) for it, rows in shows.items() if rows]:
+            for row in others:
+                row.refuse(f'`{mark}` marks thousands and decimals, here and in record {first.key}, whatever `--marks` '
+                           'says: write all amounts alike')
+        # Small amounts beside `1.250.000`, if none is like `940.000`.
         groups = {row: it for row, text in texts.items() if (it := GROUPS.fullmatch(text))}
         is_read = groups and all(it[2] and not it[3] for it in groups.values())
-        small = [row for row, text in texts.items() if is_read and SMALL.fullmatch(text)]
-        for row in small:
-            row.refuse(f'a spreadsheet may have read thousands as decimals, 940.000 as 940, where the amount of record '
-                       f'{next(iter(groups)).key} stayed a text: compare all amounts, and write them without marks of '
-                       'thousands')
-        return small
+        for row in [it for it, text in texts.items() if is_read and SMALL.fullmatch(text)]:
+            row.refuse('a spreadsheet may have read thousands as decimals, 940.000 as 940, where the amount of record '
+                       f'{next(iter(groups)).key} stayed a text: compare all amounts; write them without these marks')
+        for row, column in places:
+            self.clean_amount(row, column, shows)
 
     def clean_amount(self, row, column, shows):
         """Takes out what marks thousands. Rounds what a sum left, and more if the option asks for it."""
@@ -288,21 +278,27 @@ class Cleaner:
         self.most, faulty = 0, []
         for row in rows:
             row.edit_unseen(self.voter)
-            voters[trimmed(row.fields[self.voter]) if way else ''].append(row)
+            name = trimmed(row.fields[self.voter])
+            voters[name if way else ''].append(row)
+            if POWER.fullmatch(name):
+                row.refuse(SHORTENED)
             if self.ids.issuperset(ids := {*ids_of(row.fields[self.vote])}):
                 self.most = max(self.most, len(ids))
             # A line end may part two ballots, and in a row of more fields than names the vote may stand elsewhere.
             elif not re.search('[\r\n]', seen(row.fields[self.vote])) and not any(map(seen, row.fields[len(names):])):
                 faulty.append(row)
         for row in faulty:
-            after, kinds = self.mended_vote(row.fields[self.vote])
-            row.edit(self.vote, ', '.join(kinds), after)
+            row.edit(self.vote, *self.mended_vote(row.fields[self.vote]))
         self.take_out(self.zero, '--drop-zero-cost')
         repeated = {name: same for name, same in voters.items() if name and len(same) > 1}
         # Where other rows of a voter differ, or the id is a time, equal rows may be of different people.
         self.are_copies = all(len({row_text(row.fields) for row in same}) == 1 and not TIME(name)
                               for name, same in repeated.items())
+        long = [it for it in repeated if re.fullmatch('[0-9]{8,}', it)]
+        are_round = 2 * sum(it.endswith('0000') for it in long) > len(long)
         for name, same in repeated.items():
+            if CHANGED.fullmatch(name) or are_round and re.fullmatch('[0-9]{4,}0000', name):
+                same[0].refuse(SHORTENED)
             self.clean_repeated(name, same, voters)
         kind = self.meta.get('vote_type', Row('', []))
         if self.given.single_choice and name_of(''.join(kind.fields[1:2])) == 'choose-1':
@@ -311,18 +307,17 @@ class Cleaner:
                 row.refuse('the vote names several projects, so the file is not choose-1')
 
     def mended_vote(self, vote):
-        """A vote as it is mended, and what had to be mended in it."""
+        """What had to be mended in a vote, and what it is then."""
         text, has_commas = seen(vote), ',' in vote
         kinds = {UNSEEN} if text != trimmed(vote) else set()
-        # Beside commas a bar may be an `or`, and beside votes of one id, or several, without brackets, these may say
-        # that one does not count, unless a program wrote them, as quotation marks show, or R.
+        # A bar beside commas may be an `or`; brackets around some votes may strike these out, if no program wrote them.
         is_program = "'" in text or '"' in text or text.startswith('c(') or not text.strip('[](){} ')
         if (is_program or self.most <= has_commas) and self.letters.isdisjoint('[](){}') and IN_BRACKETS.match(text):
             text, kinds = re.sub(r'c?\(|[\[\]){}]', '', text), {'brackets', *kinds}
         if '|' in text and not ('|' in self.letters or has_commas or self.most > 1):
             text, kinds = text.replace('|', ','), {'bars', *kinds}
         pieces = [*map(self.mended_piece, text.split(','))]
-        return ','.join(it for it, _ in pieces if it), sorted(kinds.union(*(it for _, it in pieces)))
+        return ', '.join(sorted(kinds.union(*(it for _, it in pieces)))), ','.join(it for it, _ in pieces if it)
 
     @functools.lru_cache(1 << 16)        # ids repeat
     def mended_piece(self, piece):
@@ -337,30 +332,29 @@ class Cleaner:
         """Joins the rows of a voter, keeps one of them, or makes different voters of them."""
         (first, *more), what, way = rows, '--repeated-voters', self.given.repeated_voters
         if name in self.ids and not any(seen(row.fields[self.vote]) for row in rows):
-            first.refuse('the rows have no vote, and the voter is called as a project: each project of a ballot may '
-                         'stand in a row of its own, below its voter. Look at the ballots')
+            first.refuse('the rows have no vote, and the voter is called as a project: look at the ballots')
         columns = enumerate(itertools.zip_longest(*(map(seen, row.fields) for row in rows), fillvalue=''))
         for at, said in (it for it in columns if len({*it[1]}) > 1):
+            column = label_of(self.votes.names, at)
             if (done := [*filter(DONE, said)]) and len({*map(str.lower, said)}) > 1:
-                first.refuse(f'a row says {shown(done[0])}, so the rows may be a log of what was done to votes: get '
-                             'the votes as they are at its end')
+                first.refuse(f'a row says {shown(done[0])}, so the rows may be a log: get the votes as at its end')
             if way == 'last' and all(TIME(it) and it[:4].isdigit() for it in said) and [*said] == sorted(said)[::-1]:
-                first.refuse(f'the column {shown(label_of(self.votes.names, at))} says that the rows go from the '
-                             'latest to the earliest: `--repeated-voters first` keeps the latest')
-            if way == 'merge' and at not in (self.voter, self.vote) and not all(map(TIME, said)):
-                first.refuse(f'rows to join differ in the column {shown(label_of(self.votes.names, at))}, which says '
-                             f'{", ".join(map(shown, dict.fromkeys(said)))}: if some such rows are no votes, delete '
-                             'them; if they are other people, name `--repeated-voters distinct`; if it says something '
-                             'else, delete the column')
-        if CHANGED.fullmatch(name):
-            first.refuse(f'a spreadsheet changed the id {shown(name)} (a shortened number, or a date): no row can be '
-                         'told from another; get the ids again, as text')
+                first.refuse(f'the column {shown(column)} says that the rows go from the latest to the earliest: '
+                             '`--repeated-voters first` keeps the latest')
+            # Ages are no ranks; numbers up to 10 may be some, if each row has a project at most.
+            is_named = re.fullmatch('(rank(ing)?|point|score|preference|weight|priority)s?', column)
+            has_ranks = is_named or way == 'distinct' and all(re.fullmatch('0*[0-9]?|10', it) for it in said) and all(
+                len(ids_of(row.fields[self.vote])) < 2 for row in rows)
+            if at not in (self.voter, self.vote) and (has_ranks or way == 'merge' and not all(map(TIME, said))):
+                words = ["this program can't count points or ranks"] * bool(is_named or ''.join(said).isdigit()) + [
+                    'if some such rows are no votes, delete them; if they are other people, give them other ids; if it '
+                    'says something else, delete the column'] * (not is_named)
+                first.refuse(f'rows of a voter differ in the column {shown(column)}, which says '
+                             f'{", ".join(map(shown, dict.fromkeys(said)))}: {"; ".join(words)}')
         if way == 'distinct' and self.are_copies:
-            first.refuse(f'record {more[0].key} is the same in all fields, so it may be a copy: look at the ballots; '
-                         'delete it, or give it another id')
+            first.refuse(f'record {more[0].key} is the same in all fields, so it may be a copy: look at the ballots')
         if way == 'merge':
-            ids = dict.fromkeys(it for row in rows for it in ids_of(row.fields[self.vote]))
-            first.edit(self.vote, what, ','.join(ids))
+            first.edit(self.vote, what, ','.join({it: 0 for row in rows for it in ids_of(row.fields[self.vote])}))
         for row in more if way in ('merge', 'first') else rows[:-1] if way == 'last' else ():
             row.leave_out(what)
         others = (it for it in (f'{name}-{number}' for number in itertools.count(2)) if it not in voters)
