@@ -1,15 +1,23 @@
 //! A rule in the words of a by-law.
 
 use crate::decider::{BEFORE, Decider};
+use pb_core::money::Money;
+use pb_price::Grain;
 use pb_rounds::measure::Measure;
-use pb_rounds::options::Completion;
+use pb_rounds::options::{Completion, LARGEST_STEP};
 use pb_rounds::rule::{FillUp, Rule};
 use pb_rounds::tie_rule::{TieKeys, ties_named};
 use std::alloc::{AllocError, Global};
 
-/// The method, up to the rule by which a round chooses.
+/// The method, and what of it goes by how finely money is counted, up to the rule by which a round chooses.
 const METHOD: &str =
-    "The winning projects are found by the Method of Equal Shares (Peters, Pierczyński and Skowron, Proportional Participatory Budgeting with Additive Utilities, 2021). Each voter has an equal share of the budget, rounded down to a whole hundredth of the currency. A project can be paid for if what its supporters have left of their shares covers its cost. Its price is the least amount in whole hundredths that covers the cost if each supporter pays this amount, or all that the supporter has left where that is less.";
+    "The winning projects are found by the Method of Equal Shares (Peters, Pierczyński and Skowron, Proportional Participatory Budgeting with Additive Utilities, 2021).";
+
+const IN_HUNDREDTHS: &str =
+    "Each voter has an equal share of the budget, rounded down to a whole hundredth of the currency. A project can be paid for if what its supporters have left of their shares covers its cost. Its price is the least amount in whole hundredths that covers the cost if each supporter pays this amount, or all that the supporter has left where that is less.";
+
+const IN_PARTS: &str =
+    "Money is counted in small parts of the currency: a hundredth has 10,000 parts for each voter. Each voter has an equal share of the budget. A project can be paid for if what its supporters have left of their shares covers its cost. Its price is not rounded: it is the amount that covers the cost exactly if each supporter pays this amount, or all that the supporter has left where that is less. Only what a supporter then pays of a price is rounded down to a whole part.";
 
 /// The method that chooses by votes alone.
 const MOST_VOTES: &str =
@@ -48,6 +56,13 @@ const APPLIES: &str =
 
 /// What stands behind the name of a rule with a lot.
 const SEED_OF_NAME: &str = ", with the seed in place of SEED";
+
+/// Whether a count can raise shares by the step of this rule, if it raises them.
+pub(crate) fn has_a_step(rule: &Rule) -> bool {
+    let step = rule.options.step;
+    let is_step = step >= Money(1) && step <= LARGEST_STEP;
+    is_step || rule.options.completion != Completion::Add1
+}
 
 /// The paragraph of a by-law that asks for this rule, and its name.
 pub(crate) fn bylaw_text(
@@ -142,7 +157,11 @@ fn winners_text(alloc: Global, rule: &Rule) -> Result<String, AllocError> {
         FillUp::Nothing => KEPT,
         FillUp::MostVotes => FILLED_UP,
     };
-    let text = format!(in alloc; "{METHOD} In each round {first} {ROUND}{raises} {last}");
+    let money = match rule.options.grain {
+        Grain::Hundredths => IN_HUNDREDTHS,
+        Grain::Fine => IN_PARTS,
+    };
+    let text = format!(in alloc; "{METHOD} {money} In each round {first} {ROUND}{raises} {last}");
     drop(raises);
     text
 }

@@ -1,7 +1,7 @@
 //! What given arguments ask for.
 
 use crate::asked::asked_by;
-use crate::bylaw::bylaw_text;
+use crate::bylaw::{bylaw_text, has_a_step};
 use crate::command_line::command_line;
 use crate::commands::BYLAW;
 use crate::decider::Decider;
@@ -124,13 +124,19 @@ fn refused_by<'a, R: Eprint>(rt: &R, flaw: Flaw<'_>) -> Parsed<'a> {
     Parsed::Ends(BAD_ARGUMENTS)
 }
 
-/// Prints this rule as a paragraph for a by-law.
+/// Prints this rule as a paragraph for a by-law, if a count can be by it.
 fn print_bylaw<'a, R: Print + Eprint>(
     rt: &R,
     alloc: Global,
     rule: &Rule,
     decider: Option<Decider>,
 ) -> Result<Parsed<'a>, AllocError> {
+    if !has_a_step(rule) {
+        let _ = eprintln!(rt;
+            "error: no count can raise shares by this step. Give one of 0.01 to 10000000.00, which is --step 1 to --step 1000000000."
+        );
+        return Ok(Parsed::Ends(BAD_ARGUMENTS));
+    }
     let text = bylaw_text(alloc, rule, decider)?;
     let printed = rt.print(text.as_str());
     drop(text);
