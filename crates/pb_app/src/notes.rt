@@ -1,10 +1,10 @@
 //! What a run tells of what it read, beside its result.
 
+use pb_oddities::warnings::Warnings;
 use pb_read::ReadFault;
 use pb_rounds::rule::Rule;
 use pb_script::EntryCounts;
 use pb_witness::rule_counts::RuleCounts;
-use pb_witness::warnings::Warnings;
 use std::alloc::Global;
 
 /// What a run tells of what it read, beside its result.

@@ -14,10 +14,10 @@ use crate::worded::{refusal_of, words_file_words};
 use pb_command_line::PageRun;
 use pb_commands::{AppFault, Decide};
 use pb_faults::RunText;
+use pb_oddities::warnings::Warnings;
 use pb_page::{Speech, WordsFault};
 use pb_streams::{End, RunRefusal, open_file};
 use pb_witness::page_notes::PageNotes;
-use pb_witness::warnings::Warnings;
 use std::fs::File;
 use std::io::{ErrorKind, Read, Write};
 

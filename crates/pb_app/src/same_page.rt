@@ -14,10 +14,10 @@ use crate::system::System;
 use pb_command_line::PageRun;
 use pb_commands::{AppFault, Decide, write_out};
 use pb_faults::PageRefusal;
+use pb_oddities::warnings::Warnings;
 use pb_page::Speech;
 use pb_streams::{End, RunRefusal};
 use pb_witness::page_notes::PageNotes;
-use pb_witness::warnings::Warnings;
 use pb_words::same_words::differs_words;
 use std::io::Write;
 

@@ -1,11 +1,11 @@
 //! Why a vote names an id that no project has.
 
+use crate::amounts::whole_number;
 use crate::changed::{
     Difference, has_digit, how_differs, is_date, is_decimal, is_empty_list, is_nothing, is_power,
     is_tick, is_word, without_hidden,
 };
 use crate::ids::Ids;
-use crate::meta_oddities::whole_number;
 use crate::projects::{By, Projects};
 use crate::unknown::Unknown;
 use crate::witness::Witness;

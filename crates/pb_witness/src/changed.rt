@@ -50,7 +50,7 @@ pub fn is_nothing(text: &str) -> bool {
 }
 
 /// Whether a text says of a project whether a voter approves it.
-pub(crate) fn is_tick(text: &str) -> bool {
+pub fn is_tick(text: &str) -> bool {
     is_one_of(TICKS, text)
 }
 
@@ -60,7 +60,7 @@ pub(crate) fn is_word(text: &str) -> bool {
 }
 
 /// Whether a text has a word in it, in any case.
-pub(crate) fn has_word(text: &str, word: &str) -> bool {
+pub fn has_word(text: &str, word: &str) -> bool {
     let (bytes, word) = (text.as_bytes(), word.as_bytes());
     let is_here = |start: usize| {
         let part = bytes.get(start..start.saturating_add(word.len()));
@@ -70,7 +70,7 @@ pub(crate) fn has_word(text: &str, word: &str) -> bool {
 }
 
 /// Whether a text has one of these words in it, also as a part of a longer one, in any case.
-pub(crate) fn has_part(words: &str, text: &str) -> bool {
+pub fn has_part(words: &str, text: &str) -> bool {
     words.split('|').any(|word| has_word(text, word))
 }
 
@@ -81,20 +81,20 @@ pub fn has_one_of(words: &str, text: &str) -> bool {
 }
 
 /// The first word of a text by white space, and what is behind it.
-pub(crate) fn first_word(text: &str) -> (&str, &str) {
+pub fn first_word(text: &str) -> (&str, &str) {
     let text = text.trim();
     text.split_once(|c: char| c.is_whitespace())
         .unwrap_or((text, ""))
 }
 
 /// The last word of a text; the empty text if it has none.
-pub(crate) fn last_word(text: &str) -> &str {
+pub fn last_word(text: &str) -> &str {
     let mut words = text.rsplit(|c: char| !c.is_alphanumeric());
     words.find(|word| !word.is_empty()).unwrap_or("")
 }
 
 /// Whether a text begins with this word, in any case.
-pub(crate) fn begins(text: &str, word: &str) -> bool {
+pub fn begins(text: &str, word: &str) -> bool {
     let start = text.as_bytes().get(..word.len());
     start.is_some_and(|start| start.eq_ignore_ascii_case(word.as_bytes()))
 }
@@ -109,7 +109,7 @@ pub(crate) fn letters_of(alloc: Global, text: &str) -> Result<String, AllocError
 }
 
 /// Whether a text has a digit.
-pub(crate) fn has_digit(text: &str) -> bool {
+pub fn has_digit(text: &str) -> bool {
     text.contains(|c: char| c.is_ascii_digit())
 }
 
@@ -131,7 +131,7 @@ fn is_number_on_both_sides(sides: Option<(&str, &str)>) -> bool {
 }
 
 /// Whether a vote begins and ends with brackets, as programs write lists.
-pub(crate) fn is_in_brackets(vote: &str) -> bool {
+pub fn is_in_brackets(vote: &str) -> bool {
     let begin = vote.strip_prefix("c").unwrap_or(vote);
     let is_wrap = |c: char| "[](){}".contains(c);
     begin.trim_start_matches(is_wrap).len() < begin.len()
@@ -145,12 +145,12 @@ pub(crate) fn is_empty_list(text: &str) -> bool {
 }
 
 /// Whether a text is one or more digits.
-pub(crate) fn is_digits(text: &str) -> bool {
+pub fn is_digits(text: &str) -> bool {
     !text.is_empty() && text.as_bytes().iter().all(|byte| byte.is_ascii_digit())
 }
 
 /// Whether a text is digits on both sides of a point or a comma.
-pub(crate) fn is_decimal(text: &str) -> bool {
+pub fn is_decimal(text: &str) -> bool {
     let (whole, part) = parts_of(text);
     is_digits(whole) && is_digits(part)
 }
@@ -168,7 +168,7 @@ fn parts_of(text: &str) -> (&str, &str) {
 }
 
 /// Whether a text is a number as a spreadsheet shortens it, such as `1.23E+11`.
-pub(crate) fn is_power(text: &str) -> bool {
+pub fn is_power(text: &str) -> bool {
     let parts = text.split_once("E+").or(text.split_once("e+"));
     let (number, power) = parts.unwrap_or(("", ""));
     is_digits(power) && (is_digits(number) || is_decimal(number))
@@ -256,7 +256,7 @@ fn is_mark(c: char) -> bool {
 
 /// An id without what gets changed: marks at its ends, case, white space, characters that can't be seen, zeros before a number,
 /// and `.0` at its end.
-pub(crate) fn plain(alloc: Global, id: &str) -> Result<String, AllocError> {
+pub fn plain(alloc: Global, id: &str) -> Result<String, AllocError> {
     let id = without_hidden(id).trim_matches(is_mark);
     let id = id.strip_suffix(".0").unwrap_or(id);
     let mut out = String::new(alloc);
@@ -310,7 +310,7 @@ pub(crate) fn with_digits(alloc: Global, id: &str) -> Result<String, AllocError>
 
 /// The form of an id: a mark for each digit, or for each number if it need not be exact; without digits a
 /// mark for each letter, or for all of them.
-pub(crate) fn form_of(alloc: Global, id: &str, is_exact: bool) -> Result<String, AllocError> {
+pub fn form_of(alloc: Global, id: &str, is_exact: bool) -> Result<String, AllocError> {
     let mut out = String::new(alloc);
     let has_digits = has_digit(id);
     let mut before = ' ';
@@ -330,7 +330,7 @@ pub(crate) fn form_of(alloc: Global, id: &str, is_exact: bool) -> Result<String,
 }
 
 /// Whether two ids have different forms, where numbers need not be as long.
-pub(crate) fn differ_in_form(alloc: Global, one: &str, other: &str) -> Result<bool, AllocError> {
+pub fn differ_in_form(alloc: Global, one: &str, other: &str) -> Result<bool, AllocError> {
     Ok(form_of(alloc, one, false)?.as_str() != form_of(alloc, other, false)?.as_str())
 }
 

@@ -26,7 +26,7 @@ pub fn text_at(record: &ByteRecord, place: usize) -> &str {
 }
 
 /// Whether bytes have this one.
-pub(crate) fn has_byte(bytes: &[u8], byte: u8) -> bool {
+pub fn has_byte(bytes: &[u8], byte: u8) -> bool {
     for other in bytes {
         if *other == byte {
             return true;
@@ -36,7 +36,7 @@ pub(crate) fn has_byte(bytes: &[u8], byte: u8) -> bool {
 }
 
 /// How often this byte stands among others.
-pub(crate) fn count_of(bytes: &[u8], byte: u8) -> usize {
+pub fn count_of(bytes: &[u8], byte: u8) -> usize {
     let mut count = 0usize;
     for other in bytes {
         count = count.saturating_add(usize::from(*other == byte));
@@ -45,7 +45,7 @@ pub(crate) fn count_of(bytes: &[u8], byte: u8) -> usize {
 }
 
 /// Whether a field of a record has several lines.
-pub(crate) fn has_lines(record: &ByteRecord) -> bool {
+pub fn has_lines(record: &ByteRecord) -> bool {
     has_byte(record.as_slice(), b'\n')
 }
 

@@ -68,3 +68,13 @@ pub fn twice_in(alloc: Global, vote: &str) -> &str {
     }
     ""
 }
+
+/// Whether a text names a project that is none of these, if it names projects alone.
+pub fn names_other(text: &str, ballot: &[u32], projects: &Firsts) -> Option<bool> {
+    let mut has_other = false;
+    for piece in text.split(',') {
+        let place = projects.place(piece.trim())?;
+        has_other |= ballot.binary_search(&place).is_err();
+    }
+    Some(has_other)
+}

@@ -2,9 +2,8 @@
 
 use crate::changed::{last_word, plain};
 use crate::fields::has_lines;
-use crate::names_row::name_with_id;
 use crate::prelude::*;
-use crate::swallowed::later_lines;
+use crate::swallowed::{later_lines, name_with_id};
 
 /// The ids of projects, each with where its first row stands.
 #[derive(Drop)]
@@ -12,7 +11,7 @@ pub struct Ids {
     alloc: Global,
     pub projects: Firsts,
     /// Their names, in plain form, and the place of the column that has them.
-    pub(crate) names: Firsts,
+    pub names: Firsts,
     name: Option<usize>,
     /// The last column name and the first id, if the first row stands behind the column names.
     behind_names: String,

@@ -3,8 +3,6 @@
 pub(crate) use crate::fields::{bytes_at, column_of, raw_text, text_at};
 pub(crate) use crate::firsts::Firsts;
 pub(crate) use crate::mark::Mark;
-pub(crate) use crate::oddities::{Odd, Oddities};
-pub(crate) use crate::row::Row;
 pub(crate) use crate::text::Text;
 pub(crate) use csv::ByteRecord;
 pub(crate) use pb_core::election::Election;

@@ -13,7 +13,7 @@ const FEWEST: u64 = 3;
 #[derive(Drop)]
 pub struct VoteRows {
     /// Where the first row stands that is accepted, how many rows are, and how many are refused.
-    pub(crate) first: Option<Mark>,
+    pub first: Option<Mark>,
     pub accepted: u64,
     pub refused: u64,
     /// How many of these name no project, and something else than words for nothing: without their unknown
@@ -30,7 +30,7 @@ pub struct VoteRows {
     /// How many rows name a project that another row of their voter names.
     twice: u64,
     /// How many votes that are accepted end in a comma.
-    pub(crate) cut: u64,
+    pub cut: u64,
     /// How many rows repeat an id, and how many voters stand in several rows, once the file has ended.
     pub rows_repeated: u64,
     pub voters_repeated: u64,
@@ -123,7 +123,7 @@ impl VoteRows {
     }
 
     /// Whether no vote has a text, accepted or not.
-    pub(crate) fn are_blank(&self) -> bool {
+    pub fn are_blank(&self) -> bool {
         self.commas.is_none()
     }
 

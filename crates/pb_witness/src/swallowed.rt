@@ -1,7 +1,7 @@
 //! Rows that a quotation mark swallowed: a field in quotes that runs over several lines has them in it.
 
-use crate::behind_vote::names_other;
 use crate::fields::has_lines;
+use crate::firsts::names_other;
 use crate::heads::is_head;
 use crate::prelude::*;
 use pb_read::MetaKey;
@@ -24,12 +24,7 @@ pub(crate) fn swallows_head(record: &ByteRecord) -> bool {
 
 /// Whether a field of a row has a line in it that seems to be a row of the same part of the file, which has
 /// so many column names. The ids of the projects before it are given.
-pub(crate) fn swallows_row(
-    record: &ByteRecord,
-    part: Part,
-    names: usize,
-    projects: &Firsts,
-) -> bool {
+pub fn swallows_row(record: &ByteRecord, part: Part, names: usize, projects: &Firsts) -> bool {
     if !has_lines(record) {
         return false;
     }
@@ -114,4 +109,35 @@ fn is_end(line: &str, place: usize, part: Part, projects: &Firsts) -> bool {
 /// before it.
 fn field_of(line: &str, place: usize) -> &str {
     line.split(';').nth(place).unwrap_or("").trim()
+}
+
+/// How many column names there are if a row stands behind them: the last name and the first field are one.
+pub fn columns_of(names: &ByteRecord) -> usize {
+    names.len().saturating_add(1) / 2
+}
+
+/// The place of the cost, or of the vote, of a row behind these column names, if one seems to stand there.
+pub fn place_of_row(names: &ByteRecord, section: Section, projects: &Firsts) -> Option<usize> {
+    let needed = match section {
+        Section::Meta => return None,
+        Section::Projects => Column::Cost,
+        Section::Votes => Column::Vote,
+    };
+    let own = column_of(names, needed.name())?;
+    let place = columns_of(names).saturating_sub(1).saturating_add(own);
+    let value = text_at(names, place);
+    let is_value = match section {
+        Section::Votes => names_other(value, &[], projects).is_some(),
+        _ => Money::read(value).is_ok(),
+    };
+    let are_two = names.len() % 2 == 1 && own > 0;
+    (is_value && are_two).then_some(place)
+}
+
+/// The last name of PROJECTS and the first id, which are one field, if the first row stands behind the names.
+pub(crate) fn name_with_id<'n>(names: &'n ByteRecord, projects: &Firsts) -> &'n str {
+    match place_of_row(names, Section::Projects, projects) {
+        Some(_) => text_at(names, columns_of(names).saturating_sub(1)),
+        None => "",
+    }
 }

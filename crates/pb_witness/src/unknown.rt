@@ -1,7 +1,7 @@
 //! The votes that are refused since they name an id that no project has, by that id.
 
+use crate::amounts::whole_number;
 use crate::changed::{is_empty_list, is_in_brackets};
-use crate::meta_oddities::whole_number;
 use crate::prelude::*;
 use pb_read::MOST_FAULTS;
 

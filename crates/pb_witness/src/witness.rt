@@ -1,9 +1,9 @@
 //! Who looks on while a .pb file is read, and keeps what words need of what the reader refuses.
 
+use crate::amounts::has_thousands_mark;
 use crate::changed::is_nothing;
 use crate::faulty_record::{FaultyRecord, piece_of};
 use crate::ids::Ids;
-use crate::meta_oddities::has_thousands_mark;
 use crate::prelude::*;
 use crate::rows::VoteRows;
 use crate::seen::Seen;
@@ -60,7 +60,7 @@ impl Witness {
     }
 
     /// Takes a record that is accepted, and begins here.
-    pub(crate) fn take(&mut self, record: &ByteRecord, mark: Mark, part: Part) {
+    pub fn take(&mut self, record: &ByteRecord, mark: Mark, part: Part) {
         self.seen.take(record, mark, part);
         if let Part::Vote(columns) = part {
             self.rows.take(bytes_at(record, columns.vote), mark);

@@ -237,7 +237,7 @@ pub(crate) fn put_late_meta<R: Files>(out: &mut WordsWriter, text: &Text<R>, fir
     } else if are_sorted {
         "META is on line {}, below a row with a key of META: the lines may have been sorted. Get the file again, with its lines in their order.\n"
     } else {
-        "META is on line {}. If a line above it says that rows are left out or not valid, or what signs or amounts mean, ask first. If not, delete everything above it.\n"
+        "META is on line {}. If a line above it is a row of PROJECTS or VOTES, move it there. If one says that rows are left out or not valid, or what signs or amounts mean, ask first. If not, delete everything above it.\n"
     };
     out.fill(form, &[Number(line_of(text, mark))]);
     if !is_behind && !are_sorted {

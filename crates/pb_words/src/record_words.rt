@@ -11,10 +11,14 @@ use crate::section::{due_at_end, end_remedy};
 use crate::unknown_texts::{LATE_PROJECT, is_cut_code};
 use pb_read::Stage;
 use pb_witness::cause::Cause;
+use pb_witness::changed::is_one_of;
 use pb_witness::faulty_record::FaultyRecord;
 use pb_witness::fields::{JoinedBy, column_of};
 use pb_witness::heads::{head_of, section_of};
 use pb_witness::quote::{Span, span_of};
+
+/// What columns are called that have ranks or points.
+const RANKS: &str = "rank|ranks|ranking|preference|points|score|weight|stars|grade";
 
 /// What begins and ends a part of a text that programs leave out.
 const PARTS: [(&str, &str); 3] = [("/*", "*/"), ("<!--", "-->"), ("(*", "*)")];
@@ -250,6 +254,9 @@ impl<R: Files> Case<'_, R> {
             ),
             Some(_) => {}
             None if self.is_hidden() || self.has_note_above() => put_clean(out, self.text, ""),
+            None if self.faulty.is_by_project() && has_ranks(&self.faulty.record) => out.put(
+                "A column seems to have ranks or points, which this program can't count. If it has something else, call it `comment`.\n",
+            ),
             None if self.faulty.is_by_project() => out.fill(
                 "If each voter has a row for each project, `pb_clean {} -o NEW.pb --repeated-voters merge` makes one ballot of a voter's rows. If each row is a person, call the column `vote`.\n",
                 &[Name(self.text.path)],
@@ -418,4 +425,9 @@ impl<R: Files> Case<'_, R> {
         let found = self.text.find(Mark::start(), is_there)?;
         matches!(self.faulty.stage, Stage::InProjects(_)).then_some(found.1)
     }
+}
+
+/// Whether one of these column names is of ranks or points.
+fn has_ranks(names: &ByteRecord) -> bool {
+    (0..names.len()).any(|place| is_one_of(RANKS, text_at(names, place)))
 }

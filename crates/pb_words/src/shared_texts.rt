@@ -1,4 +1,4 @@
-//! What is said of several kinds or forms of warnings alike, in the form of `warning_texts`.
+//! What is said of several kinds or forms of warnings alike, or of rows that belong together, in the form of `warning_texts`.
 
 /// What is said of a row without a vote in which another field seems to be it.
 pub(crate) const STRAY_ID: &str = "{value} stands in place of a voter's id, and the vote is empty
@@ -45,3 +45,37 @@ pub(crate) const NO_NUMBER: &str =
     "{value} is not a whole number in digits; the number of {kind} rows in the file is {number}
 META's number of {kind}s is wrong: the number of {kind} rows in the file is {number}
 Write the number in digits.";
+
+pub(crate) const TWO_NUMBERS: &str =
+    "the id, {value}, is two numbers; other ids are one number each. This concerns {rows}
+an id is two numbers; other ids are one number each. This concerns {rows}
+It is counted as one voter. Ask what the id means. If the row stands for several ballots, write a row for each of them, with \
+    an id of its own. If it is one ballot, nothing is wrong.";
+
+pub(crate) const A_RANGE: &str =
+    "the id, {value}, is a range of numbers, and others begin where one ends. This concerns {rows}
+an id is a range of numbers, and others begin where one ends. This concerns {rows}
+Each is counted as one voter. Ask what the ids mean. If a row stands for several ballots, write a row for each of them, with \
+    an id of its own. If each is one ballot, nothing is wrong.";
+
+pub(crate) const TYPED_TWICE: &str =
+    "{number} rows have an id that differs from an earlier one only at its end, and most of them have its vote
+Ballots may have been typed twice, to compare both. Look at some of them. If so, keep one row of each ballot. If the rows are of \
+    different people, nothing is wrong.";
+
+pub(crate) const A_CHOICE_EACH: &str =
+    "{number} rows have an id that differs from an earlier one only at its end, and each row names one project, another one
+If each choice of a voter has a row, each is counted as a voter. Write one row for each of these voters, with the ids of all \
+    its rows, and `,` between them. If each row is a ballot of its own, nothing is wrong.";
+
+pub(crate) const OUT_OF_ORDER: &str =
+    "the vote is not in the order of PROJECTS, as others are, and all such votes end in one id. This concerns {rows}
+a vote is not in the order of PROJECTS, as others are, and all such votes end in one id. This concerns {rows}
+A program may have read ids as a number (`3,10` as 3.1), or cut or replaced a part of one. Compare these votes with the \
+    ballots. If they differ, get all votes again, as text. If not, nothing is wrong.";
+
+pub(crate) const CUT_BY_A_LETTER: &str =
+    "{value}, in column {column}, ends like a letter of a web page (`&uuml;`), whose `;` may have cut it
+a field ends like a letter of a web page (`&uuml;`), whose `;` may have cut it
+Write the letter itself. If the `;` has cut the field, join its two parts: all fields behind it stand one column too far to \
+    the right. Then look at the row's cost or vote.";

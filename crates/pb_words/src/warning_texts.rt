@@ -4,8 +4,9 @@
 //! that reads one takes steps for each letter of it.
 
 use crate::shared_texts::{
-    NO_NUMBER, STRAY_ID, STRAY_VOTE, TOO_CHEAP, TOO_COSTLY, TOO_FEW_ROWS, TOO_LONG, TOO_MANY_ROWS,
-    TOO_SHORT,
+    A_CHOICE_EACH, A_RANGE, CUT_BY_A_LETTER, NO_NUMBER, OUT_OF_ORDER, STRAY_ID, STRAY_VOTE,
+    TOO_CHEAP, TOO_COSTLY, TOO_FEW_ROWS, TOO_LONG, TOO_MANY_ROWS, TOO_SHORT, TWO_NUMBERS,
+    TYPED_TWICE,
 };
 use pb_read::Oddity;
 
@@ -123,6 +124,10 @@ If both are parts of one budget, write their sum as `budget`, and delete this ro
 an amount that may be a later budget is ignored: only that of the key `budget` is counted
 Compare both with the decision on this vote. If this one is right, write it as `budget`. If not, nothing is wrong, and you \
     can delete this row.",
+        "it has the name and the cost of the project on line {line}, and votes name both
+a project has the name and the cost of another one, and votes name both
+If they are one project, delete one row, and write the id of the other in all votes: once where a vote names both. If \
+    they are two, write in both names how they differ.",
     ],
     &[
         "its cost, {value}, is the sum of all costs above
@@ -159,6 +164,10 @@ A cell may have been copied downwards, and a spreadsheet counted on. Compare the
 a project's name is that of an answer for none of the projects
 It is counted as a project, and wins money if enough voters chose it. If it is no project, delete its row, take its id out of the \
     votes, and keep these ballots. If it is one, nothing is wrong.",
+        "its name is that of a test, or stands for a name
+a project's name is that of a test, or stands for a name
+It is counted as a project. If it is a test, delete its row, take its id out of the votes, and keep these ballots. If it is a \
+    project, write its name.",
     ],
     &[
         "the column `votes` says {value}, but the number of vote rows that name the project is {number}
@@ -235,6 +244,8 @@ They are counted as voters. The vote may have been filled down to rows that have
 an id has a word such as `void` or `test` in it. This concerns {rows}
 It is counted as a voter. Ask what the word means. If this ballot does not count, as a spoiled one or a test, delete the row. If it \
     does, keep it.",
+        TWO_NUMBERS,
+        A_RANGE,
     ],
     &[
         "a field in quotation marks runs over several lines that look like rows
@@ -303,6 +314,7 @@ The boxes may have been ticked before the voters saw them. Find out how these vo
 a vote names a project more than once, and every vote begins with it
 An answer to another question may stand before the votes. Look at some ballots. If so, take the first id out of every vote. If \
     not, write it once.",
+        OUT_OF_ORDER,
     ],
     &[
         "{number} columns have this name, and only the first is read
@@ -352,7 +364,7 @@ If the costs are in different currencies, write all of them in that of the budge
     of the column.",
         "the name {value} may say that it is withdrawn. It is counted. This concerns {projects}
 the name of a project may say that it is withdrawn. It is counted. This concerns {projects}
-If the project was withdrawn, take its row out, and its id out of the votes. If not, take the word out of its name.",
+If the project was withdrawn, take its row out, and its id out of the votes. If not, take that out of its name.",
         "{value} differs from line {line} in column {column}. The column is ignored: every row is counted
 a column says of which round a vote is. The column is ignored: every row is counted
 If these are votes of several rounds, make a file for each round.",
@@ -375,6 +387,10 @@ Find out what these rows are. If they are test ballots, delete them. If they cam
 a few projects are of another district than the one that META names. This concerns {projects}
 If projects of two votes stand here, make a file for each: its budget, its projects, and its voters. If this project \
     belongs to this vote, keep it.",
+        "{value}, in column {column}, is not the district that META names, as it is in most rows. This concerns {rows}
+a few voters are of another district than the one that META names. This concerns {rows}
+If votes of two districts stand here, make a file for each: its budget, its projects, and its voters. If your rules let \
+    these voters vote here, keep the rows.",
     ],
     &[
         "{value} is not counted: all projects share the amount of the key `budget`
@@ -395,6 +411,7 @@ If a `;` in the name or another text has cut it, put the text in quotation marks
         "the row has {value} in it, like a vote
 the row has several ids of projects in it, like a vote
 If it is a vote, move it below VOTES.",
+        CUT_BY_A_LETTER,
     ],
     &[
         "this id begins or ends with an invisible character. Without it, the id is another row's, so the voter is counted twice
@@ -445,6 +462,8 @@ If it says whose choice a row is, each choice is counted as a voter. Write one r
 a column has something of its own in most rows, and repeats it in a few. This concerns {rows}
 These may be several ballots of one voter. Find out whether they are, and which of them is valid. Take the others out. If they \
     are people who share it, keep all.",
+        TYPED_TWICE,
+        A_CHOICE_EACH,
     ],
 ];
 

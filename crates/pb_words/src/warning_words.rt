@@ -6,14 +6,14 @@ use crate::read_texts::{NOTE, OWN_ROWS};
 use crate::row_causes::{OF_MARKS, cut_cause, is_of_marks};
 use crate::warning_texts::{BESIDE_DECIMALS, forms_of};
 use pb_core::money::Money;
+use pb_oddities::oddities::{MOST, Odd, Oddities, Subject};
+use pb_oddities::unread::{IS_NOT_READ, SETS_LIMIT};
 use pb_read::Oddity;
 use pb_rounds::options::Completion;
 use pb_rounds::rule::Rule;
 use pb_witness::changed::is_one_of;
 use pb_witness::firsts::twice_in;
-use pb_witness::oddities::{MOST, Odd, Oddities, Subject};
 use pb_witness::quote::span_of;
-use pb_witness::unread::{IS_NOT_READ, SETS_LIMIT};
 
 /// What is said behind the line of rows that a quotation mark made one.
 const NAMED: &str = " (SwallowedRows)";

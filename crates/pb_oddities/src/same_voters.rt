@@ -1,8 +1,8 @@
 //! Voters who are there twice but for a character that can't be seen, or for another form of an e-mail address.
 
-use crate::changed::without_hidden;
-use crate::fields::has_byte;
 use crate::prelude::*;
+use pb_witness::changed::without_hidden;
+use pb_witness::fields::has_byte;
 
 /// The fewest addresses with a word behind `+` that are another voter's without it: one may be a couple's.
 const FEWEST: usize = 2;

@@ -1,9 +1,9 @@
 //! Columns of PROJECTS and VOTES that no count reads, and that may say what should count.
 
-use crate::changed::{has_word, is_digits, is_one_of};
 use crate::column_kinds::{FAILED, Has, NUMBERS, PASSED, POINTS, says_not_counted};
 use crate::prelude::*;
 use crate::row::{Limits, NEAR, NEXT, day_of};
+use pb_witness::changed::{has_word, is_digits, is_one_of};
 
 /// The fewest dates of votes that META excludes.
 const FEWEST_DATES: u64 = 5;
@@ -177,6 +177,7 @@ impl FurtherColumn {
             }
             Has::Costs => self.take_cost(value, Money::read(row.value()).ok()),
             Has::Dates => self.take_date(value, row.limits, odd),
+            Has::Districts if row.district.is_empty() => self.is_open = false,
             Has::Districts if value.eq_ignore_ascii_case(row.district) => {
                 self.within = self.within.saturating_add(1);
             }

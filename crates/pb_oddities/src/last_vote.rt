@@ -1,12 +1,12 @@
 //! The last row of VOTES where it has a vote: whether it may be a total or a note, and whether the file may
 //! be cut off in it.
 
-use crate::changed::has_digit;
-use crate::meta_oddities::whole_number;
 use crate::prelude::*;
 use crate::project_oddities::has_total;
 use crate::vote_oddities::has_space;
 use pb_read::MetaKey;
+use pb_witness::amounts::whole_number;
+use pb_witness::changed::has_digit;
 
 /// The fewest voters above a row that is no voter.
 const FEWEST: usize = 2;

@@ -1,8 +1,8 @@
 //! Rows of VOTES that may be a list of the projects, and no ballots.
 
-use crate::changed::{differ_in_form, is_digits};
 use crate::prelude::*;
 use pb_core::voter::Voter;
+use pb_witness::changed::{differ_in_form, is_digits};
 
 /// The fewest such rows.
 const FEWEST: usize = 3;

@@ -1,9 +1,9 @@
 //! What votes show that follow each other: a form that was not cleared, and a cell that was copied downwards.
 
-use crate::cause::comes_next;
-use crate::changed::has_digit;
 use crate::copies::is_no_chance;
 use crate::prelude::*;
+use pb_witness::cause::comes_next;
+use pb_witness::changed::has_digit;
 
 /// The fewest rows that go on so, one behind the other.
 const FEWEST: u64 = 3;

@@ -1,21 +1,21 @@
 //! What is odd in PROJECTS.
 
 use crate::approvals::Approvals;
-use crate::behind_vote::names_other;
 use crate::carried_forward::ProjectsAbove;
-use crate::changed::{
-    begins, first_word, has_digit, has_one_of, is_digits, is_one_of, is_power, last_word,
-};
 use crate::columns::FurtherColumns;
-use crate::fields::{has_byte, has_lines};
-use crate::meta_oddities::{
-    has_decimals, has_thousands_mark, may_be_sum, sum_of_costs, whole_number,
-};
+use crate::entities::take_entity;
+use crate::meta_oddities::{may_be_sum, sum_of_costs};
 use crate::names_row::NamesRow;
 use crate::prelude::*;
 use crate::twins::Twins;
 use crate::unread::Unread;
 use crate::value_columns::ValueColumns;
+use pb_witness::amounts::{has_decimals, has_thousands_mark, whole_number};
+use pb_witness::changed::{
+    begins, first_word, has_digit, has_one_of, has_part, is_digits, is_one_of, is_power, last_word,
+};
+use pb_witness::fields::{has_byte, has_lines};
+use pb_witness::firsts::names_other;
 
 /// What a row of totals is called.
 const TOTALS: &str =
@@ -52,6 +52,16 @@ const NO_PROJECT: &str =
 
 const NO_PROJECTS: &str = "none of |against all|neither of ";
 
+/// What the name of a test is, or how it begins.
+const TESTS: &str =
+    "test|testing|test project|testprojekt|dummy|dummy project|placeholder|sample project|example project|xxx|tbd";
+
+const OF_TESTS: &str =
+    "test project |asdf|qwerty|lorem ipsum|do not publish|do not count|delete me";
+
+/// Signs in a name that is struck out.
+const STRUCK_OUT: &str = "<s>|<del>|<strike>|~~|\u{336}";
+
 /// What is kept of a project.
 #[derive(Clone, Copy)]
 struct CheckedProject {
@@ -70,8 +80,9 @@ struct CheckedProject {
 #[derive(Drop)]
 pub(crate) struct ProjectOddities {
     alloc: Global,
-    /// How many column names there are.
+    /// How many column names there are, and where their row begins.
     pub(crate) names: usize,
+    header: Mark,
     first_row: NamesRow,
     /// The places of the columns with names, and of those that claim a result.
     name: Option<usize>,
@@ -87,6 +98,8 @@ pub(crate) struct ProjectOddities {
     unread: Unread,
     /// The first project whose name says that it is withdrawn, measured by how many there are.
     withdrawn: Option<Odd>,
+    /// The same of those whose name alone is that of an answer for none: several have no name.
+    none: Option<Odd>,
     accepted: Vec<CheckedProject>,
 }
 
@@ -103,6 +116,7 @@ impl ProjectOddities {
         Ok(ProjectOddities {
             alloc,
             names: names.len(),
+            header,
             first_row: NamesRow::of(names, header, Section::Projects, projects),
             name: column_of(names, "name"),
             votes: column_of(names, "votes"),
@@ -114,6 +128,7 @@ impl ProjectOddities {
             values: ValueColumns::of(alloc, names, header)?,
             unread: Unread::of(alloc, names, header, Section::Projects)?,
             withdrawn: None,
+            none: None,
             accepted: Vec::new(alloc),
         })
     }
@@ -128,6 +143,7 @@ impl ProjectOddities {
             found.take(row.odd(Oddity::FooterRow).in_form(5));
         }
         self.take_cut(row, found);
+        take_entity(row, (self.names, self.header), found);
         self.first_row.take(row.record);
         let name = row.at(self.name.unwrap_or(usize::MAX));
         let district = row.at(self.district.unwrap_or(usize::MAX));
@@ -139,9 +155,7 @@ impl ProjectOddities {
             let odd = odd.at(self.name.unwrap_or(usize::MAX));
             self.withdrawn = Some(odd.behind(self.withdrawn));
         }
-        if is_no_project(name) {
-            found.take(row.odd(Oddity::FooterRow).in_form(9));
-        }
+        self.take_name(name, row.odd(Oddity::FooterRow), found);
         self.further.take(row, found)?;
         self.accepted.push(CheckedProject {
             odd: row.odd(Oddity::FooterRow),
@@ -151,6 +165,17 @@ impl ProjectOddities {
             is_winner: false,
         })?;
         Ok(())
+    }
+
+    /// Takes the name of a project, which is odd so if it is that of an answer for none or of a test.
+    fn take_name(&mut self, name: &str, odd: Odd, found: &mut Oddities) {
+        if is_one_of(NO_PROJECT, name) {
+            self.none = Some(odd.in_form(9).behind(self.none));
+        } else if begins_as(NO_PROJECTS, name) {
+            found.take(odd.in_form(9));
+        } else if is_one_of(TESTS, name) || begins_as(OF_TESTS, name) {
+            found.take(odd.in_form(10));
+        }
     }
 
     /// Takes a row, which is odd so if it has a text behind its columns, or a field like a vote.
@@ -185,6 +210,7 @@ impl ProjectOddities {
         found: &mut Oddities,
     ) -> Result<(), AllocError> {
         found.take_some(self.withdrawn);
+        found.take_some(self.none.filter(|odd| odd.number == 1));
         self.first_row.end(found);
         self.further.end(found);
         self.unread.end(found)
@@ -364,7 +390,7 @@ pub(crate) fn has_total(text: &str) -> bool {
 }
 
 /// Whether the name of a project says that it is withdrawn or the like: with such a word in capitals at its end, or at the
-/// start of a part of it.
+/// start of a part of it, or struck out.
 fn says_withdrawn(name: &str) -> bool {
     for (place, piece) in name.split(|c: char| "()[]".contains(c)).enumerate() {
         for part in piece.split(|c: char| ",/\u{2013}\u{2014}".contains(c)) {
@@ -374,12 +400,12 @@ fn says_withdrawn(name: &str) -> bool {
             }
         }
     }
-    is_loud(last_word(name), name)
+    is_loud(last_word(name), name) || has_part(STRUCK_OUT, name)
 }
 
-/// Whether the name of a project says that it is an answer for none.
-fn is_no_project(name: &str) -> bool {
-    is_one_of(NO_PROJECT, name) || NO_PROJECTS.split('|').any(|words| begins(name, words))
+/// Whether a name begins as one of these does.
+fn begins_as(words: &str, name: &str) -> bool {
+    words.split('|').any(|start| begins(name, start))
 }
 
 /// Whether a part of a name begins with such a word, which is alone, in capitals, or has a sign or a number behind it, or `by` or

@@ -5,11 +5,11 @@ ghost use Rattle.std.specs.Prelude.{◌≡◌, Option};
 use crate::meta_oddities::MetaOddities;
 use crate::prelude::*;
 use crate::project_oddities::ProjectOddities;
-use crate::swallowed::swallows_row;
 use crate::vote_oddities::VoteOddities;
-use crate::witness::Witness;
 use pb_core::no_memory::NoMemory;
 use pb_read::{Compare, Heed, MetaKey, Refusal, Warn, Warning, WarningRow, Watch};
+use pb_witness::swallowed::swallows_row;
+use pb_witness::witness::Witness;
 
 /// Looks on while a file is read, and collects warnings: all of them for a check, and what can change the
 /// result for a count.

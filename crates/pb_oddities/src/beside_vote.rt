@@ -1,12 +1,13 @@
 //! Columns of VOTES that no count reads, beside the vote of each row: what all rows show of them.
 
-use crate::behind_vote::{OF_VOTES, names_other};
-use crate::changed::{has_part, is_one_of};
+use crate::behind_vote::OF_VOTES;
 use crate::choices::{Choices, Named};
 use crate::columns::MOST_COLUMNS;
 use crate::crosses::Crosses;
 use crate::filled_down::LastEmpty;
 use crate::prelude::*;
+use pb_witness::changed::{has_part, is_one_of};
+use pb_witness::firsts::names_other;
 
 /// The fewest rows by which something is so of all.
 const FEWEST: u64 = 8;

@@ -1,7 +1,7 @@
 //! Several ballots of one person, by a column such as `email`.
 
-use crate::changed::has_one_of;
 use crate::prelude::*;
+use pb_witness::changed::has_one_of;
 
 /// Words in the name of a column that each person has one of, and in that of one that people share.
 const PERSONS: &str = "email|mail|pesel|token";

@@ -1,10 +1,13 @@
 //! Ids of projects that stand behind the vote, where no count reads them.
 
 use crate::beside_vote::BesideVote;
-use crate::changed::{has_digit, has_one_of, has_part, is_digits, is_one_of, is_tick, last_word};
 use crate::column_kinds::{NOTES, NUMBERS, is_of_validity};
 use crate::prelude::*;
 use crate::warnings::places_of;
+use pb_witness::changed::{
+    has_digit, has_one_of, has_part, is_digits, is_one_of, is_tick, last_word,
+};
+use pb_witness::firsts::names_other;
 
 /// Columns of VOTES that hold no votes of the voter, whatever stands in them.
 const OTHERS: &str =
@@ -364,14 +367,4 @@ pub(crate) fn holds_none(name: &str) -> bool {
 /// Whether a text that names projects is several ids, or one with a digit and another character.
 fn is_list(text: &str) -> bool {
     text.contains(',') || (has_digit(text) && !is_digits(text))
-}
-
-/// Whether a text names a project that is none of these, if it names projects alone.
-pub(crate) fn names_other(text: &str, ballot: &[u32], projects: &Firsts) -> Option<bool> {
-    let mut has_other = false;
-    for piece in text.split(',') {
-        let place = projects.place(piece.trim())?;
-        has_other |= ballot.binary_search(&place).is_err();
-    }
-    Some(has_other)
 }

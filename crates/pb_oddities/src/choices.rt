@@ -1,8 +1,8 @@
 //! Names of projects in a column of VOTES beside the vote: whether it names the same.
 
 use crate::behind_vote::{OF_VOTERS, OF_VOTES, holds_none};
-use crate::changed::{has_part, is_one_of, plain};
 use crate::prelude::*;
+use pb_witness::changed::{has_part, is_one_of, plain};
 
 /// The fewest fields with names by which a column has names, and how many are read for that.
 const FEWEST: u64 = 4;

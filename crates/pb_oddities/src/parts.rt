@@ -1,9 +1,10 @@
 //! Rows of VOTES that belong to another row, by their ids or by where they stand: it is cancelled, or they are the back
 //! side or another sheet of its ballot.
 
-use crate::changed::has_digit;
 use crate::copies::kept_in;
+use crate::pairs::take_pairs;
 use crate::prelude::*;
+use pb_witness::changed::has_digit;
 
 /// The fewest letters of a word behind an id, and in how many rows.
 const FEWEST_LETTERS: usize = 3;
@@ -75,7 +76,10 @@ impl Parts {
         if let (Some(odd), Some(sheets)) = (first, sheets(self.alloc, election)?) {
             found.take(odd.as_a(Oddity::HiddenCharacter).in_form(2).by(sheets));
         }
-        Ok(())
+        match first {
+            Some(odd) => take_pairs(self.alloc, election, odd, found),
+            None => Ok(()),
+        }
     }
 
     /// The first of the rows that may be back sides: each second row has no vote, and most others have one.
@@ -138,7 +142,7 @@ impl Parts {
 }
 
 /// Whether two ballots approve the same projects.
-fn are_same(one: &[u32], other: &[u32]) -> bool {
+pub(crate) fn are_same(one: &[u32], other: &[u32]) -> bool {
     one.len() == other.len() && one.iter().zip(other).all(|(one, other)| one == other)
 }
 
@@ -153,7 +157,7 @@ fn apart(id: &str) -> Option<(&str, &str)> {
 }
 
 /// What stands before a sign and one letter or digit at the end of an id, and these.
-fn sheet_of(id: &str) -> Option<(&str, &str)> {
+pub(crate) fn sheet_of(id: &str) -> Option<(&str, &str)> {
     let end = id.len().checked_sub(2)?;
     let (stem, sheet) = (id.get(..end)?, id.get(end..)?);
     let (sign, last) = (sheet.as_bytes().first()?, sheet.as_bytes().last()?);

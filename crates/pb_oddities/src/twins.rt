@@ -1,7 +1,7 @@
-//! Projects with one name: whose ids are nearly the same, or of which votes name one alone.
+//! Projects with one name: whose ids are nearly the same, of which votes name one alone, or with one cost too.
 
-use crate::changed::plain;
 use crate::prelude::*;
+use pb_witness::changed::plain;
 
 /// The projects, by their ids and names in plain form.
 #[derive(Drop)]
@@ -57,8 +57,8 @@ impl Twins {
         Ok(())
     }
 
-    /// Takes the end of the file, in which so many ballots approve each project: one that nobody approves is odd
-    /// if votes name another one with its name.
+    /// Takes the end of the file, in which so many ballots approve each project: one with the name of another is odd if votes
+    /// name that one alone, or both, and both have one cost.
     pub(crate) fn end(&self, supporters: &[u64], found: &mut Oddities) {
         let is_named = |place: u32| supporters
             .get(place as usize)
@@ -73,6 +73,11 @@ impl Twins {
             match rows {
                 (Some((one, _)), Some((odd, _))) if is_named(named) && !is_named(other) => {
                     found.take(odd.in_form(3).repeats(*one))
+                }
+                (Some((one, cost)), Some((odd, its))) if is_named(other) && cost == its => {
+                    if !found.tells_of(*odd) {
+                        found.take(odd.in_form(8).repeats(*one));
+                    }
                 }
                 _ => {}
             }

@@ -1,8 +1,8 @@
 //! Voters who are there twice but for capital letters, signs, or letters that look like digits.
 
 use crate::copies::kept_in;
-use crate::fields::has_byte;
 use crate::prelude::*;
+use pb_witness::fields::has_byte;
 
 /// The most rows that a few are, one in how many voters they are at most, and how many are few among this many.
 const MOST: u64 = 1_000;

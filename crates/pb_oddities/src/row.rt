@@ -1,9 +1,9 @@
 //! A row of PROJECTS or VOTES that is accepted.
 
-use crate::changed::plain;
-use crate::meta_oddities::whole_number;
 use crate::prelude::*;
 use pb_read::MetaKey;
+use pb_witness::amounts::whole_number;
+use pb_witness::changed::plain;
 
 /// What META asks of ballots, beside the most projects that one may name.
 #[derive(Clone, Copy, Default)]

@@ -1,8 +1,8 @@
 //! A column of VOTES that says how many crosses a ballot has, and the votes that have fewer projects.
 
-use crate::changed::has_one_of;
-use crate::fields::number_in;
 use crate::prelude::*;
+use pb_witness::changed::has_one_of;
+use pb_witness::fields::number_in;
 
 /// The fewest rows, and how many more rows may say more than the vote than just as much.
 const FEWEST: u64 = 8;

@@ -1,11 +1,11 @@
 //! A row for each choice: every vote names one project, and another column says whose it is.
 
-use crate::changed::is_one_of;
 use crate::column_kinds::NOTES;
 use crate::columns::MOST_COLUMNS;
 use crate::copies::is_no_chance;
-use crate::fields::number_in;
 use crate::prelude::*;
+use pb_witness::changed::is_one_of;
+use pb_witness::fields::number_in;
 
 /// How many of the first values of a column are looked at, in how many rows, and how long they may be together with a vote.
 const MOST_VALUES: u64 = 1_000;

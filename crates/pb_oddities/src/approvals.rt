@@ -1,7 +1,7 @@
 //! How many ballots approve each project, and which projects lose approvals by what a spreadsheet does to their ids.
 
-use crate::changed::is_decimal;
 use crate::prelude::*;
+use pb_witness::changed::is_decimal;
 
 /// The fewest ballots that show it.
 const FEWEST: u64 = 3;

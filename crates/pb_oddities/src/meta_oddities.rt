@@ -1,23 +1,24 @@
 //! What in META can change a result, and what META says that other warnings rest on.
 
-use crate::changed::{begins, has_digit, has_one_of, has_part, has_word, is_one_of};
 use crate::column_kinds::{DISTRICT, LATER};
 use crate::columns::is_money;
-use crate::keys::Keys;
 use crate::prelude::*;
 use crate::row::{Limits, day_of, year_of};
 use crate::unread::UnreadKeys;
 use pb_core::money_fault::MoneyFault;
 use pb_core::project::Project;
 use pb_read::MetaKey;
+use pb_witness::amounts::{has_decimals, has_thousands_mark, whole_number};
+use pb_witness::changed::{begins, has_digit, has_one_of, has_part, has_word, is_one_of};
+use pb_witness::keys::Keys;
 use std::mem;
 
-/// Words in a key beside `budget` that make it no budget of a district or category.
+/// Words in a key beside `budget` that make it no budget of a district or category, as one for each person.
 const NO_DISTRICT: &str =
     "total|overall|whole|city|max|maximum|min|minimum|average|project|spent|used|unused|left|\
     leftover|remaining|rest|reserve|available|previous|last|next|year|final|id|phase|code|number|no|\
     version|share|edition|eur|euro|usd|gbp|pln|chf|czk|huf|ron|bgn|sek|nok|dkk|isk|uah|rub|try|cad|aud|\
-    jpy|cny|krw|inr|brl|mxn|zar";
+    jpy|cny|krw|inr|brl|mxn|zar|capita|resident|inhabitant|person|head|citizen|household|voter|pupil";
 
 /// The fewest projects of which most should not cost more than the budget.
 const MANY: usize = 5;
@@ -224,16 +225,15 @@ impl MetaOddities {
         if let (Some(year), Some(amount)) = (year_of_later(key), hundredths(value)) {
             let odd = Odd::of_key(Oddity::RepeatedKey, mark).in_form(7).by(amount);
             let is_last = self.later.is_none_or(|odd| odd.limit <= Some(year));
-            let limit = Some(year);
-            self.later = if is_last {
-                Some(Odd { limit, ..odd })
-            } else {
-                self.later
-            };
+            if is_last {
+                let limit = Some(year);
+                self.later = Some(Odd { limit, ..odd });
+            }
             return;
         }
         let is_per = begins(key, "budget_per_") && !value.is_empty();
-        if !is_per && !(is_of_budget(key) && !is_of_no_district(key) && are_amounts(value)) {
+        let is_meant = is_per || (is_of_budget(key) && are_amounts(value));
+        if !is_meant || is_of_no_district(key) {
             return;
         }
         self.has_budget_per |= is_per;
@@ -475,26 +475,4 @@ fn approvals_of(election: &Election) -> u64 {
 fn hundredths(value: &str) -> Option<u64> {
     let Money(hundredths) = Money::read(value).ok()?;
     (hundredths > 0).then_some(hundredths)
-}
-
-/// The whole number that a value names, perhaps with zeros as decimals.
-pub(crate) fn whole_number(value: &str) -> Option<u64> {
-    let Money(hundredths) = Money::read(value).ok()?;
-    (hundredths % 100 == 0).then_some(hundredths / 100)
-}
-
-/// Whether exactly three digits stand behind an amount's mark, and at most three before it.
-pub(crate) fn has_thousands_mark(amount: &str) -> bool {
-    behind_mark(amount) == 4 && amount.len() <= 7
-}
-
-/// Whether one or two digits stand behind an amount's mark.
-pub(crate) fn has_decimals(amount: &str) -> bool {
-    matches!(behind_mark(amount), 2 | 3)
-}
-
-/// One more than how many characters stand behind an amount's mark; 0 if it has none.
-fn behind_mark(amount: &str) -> usize {
-    let last = amount.rsplit_once(|c: char| c == '.' || c == ',');
-    last.map_or(0, |(_, behind)| behind.len().saturating_add(1))
 }

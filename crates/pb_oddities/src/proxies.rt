@@ -1,9 +1,10 @@
 //! Columns of VOTES that name voters who have no rows, as where a row stands for others too.
 
 use crate::behind_vote::OF_VOTERS;
-use crate::changed::{form_of, has_digit, is_one_of};
+use crate::column_kinds::NOTES;
 use crate::columns::MOST_COLUMNS;
 use crate::prelude::*;
+use pb_witness::changed::{form_of, has_digit, is_one_of};
 
 /// The most bytes of an id in such a column, and the fewest ids.
 const LONGEST: usize = 40;
@@ -49,7 +50,7 @@ impl Proxies {
                 form: String::new(alloc),
                 first: None,
                 place,
-                is_open: !is_read && !is_one_of(OF_VOTERS, name),
+                is_open: !is_read && !is_one_of(OF_VOTERS, name) && !is_one_of(NOTES, name),
             })?;
         }
         Ok(Proxies {

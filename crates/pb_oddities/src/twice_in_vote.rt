@@ -1,7 +1,7 @@
 //! Votes that name a project twice; and whether it is the one with which every vote begins.
 
-use crate::fields::count_of;
 use crate::prelude::*;
+use pb_witness::fields::count_of;
 
 /// The fewest votes that begin with one id.
 const FEWEST: u64 = 8;

@@ -2,11 +2,11 @@
 //! and VOTES and keys of META that are not usual, and in values of META that name a project or a voter.
 
 use crate::behind_vote::OF_VOTERS;
-use crate::changed::{has_digit, has_one_of, is_one_of};
 use crate::column_kinds::{Has, NUMBERS};
 use crate::columns::MOST_COLUMNS;
-use crate::meta_oddities::whole_number;
 use crate::prelude::*;
+use pb_witness::amounts::whole_number;
+use pb_witness::changed::{has_digit, has_one_of, is_one_of};
 
 /// What columns are called whose texts say nothing of whether the row counts, or how, beside those of voters.
 const USUAL: &str =
@@ -15,7 +15,7 @@ const USUAL: &str =
 
 /// What keys of META are called whose values say nothing of what counts, unless they name a project or a voter.
 const USUAL_KEYS: &str =
-    "description|country|unit|city|subunit|district|instance|edition|year|language|comment|currency|title|name|url|link|\
+    "description|country|unit|city|subunit|district|instance|edition|year|language|currency|title|name|url|link|\
     source|author|license|version|contact|categories|neighborhoods|subdistricts|acknowledgments|experimental";
 
 /// The forms of a key of META: its value names a project or a voter; it sets a limit; or it is not usual.

@@ -1,16 +1,16 @@
 //! What is odd in VOTES.
 
 use crate::alike::AlikeVoters;
-use crate::behind_vote::{BehindVote, names_other};
+use crate::behind_vote::BehindVote;
 use crate::beside_vote::BesideVote;
 use crate::brackets::Brackets;
-use crate::changed::{form_of, has_digit, has_one_of, is_digits};
 use crate::columns::FurtherColumns;
 use crate::copies::Copies;
+use crate::entities::take_entity;
 use crate::last_vote::LastVote;
-use crate::meta_oddities::whole_number;
 use crate::names_row::NamesRow;
 use crate::one_each::OneEach;
+use crate::out_of_order::OutOfOrder;
 use crate::parts::Parts;
 use crate::persons::Persons;
 use crate::phones::Phones;
@@ -18,7 +18,6 @@ use crate::prelude::*;
 use crate::project_oddities::has_total;
 use crate::proxies::Proxies;
 use crate::rankings::Rankings;
-use crate::rows::VoteRows;
 use crate::runs::Runs;
 use crate::same_voters::SameVoters;
 use crate::ticked::Ticked;
@@ -27,6 +26,10 @@ use crate::twice_in_vote::TwiceInVote;
 use crate::unread::Unread;
 use crate::void_ids::VoidIds;
 use crate::voter_lists::ends_in_projects;
+use pb_witness::amounts::whole_number;
+use pb_witness::changed::{form_of, has_digit, has_one_of, is_digits};
+use pb_witness::firsts::names_other;
+use pb_witness::rows::VoteRows;
 
 /// What stands in place of an id below a list that was signed.
 const SIGNED: &str = "signed|signature|podpis|unterschrift";
@@ -76,6 +79,7 @@ pub(crate) struct VoteOddities {
     left_out: Option<Odd>,
     rankings: Rankings,
     last: LastVote,
+    order: OutOfOrder,
 }
 
 impl VoteOddities {
@@ -117,6 +121,7 @@ impl VoteOddities {
             left_out: None,
             rankings: Rankings::new(alloc),
             last: LastVote::default(),
+            order: OutOfOrder::default(),
         })
     }
 
@@ -128,7 +133,9 @@ impl VoteOddities {
         if row.has_key(id) {
             found.take(row.odd(Oddity::FooterRow).in_form(5));
         }
+        take_entity(row, (self.names, self.header), found);
         self.last.take(row, (id, vote));
+        self.order.take(row);
         self.ticked.take(row);
         if self.rankings.asks(length, row.election.projects().len()) {
             self.rankings.take(row.value())?;
@@ -326,6 +333,7 @@ impl VoteOddities {
     ) -> Result<(), AllocError> {
         let projects = election.projects().len();
         self.twice.end(found);
+        found.take_some(self.order.odd());
         self.runs.end(projects, found);
         found.take_some(self.ticked.ticked(projects));
         found.take_some(self.brackets.odd(election));
@@ -337,9 +345,11 @@ impl VoteOddities {
             _ => None,
         };
         self.parts.end(election, first, found)?;
-        let void = self.void_ids.odd(election.voters().len() as u64);
+        let voters = election.voters().len() as u64;
+        let void = self.void_ids.odd(voters);
         let is_told = void.is_some_and(|odd| found.tells_of(odd));
         found.take_some(void.filter(|_| !is_told));
+        found.take_some(self.void_ids.pair(voters));
         found.take_some(self.persons.odd());
         self.phones.end(election, found)?;
         self.proxies.end(election, found)

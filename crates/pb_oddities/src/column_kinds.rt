@@ -1,7 +1,9 @@
 //! What a column of PROJECTS or VOTES may have that no count reads, as its name says.
 
-use crate::changed::{begins, first_word, has_digit, has_one_of, has_part, has_word, is_one_of};
 use crate::prelude::*;
+use pb_witness::changed::{
+    begins, first_word, has_digit, has_one_of, has_part, has_word, is_one_of,
+};
 
 /// What columns of VOTES are called that have points, and then those that say how many ballots a row is.
 pub(crate) const NUMBERS: &str =
@@ -57,8 +59,8 @@ const NOT_COUNTED: &str =
 
 const BEHIND: &str = "|by|on|in|from|since|of|because|as|-|\u{2013}";
 
-/// What columns of PROJECTS, and keys of META, are called that name a district.
-pub(crate) const DISTRICT: &str = "district|subunit";
+/// What columns, and keys of META, are called that name a district.
+pub(crate) const DISTRICT: &str = "district|subunit|ward";
 
 /// What columns are called that have currencies.
 const CURRENCIES: &str =
@@ -92,7 +94,7 @@ pub(crate) enum Has {
     /// Rounds of votes.
     Rounds,
     Notes,
-    /// Districts of projects.
+    /// Districts of projects or voters.
     Districts,
 }
 
@@ -135,6 +137,7 @@ impl Has {
             Has::Rounds => 4,
             Has::Units => 5,
             Has::Dates => 6,
+            Has::Districts if is_vote => 10,
             Has::Districts => 9,
             _ => usize::from(is_vote),
         }
@@ -169,7 +172,7 @@ impl Has {
             Some(Has::ValidOrMore)
         } else if is_of_validity(name) {
             Some(Has::Valid)
-        } else if !is_votes && is_one_of(DISTRICT, name) {
+        } else if is_one_of(DISTRICT, name) {
             Some(Has::Districts)
         } else if !is_votes && is_one_of(CURRENCIES, name) {
             Some(Has::Currencies)

@@ -1,9 +1,9 @@
 //! Columns of PROJECTS whose values votes may name in place of the ids.
 
-use crate::changed::{has_one_of, has_word, is_digits, is_one_of};
 use crate::columns::MOST_COLUMNS;
-use crate::meta_oddities::whole_number;
 use crate::prelude::*;
+use pb_witness::amounts::whole_number;
+use pb_witness::changed::{has_one_of, has_word, is_digits, is_one_of};
 
 /// The fewest ids that votes name, and the longest value that may be one, in bytes.
 const FEWEST: usize = 3;

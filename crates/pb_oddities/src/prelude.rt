@@ -1,0 +1,13 @@
+//! What most files use.
+
+pub(crate) use crate::oddities::{Odd, Oddities};
+pub(crate) use crate::row::Row;
+pub(crate) use csv::ByteRecord;
+pub(crate) use pb_core::election::Election;
+pub(crate) use pb_core::money::Money;
+pub(crate) use pb_ids::IdTable;
+pub(crate) use pb_read::{Column, Oddity, Part, Section, Stage};
+pub(crate) use pb_witness::fields::{bytes_at, column_of, text_at};
+pub(crate) use pb_witness::firsts::Firsts;
+pub(crate) use pb_witness::mark::Mark;
+pub(crate) use std::alloc::{AllocError, Global};
