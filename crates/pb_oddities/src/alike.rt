@@ -76,6 +76,15 @@ impl AlikeVoters {
             .any(|bit| is_few(self.count_of(*bit, set & *bit != 0)))
     }
 
+    /// Which sets are rare among so many voters.
+    fn rare_sets(&self, voters: u64) -> [bool; 32] {
+        let mut rare = [false; 32];
+        for (set, is_rare) in rare.iter_mut().enumerate() {
+            *is_rare = self.is_rare(set, voters);
+        }
+        rare
+    }
+
     /// Takes the end of the file, whose accepted rows give this election; the last row is odd so. Such a voter is odd whose id
     /// is another one in plain form.
     pub(crate) fn end(
@@ -84,12 +93,12 @@ impl AlikeVoters {
         last: Odd,
         found: &mut Oddities,
     ) -> Result<(), AllocError> {
-        let voters = election.voters().len() as u64;
+        let rare = self.rare_sets(election.voters().len() as u64);
         let (mut keys, mut twins) = (IdTable::new(self.alloc), Vec::new(self.alloc));
         let mut are_some = false;
         twins.resize(self.rows.len(), false)?;
         for (number, (place, set, _)) in self.rows.iter().enumerate() {
-            if !self.is_rare(*set, voters) {
+            if rare.get(*set) != Some(&true) {
                 continue;
             }
             are_some = true;

@@ -17,7 +17,7 @@ pub(crate) const POINTS: usize = 2;
 /// with the day on which a project was withdrawn, but for those with a word of something else.
 const VALID: &str =
     "valid|is_valid|invalid|accepted|status|withdrawn|cancelled|deleted|duplicate|counted|finished|\
-    completed|round|wazny|ważny|gueltig|gültig|platny|platný|geldig|valide|validation_status|\
+    completed|round|stan|stav|estado|stato|etat|état|statut|wazny|ważny|gueltig|gültig|platny|platný|geldig|valide|validation_status|\
     _validation_status|eligible|feasible|feasibility|decision|ocena|is_current|submitdate|signature|resident|\
     is_deleted|is_latest|is_spam|is_resident|excluded|included|eligibility|filter_$";
 
@@ -34,7 +34,11 @@ const STEMS: &str =
 const BESIDE: &str = "is|has|was|ok|flag|vote|ballot|row|entry|record";
 
 /// Those of them that may have something else, and others that may.
-const VALID_OR_MORE: &str = "status|accepted|finished|completed|voted|has_voted";
+const VALID_OR_MORE: &str =
+    "status|accepted|finished|completed|voted|has_voted|stan|stav|estado|stato|etat|état|statut";
+
+/// What columns are called that say in which round a vote was cast.
+const ROUNDS: &str = "round|tour|tura|runda|kolo|ronda|ronde|runde";
 
 /// What columns of PROJECTS are called beside these that may have the answer of a check; and what any of them says of a
 /// project that passed it, or failed.
@@ -51,11 +55,14 @@ pub(crate) const FAILED: &str =
 
 /// What columns are called that have remarks, which no list of words knows; how remarks begin that say that their row does
 /// not count, and what may stand behind that.
-pub(crate) const NOTES: &str = "remark|remarks|comment|comments|note|notes";
+pub(crate) const NOTES: &str =
+    "remark|remarks|comment|comments|note|notes|uwagi|bemerkung|bemerkungen|anmerkung|poznámka|poznamka|observación|observacion|\
+    observaciones|observation|observations|remarque|remarques|nota|notas|opmerking";
 
 const NOT_COUNTED: &str =
     "invalid|not valid|not counted|does not count|void|duplicate|withdrawn|rejected|cancelled|canceled|\
-    disqualified|ungültig|nieważny|nieważna|wycofany|wycofane|zurückgezogen|abgelehnt";
+    disqualified|ungültig|nieważny|nieważna|wycofany|wycofane|zurückgezogen|abgelehnt|anulado|anulada|nulo|annulé|annulée|nul|\
+    annullato|annullata|neplatný|neplatná|ongeldig";
 
 const BEHIND: &str = "|by|on|in|from|since|of|because|as|-|\u{2013}";
 
@@ -162,7 +169,7 @@ impl Has {
             Some(Has::Notes)
         } else if !is_votes && is_one_of(CHECKS, name) {
             Some(Has::ValidOrMore)
-        } else if name.eq_ignore_ascii_case("round") {
+        } else if is_one_of(ROUNDS, name) {
             is_votes.then_some(Has::Rounds)
         } else if is_one_of(VALID_OR_MORE, name) {
             Some(Has::ValidOrMore)

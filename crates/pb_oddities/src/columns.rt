@@ -17,7 +17,8 @@ const STATES: &str =
     canceled|deleted|removed|counted|not counted|void|ok|eligible|ineligible|disqualified|duplicate|\
     blank|spoiled|spoilt|tak|nie|ja|nein|oui|non|si|ano|ne|nee|y|n|t|f|x|wahr|falsch|prawda|fałsz|falsz|\
     vrai|faux|vero|falso|not approved|not accepted|feasible|unfeasible|infeasible|not feasible|positive|\
-    negative|pozytywna|negatywna|missing|preview|survey preview|spam|passed|failed|not ok|+";
+    negative|pozytywna|negatywna|missing|preview|survey preview|spam|passed|failed|not ok|+|ważny|nieważny|ważna|nieważna|\
+    gültig|ungültig|platný|neplatný|válido|inválido|anulado|nulo|valide|invalide|annulé|nul|valido|annullato|geldig|ongeldig";
 
 /// What stands in a database's column of bits, which are bytes and no digits; and the form of an oddity by them.
 const BITS: &str = "\u{0}|\u{1}";
@@ -239,7 +240,7 @@ impl FurtherColumn {
         match self.has {
             Has::Units => differs && is_one_of(PASSED, value) == is_one_of(FAILED, first),
             Has::Notes => says_not_counted(value) != says_not_counted(first),
-            Has::Currencies => differs,
+            Has::Currencies | Has::Rounds => differs,
             Has::Points => differs && (has_points(value) || has_points(first)),
             Has::ValidOrMore => differs && is_state && !is_number(value) && !is_number(first),
             _ => differs && (is_state || value.is_empty() != first.is_empty()),

@@ -11,6 +11,11 @@ use pb_witness::changed::has_digit;
 /// The fewest voters above a row that is no voter.
 const FEWEST: usize = 2;
 
+/// The fewest votes that are cut at a length, and how long these are at least, in bytes.
+const FEWEST_CUT: u64 = 3;
+
+const SHORTEST_CUT: usize = 8;
+
 /// What is known of the last row of VOTES so far.
 #[derive(Clone, Copy, Default)]
 pub(crate) struct LastVote {
@@ -19,9 +24,15 @@ pub(crate) struct LastVote {
     /// Whether it has a text beside its id and its vote, and whether the first row has one.
     has_more: bool,
     first_has_more: bool,
-    /// Whether it ends behind a comma, and how many rows do.
+    /// Whether it ends behind a comma.
     is_cut: bool,
-    cut: u64,
+    /// The first vote that does, measured by how many do; how long, in bytes, the last of these is, and the longest vote.
+    open: Option<Odd>,
+    open_length: usize,
+    longest: usize,
+    /// Whether these differ in length, or one names as many projects as it may; and whether a vote ends in an id.
+    are_whole: bool,
+    has_end: bool,
 }
 
 impl LastVote {
@@ -31,8 +42,31 @@ impl LastVote {
         self.first_has_more |= !self.is_there && self.has_more;
         self.is_there = true;
         let is_end = row.places().1.saturating_add(1) == row.record.len();
-        self.is_cut = vote.last() == Some(&b',') && is_end;
-        self.cut = self.cut.saturating_add(u64::from(self.is_cut));
+        let is_open = vote.last() == Some(&b',');
+        self.is_cut = is_open && is_end;
+        self.longest = self.longest.max(vote.len());
+        if is_open {
+            self.take_open(row, vote.len());
+        } else {
+            self.has_end |= !vote.is_empty();
+        }
+    }
+
+    /// Takes a row whose vote is so long, and ends behind a comma.
+    fn take_open(&mut self, row: &Row<'_>, length: usize) {
+        let most = row.election.max_length().unwrap_or(u32::MAX);
+        let is_full = row.ballot().len() as u64 >= u64::from(most);
+        self.are_whole |= is_full || (self.open.is_some() && self.open_length != length);
+        self.open_length = length;
+        let odd = row.odd(Oddity::VotesMissing).in_form(8);
+        self.open = Some(odd.behind(self.open));
+    }
+
+    /// The first of a few votes that end behind a comma, where all of these are as long as the longest vote.
+    fn cut(&self) -> Option<Odd> {
+        let is_longest = self.open_length >= self.longest.max(SHORTEST_CUT);
+        let are_cut = is_longest && self.has_end && !self.are_whole;
+        self.open.filter(|odd| are_cut && odd.number >= FEWEST_CUT)
     }
 
     /// Takes the end of the file, whose accepted rows give this election; the last may be odd.
@@ -40,9 +74,10 @@ impl LastVote {
         let Some(odd) = odd else {
             return;
         };
-        if self.is_cut && self.cut == 1 {
+        if self.is_cut && self.open.is_some_and(|odd| odd.number == 1) {
             found.take(odd.as_a(Oddity::VotesMissing).in_form(3));
         }
+        found.take_some(self.cut());
         if !found.has_number && is_end_of_sheet(odd.mark.line) {
             found.take(odd.as_a(Oddity::VotesMissing).in_form(4));
         }

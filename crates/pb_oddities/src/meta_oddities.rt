@@ -127,7 +127,8 @@ impl MetaOddities {
     /// Takes META's row of column names.
     pub(crate) fn take_names(&mut self, names: &ByteRecord) {
         let third = text_at(names, 2);
-        self.third_is_other = !third.is_empty() && !is_one_of(VALUES, third);
+        let is_value = is_one_of(VALUES, third) || whole_number(third).is_some();
+        self.third_is_other = !third.is_empty() && !is_value;
     }
 
     /// Takes a row of META, which begins here; the rows before it gave these keys.

@@ -22,25 +22,26 @@ pub(crate) struct OutOfOrder {
 }
 
 impl OutOfOrder {
-    /// Takes a row that is accepted.
-    pub(crate) fn take(&mut self, row: &Row<'_>) {
+    /// Takes a row that is accepted, with a vote of these bytes.
+    pub(crate) fn take(&mut self, row: &Row<'_>, vote: &[u8]) {
         let ballot = row.ballot();
-        let Some(last) = ballot.last() else {
+        let (Some(last), false) = (ballot.last(), self.are_others || ballot.len() < 2) else {
             return;
         };
+        if ends_in(vote, id_of(row, *last)) {
+            self.votes = self.votes.saturating_add(1);
+            return;
+        }
         let id = row.value().rsplit(',').next().unwrap_or("").trim();
-        if self.are_others || ballot.len() < 2 || id.is_empty() {
+        if id.is_empty() {
             return;
         }
         self.votes = self.votes.saturating_add(1);
-        let projects = row.election.projects();
-        let is_it = |place: u32| projects
-            .get(place as usize)
-            .is_some_and(|project| project.id() == id);
-        if is_it(*last) {
+        let mut places = ballot.iter().copied();
+        let place = places.find(|place| id_of(row, *place) == id);
+        if place == Some(*last) {
             return;
         }
-        let place = ballot.iter().copied().find(|place| is_it(*place));
         self.are_others = place.is_none() || (self.first.is_some() && place != self.end);
         self.end = place;
         let odd = row.odd(Oddity::TwiceInVote).in_form(5);
@@ -55,4 +56,18 @@ impl OutOfOrder {
         let may_be = !self.are_others && self.votes >= FEWEST_VOTES;
         self.first.filter(|odd| may_be && is_few(odd))
     }
+}
+
+/// The id of the project at this place.
+fn id_of<'a>(row: &Row<'a>, place: u32) -> &'a str {
+    match row.election.projects().get(place as usize) {
+        Some(project) => project.id(),
+        None => "",
+    }
+}
+
+/// Whether a vote of these bytes ends in this id, behind a comma.
+fn ends_in(vote: &[u8], id: &str) -> bool {
+    let before = vote.len().saturating_sub(id.len()).saturating_sub(1);
+    vote.ends_with(id.as_bytes()) && vote.get(before) == Some(&b',')
 }

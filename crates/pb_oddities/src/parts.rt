@@ -4,12 +4,23 @@
 use crate::copies::kept_in;
 use crate::pairs::take_pairs;
 use crate::prelude::*;
-use pb_witness::changed::has_digit;
+use pb_witness::changed::{has_digit, is_one_of};
 
 /// The fewest letters of a word behind an id, and in how many rows.
 const FEWEST_LETTERS: usize = 3;
 
 const FEWEST_WORDS: u64 = 2;
+
+/// Words behind the id of one who votes for another; and behind one whose row may replace the other.
+const PROXIES: &str = "proxy|delegate|vollmacht|procuration|delega|delegado";
+
+const CORRECTED: &str =
+    "corrected|correction|replaced|replacement|revised|updated|changed|amended|new|second|korrigiert|neu|poprawiony|corrigé|corregido";
+
+/// The forms of a row with the vote of the one that its id names, and with another vote.
+const SAME_VOTE: usize = 6;
+
+const OTHER_VOTE: usize = 15;
 
 /// The fewest back sides, and the fewest ballots of several sheets.
 const FEWEST_BACKS: u64 = 4;
@@ -56,8 +67,7 @@ impl Parts {
         let may_be = id.last().is_some_and(|byte| !byte.is_ascii_digit());
         if may_be && apart(row.id()).is_some() {
             let place = u32::try_from(place).unwrap_or(u32::MAX);
-            self.worded
-                .push((place, row.odd(Oddity::NoteRows).in_form(6)))?;
+            self.worded.push((place, row.odd(Oddity::NoteRows)))?;
         }
         Ok(())
     }
@@ -100,8 +110,8 @@ impl Parts {
         }
     }
 
-    /// Takes the rows that have another voter's id with a word behind it, once a word: if all of them have the other
-    /// one's vote, they may cancel it.
+    /// Takes the rows that have another voter's id with a word behind it, once a word: if all of them have the other one's
+    /// vote, they may cancel it; if the word says so, they may replace it.
     fn take_worded(&self, election: &Election, found: &mut Oddities) -> Result<(), AllocError> {
         let voters = election.voters();
         let mut places = IdTable::new(self.alloc);
@@ -116,17 +126,23 @@ impl Parts {
                 continue;
             };
             let (own, word) = apart(voter.id.text()).unwrap_or(("", ""));
+            let is_corrected = is_one_of(CORRECTED, word);
             let Some(other) = voters.get(places.get(own).unwrap_or(NONE) as usize) else {
                 continue;
             };
             let ballot = voter.ballot.places();
-            let is_same = !ballot.is_empty() && are_same(ballot, other.ballot.places());
+            let is_same = are_same(ballot, other.ballot.places());
+            let is_told = !ballot.is_empty() && (is_same || is_corrected);
+            let form = if is_same { SAME_VOTE } else { OTHER_VOTE };
+            let odd = odd.in_form(form);
             let next = u32::try_from(firsts.len()).unwrap_or(NONE);
             let before = kept_in(&mut words, self.alloc, word, next)?;
             if before.is_none() {
-                firsts.push((odd.behind(None), is_same))?;
+                firsts.push((odd.behind(None), is_told))?;
             } else if let Some(first) = firsts.get_mut(before.unwrap_or(NONE) as usize) {
-                *first = (odd.behind(Some(first.0)), first.1 && is_same);
+                let form = first.0.form.max(form);
+                let odd = odd.behind(Some(first.0)).in_form(form);
+                *first = (odd, first.1 && is_told);
             }
         }
         for (odd, are_all) in &firsts {
@@ -153,16 +169,19 @@ fn apart(id: &str) -> Option<(&str, &str)> {
     let word = bare.strip_prefix(front)?;
     let own = front.trim_end_matches(|c: char| "-_ /.(".contains(c));
     let is_own = !own.is_empty() && own.len() < front.len() && !own.contains('@');
-    (is_own && word.len() >= FEWEST_LETTERS).then_some((own, word))
+    let is_word = word.len() >= FEWEST_LETTERS && !is_one_of(PROXIES, word);
+    (is_own && is_word).then_some((own, word))
 }
 
 /// What stands before a sign and one letter or digit at the end of an id, and these.
 pub(crate) fn sheet_of(id: &str) -> Option<(&str, &str)> {
     let end = id.len().checked_sub(2)?;
+    let (sign, last) = (id.as_bytes().get(end)?, id.as_bytes().last()?);
+    if sign.is_ascii_alphanumeric() || !last.is_ascii_alphanumeric() {
+        return None;
+    }
     let (stem, sheet) = (id.get(..end)?, id.get(end..)?);
-    let (sign, last) = (sheet.as_bytes().first()?, sheet.as_bytes().last()?);
-    let is_so = !sign.is_ascii_alphanumeric() && last.is_ascii_alphanumeric();
-    (is_so && has_digit(stem)).then_some((stem, sheet))
+    has_digit(stem).then_some((stem, sheet))
 }
 
 /// How many ballots there are if each voter's id ends in the number of a sheet: each ballot has all sheets, two or more, and no

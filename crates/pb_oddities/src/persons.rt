@@ -4,7 +4,7 @@ use crate::prelude::*;
 use pb_witness::changed::has_one_of;
 
 /// Words in the name of a column that each person has one of, and in that of one that people share.
-const PERSONS: &str = "email|mail|pesel|token";
+const PERSONS: &str = "email|mail|pesel|token|hash|passport|ssn";
 
 const OTHERS: &str = "parent|parents|guardian|household|office|comment";
 

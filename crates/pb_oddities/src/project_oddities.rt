@@ -41,7 +41,8 @@ const DISTRICTS: &str = "district|subdistrict|neighborhood|subunit";
 /// What the name of a project says that can't win, and what may stand behind that.
 const WITHDRAWN: &str =
     "withdrawn|rejected|cancelled|canceled|disqualified|wycofany|wycofane|odrzucony|odrzucone|\
-    zurückgezogen|abgelehnt";
+    zurückgezogen|abgelehnt|staženo|odstoupeno|zrušeno|retirado|retirada|rechazado|anulado|ritirato|ritirata|annullato|\
+    retiré|retirée|annulé|annulée|ingetrokken|vervallen|peruttu|tilbagetrukket|återkallad|visszavonva";
 
 const SAID_BY: &str = "by|on|in|from|since";
 
@@ -400,7 +401,13 @@ fn says_withdrawn(name: &str) -> bool {
             }
         }
     }
-    is_loud(last_word(name), name) || has_part(STRUCK_OUT, name)
+    is_loud(last_word(name), name) || is_struck_out(name)
+}
+
+/// Whether a name has a sign by which it is struck out: first whether it has a byte of one, which few have.
+fn is_struck_out(name: &str) -> bool {
+    let is_of_sign = |byte: &u8| matches!(*byte, b'<' | b'~' | 0xcc);
+    name.as_bytes().iter().any(is_of_sign) && has_part(STRUCK_OUT, name)
 }
 
 /// Whether a name begins as one of these does.
@@ -413,10 +420,13 @@ fn begins_as(words: &str, name: &str) -> bool {
 fn begins_withdrawn(part: &str, name: &str, is_inside: bool) -> bool {
     let (first, rest) = first_word(part);
     let word = first.trim_matches(|c: char| "*:!-".contains(c));
+    if !is_one_of(WITHDRAWN, word) {
+        return false;
+    }
     let next = first_word(rest).0;
     let is_said = is_one_of(SAID_BY, next) && (is_inside || has_digit(rest));
     let is_apart = word.len() < first.len() || matches!(next, "" | "-") || has_digit(next);
-    is_loud(word, name) || (is_one_of(WITHDRAWN, word) && (is_apart || is_said))
+    is_apart || is_said || is_loud(word, name)
 }
 
 /// Whether a word says so in capitals, and not the whole name is written so.

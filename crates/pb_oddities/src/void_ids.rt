@@ -8,7 +8,8 @@ use pb_witness::fields::has_byte;
 
 /// Such words, and how short they may be.
 const WORDS: &str =
-    "void|voided|invalid|cancelled|canceled|spoiled|spoilt|duplicate|rejected|withdrawn|revoked|test|demo|sample|dummy|asdf|qwerty";
+    "void|voided|invalid|cancelled|canceled|spoiled|spoilt|duplicate|rejected|withdrawn|revoked|test|demo|sample|dummy|asdf|qwerty|\
+    zkouska|zkouška|prueba|essai|prova|anulado|annule|annullato|niewazny|nieważny|ungueltig|ungültig|neplatny|neplatný";
 
 const SHORTEST: usize = 4;
 

@@ -135,7 +135,7 @@ impl VoteOddities {
         }
         take_entity(row, (self.names, self.header), found);
         self.last.take(row, (id, vote));
-        self.order.take(row);
+        self.order.take(row, vote);
         self.ticked.take(row);
         if self.rankings.asks(length, row.election.projects().len()) {
             self.rankings.take(row.value())?;

@@ -15,56 +15,39 @@ const FEWEST: usize = 2;
 /// What an amount is below, in hundredths, that may have lost its thousands.
 const SMALL: u64 = 100_000;
 
-/// The place of a column of PROJECTS, or of the voters' ids, that has all ids that no project has, if they are
-/// several, and whether it is of VOTES.
+/// The place of a column of PROJECTS that has all ids that no project has, if they are several.
 pub(crate) fn elsewhere<R: Files>(
     text: &Text<'_, R>,
     witness: &Witness,
-) -> Result<Option<(usize, bool)>, AllocError> {
+) -> Result<Option<usize>, AllocError> {
+    let start = witness.seen.project_names;
     if witness.unknown.found.len() < FEWEST {
         return Ok(None);
     }
-    let seen = &witness.seen;
-    for (start, end) in [(seen.project_names, seen.names.at), (seen.names, u64::MAX)] {
-        if let Some(mut records) = text.record_at(start) {
-            let is_of_votes = end == u64::MAX;
-            let found = column_with_all(text.alloc, &mut records, (end, is_of_votes), witness);
-            drop(records);
-            if let Some(place) = found? {
-                return Ok(Some((place, is_of_votes)));
-            }
-        }
-    }
-    Ok(None)
+    let Some(mut records) = text.record_at(start) else {
+        return Ok(None);
+    };
+    let found = column_with_all(text.alloc, &mut records, witness);
+    drop(records);
+    found
 }
 
-/// The place of a column, of VOTES that of the voters' ids, that has all unknown ids in the rows before this one.
+/// The place of a column that has all unknown ids in the rows before VOTES' column names.
 fn column_with_all<F: Read>(
     alloc: Global,
     records: &mut TextRecords<F>,
-    (end, is_of_votes): (u64, bool),
     witness: &Witness,
 ) -> Result<Option<usize>, AllocError> {
-    let read = if is_of_votes {
-        Column::Vote
-    } else {
-        Column::ProjectId
-    };
-    let own = column_of(&records.last, read.name()).unwrap_or(0);
-    let voter = column_of(&records.last, Column::VoterId.name());
-    let is_looked_at = |place: usize| place != own && (!is_of_votes || Some(place) == voter);
+    let own = column_of(&records.last, Column::ProjectId.name()).unwrap_or(0);
     let mut counts = Vec::new(alloc);
     counts.resize(records.last.len(), 0usize)?;
-    for _ in records.at.saturating_add(1)..end {
+    for _ in records.at.saturating_add(1)..witness.seen.names.at {
         if !records.advance() {
             break;
         }
         for (place, count) in counts.iter_mut().enumerate() {
-            let is_one = is_looked_at(place)
-                && witness
-                    .unknown
-                    .place(text_at(&records.last, place))
-                    .is_some();
+            let id = text_at(&records.last, place);
+            let is_one = place != own && witness.unknown.place(id).is_some();
             *count = count.saturating_add(usize::from(is_one));
         }
     }

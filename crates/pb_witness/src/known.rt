@@ -25,8 +25,8 @@ pub struct ReadAgain {
     pub varying: Option<usize>,
     /// Whether each row with the id of an earlier one is the same as that.
     pub are_copies: bool,
-    /// The place of another column that has all ids that no project has, and whether it is of VOTES.
-    pub elsewhere: Option<(usize, bool)>,
+    /// The place of another column of PROJECTS that has all ids that no project has.
+    pub elsewhere: Option<usize>,
 }
 
 /// Why an id is unknown.

@@ -3,8 +3,7 @@
 //! While pb_read reads a .pb file, a `Witness` looks on and keeps what words need of what is refused.
 //! After a run has failed, a text that is a file is looked at again: where a record begins, which quotation
 //! mark is open, what the proved desk answers. Nothing but that each call returns is proved of this, apart from
-//! the categories that `PageNotes` keeps, and no result can change by it but by `--strict`, which refuses a file
-//! for a warning.
+//! the categories that `PageNotes` keeps, and no result can change by it.
 #![tactic(auto)]
 
 pub mod amounts;

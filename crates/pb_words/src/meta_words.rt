@@ -2,9 +2,9 @@
 
 use crate::command_words::{put_clean, put_cleaning, put_separate};
 use crate::prelude::*;
-use crate::read_rules::{amount_remedy, fine_remedy, put_broken, put_rule, words_of};
+use crate::read_rules::{amount_remedy, fine_remedy, is_below_1, put_broken, put_rule, words_of};
 use pb_read::{Column, MetaKey};
-use pb_witness::changed::{is_grouped, without_hidden};
+use pb_witness::changed::{has_thousandths, is_grouped, without_hidden};
 use pb_witness::elsewhere::small_amount;
 use pb_witness::fields::JoinedBy;
 use pb_witness::heads::{OddHead, head_of, late_meta};
@@ -42,7 +42,8 @@ impl<R: Files> Case<'_, R> {
                 &[Number(line_of(self.text, first))],
             );
         }
-        if self.put_lost_thousands(out, value) {
+        let is_fine = self.faulty.kind() == ReadKind::MoneyTooFine;
+        if self.put_lost_thousands(out, value) || (is_fine && self.put_thousandths(out, value)) {
             return true;
         }
         put_rule(out, value_remedy(self.faulty.kind(), value));
@@ -61,6 +62,24 @@ impl<R: Files> Case<'_, R> {
         out.fill(
             "Line {} has the amount {}, without such a mark: a spreadsheet may have read 940.000 as 940. Compare the budget and each cost with the office's list, and write all of them with digits only, like `1200` or `1200.50`.\n",
             &[Number(line_of(self.text, mark)), Quoted(small.as_str())],
+        );
+        true
+    }
+
+    /// Puts that amounts may be in thousands, if this one has three decimals, and another one is small without a mark; and what
+    /// to do. Answers whether they may.
+    pub(crate) fn put_thousandths(&self, out: &mut WordsWriter, amount: &str) -> bool {
+        let may_be = has_thousandths(amount) && !is_below_1(amount);
+        let Some((small, mark)) = small_amount(self.text, self.faulty).filter(|_| may_be) else {
+            return false;
+        };
+        out.fill(
+            "Line {} has the amount {}: all amounts may be in thousands, or a spreadsheet may have read 18.000 as 18. Compare the budget and each cost with the office's list. If it is so, write all of them in full, with digits only. If not, round this amount to two decimals.\n`pb_clean {} -o NEW.pb --marks decimals --round half-up` rounds it.\n",
+            &[
+                Number(line_of(self.text, mark)),
+                Quoted(small.as_str()),
+                Name(self.text.path),
+            ],
         );
         true
     }

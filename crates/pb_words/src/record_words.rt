@@ -201,6 +201,11 @@ impl<R: Files> Case<'_, R> {
         {
             return;
         }
+        if self.faulty.kind() == ReadKind::MoneyTooFine
+            && self.put_thousandths(out, self.faulty.value())
+        {
+            return;
+        }
         if self.faulty.separators().is_some() {
             out.put(match self.text.joined_behind(self.faulty.mark) {
                 Some(_) => VOTE,

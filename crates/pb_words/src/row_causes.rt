@@ -5,9 +5,10 @@ use crate::prelude::*;
 use crate::unknown_texts::{LATE_PROJECT, WEB_FORM, is_cut_code};
 use pb_core::money::Money;
 use pb_witness::cause::Cause;
-use pb_witness::changed::is_one_of;
+use pb_witness::changed::{Difference, is_digits, is_one_of};
 use pb_witness::faulty_record::{FaultyRecord, has_other_line_end, is_spaced_mark};
 use pb_witness::fields::raw_text;
+use pb_witness::known::FoundCause;
 use pb_witness::quote::Span;
 
 /// What to do about a row that a code of a web page has cut.
@@ -24,6 +25,14 @@ pub(crate) const SPACED: &str = "Delete the space between `;` and the quotation 
 /// What to do about a vote of zeros and ones.
 pub(crate) const OF_MARKS: &str =
     "The vote is a row of zeros and ones: it may have a 1 for each project that the voter chose, in the order of a list. If so, find out that order, and write in all votes the ids of the projects with a 1. If not, look at the ballots.\n";
+
+/// What to do about unknown ids that are Roman numerals.
+const ROMAN: &str =
+    "These ids may be Roman numerals, such as IV for 4. Compare some of these votes with the ballots. If so, write the ids of PROJECTS in their place. If not, look at all of these ballots, and write the ids that are meant.\n";
+
+/// What to do about an id that is like one project's but for zeros, and like this one's.
+const OR_A_LETTER: &str =
+    "The project {} on line {} has a letter in place of a digit, and may be meant too. Look at each ballot, and write the id of the project that is meant there.\n";
 
 /// What a web form sends for a box that is ticked and has no value.
 const TICKED: &str = "on|checked";
@@ -73,14 +82,63 @@ fn has<P: Fn(&str) -> bool>(record: &ByteRecord, is_so: P) -> bool
     (0..record.len()).any(|place| is_so(raw_text(record, place)))
 }
 
+/// Whether two ids are the same but for letters that look like the digits of the first.
+fn is_like_by_letters(one: &str, other: &str) -> bool {
+    let is_like = |(one, other): (&u8, &u8)| {
+        one == other || matches!((*one, *other), (b'0', b'O' | b'o') | (b'1', b'I' | b'l'))
+    };
+    one.len() == other.len() && one.as_bytes().iter().zip(other.as_bytes()).all(is_like)
+}
+
+/// Whether an id has only letters of Roman numerals.
+fn is_roman(id: &str) -> bool {
+    id.as_bytes()
+        .iter()
+        .all(|byte| matches!(*byte, b'I' | b'V' | b'X'))
+}
+
 impl<R: Files> Case<'_, R> {
+    /// Puts what to do where an id may be read in two ways, as far as it is known: as a Roman numeral, or as that of two projects.
+    /// Answers whether it may.
+    pub(crate) fn put_two_ways(&self, out: &mut WordsWriter, found: &FoundCause) -> bool {
+        if self.are_roman() {
+            out.put(ROMAN);
+            return true;
+        }
+        let is_of_zeros = matches!(
+            found.cause,
+            Cause::Kept | Cause::Alike(Difference::Zeros, _)
+        );
+        let id = self.faulty.piece();
+        let is_other = |place: &u32| {
+            Some(*place) != found.project && is_like_by_letters(id, self.id_of(*place))
+        };
+        let other = (0..self.projects()).find(|place| is_of_zeros && is_other(place));
+        let Some(row) = other.and_then(|place| self.known.again.projects.row(place)) else {
+            return false;
+        };
+        let line = line_of(self.text, row.mark);
+        out.fill(OR_A_LETTER, &[Quoted(row.id.as_str()), Number(line)]);
+        true
+    }
+
+    /// Whether all ids that no project has are Roman numerals, several and one of two letters or more, and those of the projects are
+    /// numbers.
+    fn are_roman(&self) -> bool {
+        let unknown = &self.known.witness.unknown.found;
+        unknown.len() > 1
+            && unknown.iter().all(|it| is_roman(it.id.as_str()))
+            && unknown.iter().any(|it| it.id.as_str().len() > 1)
+            && (0..self.projects()).all(|place| is_digits(self.id_of(place)))
+    }
+
     /// Puts what the row of a vote shows of why its ids are unknown, and what to do; answers whether it shows
     /// something.
     pub(crate) fn put_row_cause(&self, out: &mut WordsWriter) -> bool {
         if is_cut_code(self.faulty.piece()) {
             out.put(CUT_CODE)
-        } else if let Some((place, is_of_votes)) = self.known.again.elsewhere {
-            self.put_elsewhere(out, place, is_of_votes)
+        } else if let Some(place) = self.known.again.elsewhere {
+            self.put_elsewhere(out, place)
         } else if self.faulty.has_titles() {
             out.put(
                 "If this row has titles or types of the columns, and is no vote, delete it; also a line of dashes below their names. If not, ask whoever made the file what is meant.\n",
@@ -122,15 +180,9 @@ impl<R: Files> Case<'_, R> {
         names.is_some_and(|names| is_same(&names))
     }
 
-    /// Puts which column, the one at this place of VOTES or of PROJECTS, has all unknown ids.
-    fn put_elsewhere(&self, out: &mut WordsWriter, place: usize, is_of_votes: bool) {
-        let seen = &self.faulty.seen;
-        let names = if is_of_votes {
-            seen.names
-        } else {
-            seen.project_names
-        };
-        if let Some(names) = self.text.row_at(names) {
+    /// Puts which column of PROJECTS, by its place, has all unknown ids.
+    fn put_elsewhere(&self, out: &mut WordsWriter, place: usize) {
+        if let Some(names) = self.text.row_at(self.faulty.seen.project_names) {
             out.fill(
                 "All ids that no project has stand in column {}. Compare some votes with the ballots. If they differ, get the votes again. If the ballots have the ids of that column, call it `project_id`, and the other one `comment`.\n",
                 &[Quoted(text_at(&names, place))],

@@ -79,3 +79,15 @@ pub(crate) const CUT_BY_A_LETTER: &str =
 a field ends like a letter of a web page (`&uuml;`), whose `;` may have cut it
 Write the letter itself. If the `;` has cut the field, join its two parts: all fields behind it stand one column too far to \
     the right. Then look at the row's cost or vote.";
+
+pub(crate) const CUT_AT_A_LENGTH: &str =
+    "the vote ends behind a comma, and no vote is longer: ids may be cut off. This concerns {rows}
+a vote ends behind a comma, and no vote is longer: ids may be cut off. This concerns {rows}
+Compare these votes, and others of their length, with the ballots. If ids are missing, a program has cut the votes: get all \
+    votes again, whole. If not, delete the commas at the ends.";
+
+pub(crate) const CORRECTED_ROW: &str =
+    "the id is another row's with a word behind it, as if it replaced that one, and the votes differ. This concerns {rows}
+an id is another row's with a word behind it, as if it replaced that one, and the votes differ. This concerns {rows}
+Both are counted as voters. Ask which row counts. If this one replaces the other, delete the other, and the word behind this \
+    id. If these are two people, keep both.";

@@ -76,6 +76,9 @@ impl<R: Files> Case<'_, R> {
         };
         self.put_cause(out, &found);
         self.put_votes(out, &found);
+        if self.put_two_ways(out, &found) {
+            return;
+        }
         let is_open = is_cut_code(self.faulty.piece())
             || matches!(
                 found.cause,
@@ -326,12 +329,12 @@ impl<R: Files> Case<'_, R> {
     }
 
     /// How many projects there are.
-    fn projects(&self) -> u32 {
+    pub(crate) fn projects(&self) -> u32 {
         u32::try_from(self.known.witness.ids.projects.len()).unwrap_or(0)
     }
 
     /// The id of the project at this place.
-    fn id_of(&self, place: u32) -> &str {
+    pub(crate) fn id_of(&self, place: u32) -> &str {
         match self.known.again.projects.row(place) {
             Some(row) => row.id.as_str(),
             None => "",

@@ -4,9 +4,9 @@
 //! that reads one takes steps for each letter of it.
 
 use crate::shared_texts::{
-    A_CHOICE_EACH, A_RANGE, CUT_BY_A_LETTER, NO_NUMBER, OUT_OF_ORDER, STRAY_ID, STRAY_VOTE,
-    TOO_CHEAP, TOO_COSTLY, TOO_FEW_ROWS, TOO_LONG, TOO_MANY_ROWS, TOO_SHORT, TWO_NUMBERS,
-    TYPED_TWICE,
+    A_CHOICE_EACH, A_RANGE, CORRECTED_ROW, CUT_AT_A_LENGTH, CUT_BY_A_LETTER, NO_NUMBER,
+    OUT_OF_ORDER, STRAY_ID, STRAY_VOTE, TOO_CHEAP, TOO_COSTLY, TOO_FEW_ROWS, TOO_LONG,
+    TOO_MANY_ROWS, TOO_SHORT, TWO_NUMBERS, TYPED_TWICE,
 };
 use pb_read::Oddity;
 
@@ -39,6 +39,7 @@ Compare the column `vote` with the ballots: the votes may stand in another colum
         "all {number} votes that are not empty name one and the same project, and no other
 This may be a list of who has voted, in which 1 stands for yes. Look at some ballots. If they differ, get all votes again, from \
     the ballots. If all voters chose this project alone, nothing is wrong.",
+        CUT_AT_A_LENGTH,
     ],
     &[TOO_FEW_ROWS, TOO_MANY_ROWS, NO_NUMBER],
     &[
@@ -246,6 +247,7 @@ It is counted as a voter. Ask what the word means. If this ballot does not count
     does, keep it.",
         TWO_NUMBERS,
         A_RANGE,
+        CORRECTED_ROW,
     ],
     &[
         "a field in quotation marks runs over several lines that look like rows
@@ -395,12 +397,12 @@ If votes of two districts stand here, make a file for each: its budget, its proj
     &[
         "{value} is not counted: all projects share the amount of the key `budget`
 a budget beside the key `budget` is not counted: all projects share the amount of that key
-If each district or category has a budget of its own, make a file for each: its budget, its projects, and of \
-    each vote the ids of its projects.",
+If each district or category has a budget of its own, make a file for each: its budget, its projects, only the \
+    voters who may vote there, and of each vote the ids of its projects.",
         "the different amounts in column {column} are together the budget, and are not read
 the different amounts of a column of PROJECTS are together the budget, and are not read
-If they are budgets of districts or categories, make a file for each: its budget, its projects, and of each vote the \
-    ids of its projects.",
+If they are budgets of districts or categories, make a file for each: its budget, its projects, only the \
+    voters who may vote there, and of each vote the ids of its projects.",
     ],
     &[
         "the row has {fields} fields, but the number of column names is {number}

@@ -24,9 +24,6 @@ const NO_RULE: &str = "unknown|-";
 /// What META writes that names no other rule than that of any count by equal shares.
 const NO_OTHER_RULE: &str = "unknown|-|mes|method of equal shares";
 
-/// The last form of `VotesMissing` that is about the number of rows; behind it no row has a vote.
-const LAST_NUMBER: usize = 4;
-
 /// What is said, beside the remedy for one vote, where several name a project twice.
 const MANY_TWICE: &str =
     " Several votes are so, and all votes for one project may have become votes for another: compare others with the ballots too. If these differ, get all votes again.\n";
@@ -330,7 +327,8 @@ fn cause_of_none(oddities: &Oddities, odd: &Odd) -> Option<Oddity> {
     let is_it = |other: &Odd| match other.oddity {
         Oddity::FooterRow => other.mark.at == odd.mark.at,
         Oddity::NoteRows => other.mark.at <= odd.mark.at,
-        Oddity::VotesMissing => other.form > LAST_NUMBER,
+        // Then the votes seem to stand elsewhere, or nowhere.
+        Oddity::VotesMissing => matches!(other.form, 5..=7),
         _ => false,
     };
     let mut found = oddities.found().iter();
