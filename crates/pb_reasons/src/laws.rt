@@ -87,10 +87,10 @@ pub fn without_ties_no_others_win()
 
 /// Which ties there are. A project is tied with the winner of a round if it is not elected, and has a price that is as
 /// good: the same, or under measure cost the same for its cost. The ties of a round are those of its winner with
-/// projects not elected up to then, at the rests that the rounds before it leave. Those of an added project are with the others that did not win, and have as
-/// many votes and the same cost. Both come in the order of the other projects. A count rests on
-/// one run for each raise up to the answered one, and on one more where that one is not exhausted, so that the next
-/// ended the raises.
+/// projects not elected up to then, at the rests that the rounds before it leave. Those of an added project are with
+/// the others that did not win, and have as many votes and the same cost. Both come in the order of the other projects.
+/// A count rests on one run for each raise up to the answered one, and on one more where that one is not exhausted, so
+/// that the next ended the raises.
 pub fn ties_are_their_words()
     ensures tied { (m : Measure) (s : SupportView) (elected : List ElectedView) (rests : List ℕ)
         → (w : ElectedView) (place : ℕ) → (is_tied m s elected rests w place ≡ true)
