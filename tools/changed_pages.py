@@ -210,8 +210,19 @@ OF_TWINS = [
     (NO_MORE, NO_MORE.replace('<li>', '<li>Palace</li>\n<li>'), f'{THEN}|Palace (no link), #p-1 b Fountain|#p-1 b Fountain 30.00'),
 ]
 
+# An election with ties of rounds, some with a project that is elected later, and what of its page is changed, as above.
+EVEN, EVEN_OPTIONS = TWINS.with_name('even.pb'), ['--plain', '--measure', 'cost']
+SWINGS = "was elected. <a href='#p-2'><span class='id' dir='auto'>c</span> <bdi dir='auto'>Swings</bdi></a> had"
+LATER = 'round 1: Bench (id a) before Swings (id c)'
+OF_EVEN = [
+    (SWINGS, SWINGS.replace('p-2', 'p-4').replace('>c<', '>e<').replace('Swings', 'Well'), f'a tie|e Well|{LATER}'),
+    ("'2'>2</data>: <a href='#p-2'", "'1'>1</data>: <a href='#p-2'", 'a tie|Round 1: c Swings was|round 2: Swings (id c)'),
+    ("Round <data class='round' value='2'>2</data>: <a href='#p-2'", "Then: <a href='#p-2'", 'a tie|Then: c Swings was|round 2: Swings (id c)'),
+    ("<ul class='ties'>", "<ul class='ties'>\n<li>Palace</li>", 'a tie|Palace|round 1: Bench (id a)'),
+]
+
 # How many pages these make.
-COUNT = len(HIDING) + len(STARTS) + len(FIGURES) + len(TEXTS) + len(OF_TWINS) + 19
+COUNT = len(HIDING) + len(STARTS) + len(FIGURES) + len(TEXTS) + len(OF_TWINS) + len(OF_EVEN) + 20
 
 # By most votes v2 and v3 have projects that cost more than by shares (crates/pb_app/cases/decided.txt), so that they apply.
 DECIDED_FILE = (pathlib.Path(__file__).resolve().parent.parent / 'crates/pb_app/cases/data/filling.pb').read_bytes()
@@ -265,11 +276,22 @@ def changed_pages(page, other):
     yield from changed_parts(page)
 
 
-def changed_twins(page):
-    """Each change of the page of the other election, with what has to be named."""
-    for old, new, told in OF_TWINS:
+def changed_once(page, changes):
+    for old, new, told in changes:
         assert old in page, old
         yield page.replace(old, new, 1), told
+
+
+def changed_even(page):
+    """Each change of the page with ties of rounds, with what has to be named."""
+    yield from changed_once(page, OF_EVEN)
+    row = next(it for it in page.split('\n') if SWINGS in it)
+    yield page.replace(row + '\n', ''), 'a tie||round 2: Swings (id c)'
+
+
+def changed_twins(page):
+    """Each change of the page of the other election, with what has to be named."""
+    yield from changed_once(page, OF_TWINS)
     lists = between(page, "<li>Ties that", '</ul>\n</li>\n')
     yield page.replace(lists, ''), f'{TIE}||{TIED}'
 

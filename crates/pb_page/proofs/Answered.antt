@@ -15,7 +15,7 @@ use Rattle.pb_page.specs.declared.language.Language.{Language}
 use Rattle.pb_page.specs.declared.templates.TheConstants.{BUDGET_PART}
 use Rattle.pb_page.proofs.Grown.{before}
 use Rattle.pb_reasons.specs.CountedElection.{CountedElectionView}
-use Rattle.pb_reasons.specs.declared.tie.Tie.{Tie}
+use Rattle.pb_reasons.specs.declared.told_tie.ToldTie.{ToldTie}
 use Rattle.pb_page.specs.declared.markup.divided.Divided.{Divided}
 use Rattle.pb_rounds.specs.Count.{no_shares}
 use Rattle.pb_rounds.specs.RuleNames.{by_completion, by_grain, by_measure, by_ties, completion_name, measure_name}
@@ -101,23 +101,23 @@ abbrev tie_in : Language → CountedElectionView → (winner other : List Part) 
 tie_in l x winner other at = item (option_map_or (λ round. say l (round_key x.rule) (number l (codes "round") round ∷ winner ∷ other ∷ [])) at
     (say l (added_key x.rule) (winner ∷ other ∷ [])))
 
-tie_as : (l : Language) (x : CountedElectionView) (t : Tie) (at : Option ℕ) (winner other : List Part) → at ≡ t.round
-    → winner ≡ linked x t.winner → other ≡ linked x t.other → (rest : List ℕ)
+tie_as : (l : Language) (x : CountedElectionView) (t : ToldTie) (at : Option ℕ) (winner other : List Part) → at ≡ t.tie.round
+    → winner ≡ linked x t.tie.winner → other ≡ linked x t.tie.other → (rest : List ℕ)
     → before (tie_in l x winner other at) rest ≡ before (tie l x t) rest
 tie_as l x t at winner other at_is winner_is other_is rest =
     ap (λ (r : Option ℕ). before (tie_in l x winner other r) rest) at_is
-    ∙ ap (λ (w : List Part). before (tie_in l x w other t.round) rest) winner_is
-    ∙ ap (λ (o : List Part). before (tie_in l x (linked x t.winner) o t.round) rest) other_is
+    ∙ ap (λ (w : List Part). before (tie_in l x w other t.tie.round) rest) winner_is
+    ∙ ap (λ (o : List Part). before (tie_in l x (linked x t.tie.winner) o t.tie.round) rest) other_is
 
-pub tie_is : (l : Language) (x : CountedElectionView) (t : Tie) (k round : ℕ) (winner other : List Part)
-    → k ≡ round_key x.rule → t.round ≡ Some round → winner ≡ linked x t.winner → other ≡ linked x t.other → (rest : List ℕ)
+pub tie_is : (l : Language) (x : CountedElectionView) (t : ToldTie) (k round : ℕ) (winner other : List Part)
+    → k ≡ round_key x.rule → t.tie.round ≡ Some round → winner ≡ linked x t.tie.winner → other ≡ linked x t.tie.other → (rest : List ℕ)
     → before (item (say l k (number l (codes "round") round ∷ winner ∷ other ∷ []))) rest ≡ before (tie l x t) rest
 tie_is l x t k round winner other k_is at_is winner_is other_is rest =
     ap (λ (n : ℕ). before (item (say l n (number l (codes "round") round ∷ winner ∷ other ∷ []))) rest) k_is
     ∙ tie_as l x t (Some round) winner other (sym at_is) winner_is other_is rest
 
-pub added_tie_is : (l : Language) (x : CountedElectionView) (t : Tie) (k : ℕ) (winner other : List Part)
-    → k ≡ added_key x.rule → t.round ≡ None → winner ≡ linked x t.winner → other ≡ linked x t.other → (rest : List ℕ)
+pub added_tie_is : (l : Language) (x : CountedElectionView) (t : ToldTie) (k : ℕ) (winner other : List Part)
+    → k ≡ added_key x.rule → t.tie.round ≡ None → winner ≡ linked x t.tie.winner → other ≡ linked x t.tie.other → (rest : List ℕ)
     → before (item (say l k (winner ∷ other ∷ []))) rest ≡ before (tie l x t) rest
 added_tie_is l x t k winner other k_is at_is winner_is other_is rest =
     ap (λ (n : ℕ). before (item (say l n (winner ∷ other ∷ []))) rest) k_is

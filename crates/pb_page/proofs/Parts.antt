@@ -22,14 +22,14 @@ use Rattle.pb_page.specs.declared.markup.divided.Divided.{Divided}
 use Rattle.pb_page.specs.declared.style.TheConstants.{META, STYLE}
 use Rattle.pb_page.specs.declared.templates.TheConstants.{BLOCKS_CLOSING, BLOCKS_OPENING, BUDGET_CLOSING, BUDGET_OPENING, CHECK_CLOSING, CHECK_OPENING, CLOSING, COMMAND_CLOSING, COMMAND_OPENING, CONTENTS_CLOSING, CONTENTS_OPENING, FIGURE_CLOSING, FIGURE_OPENING, HEAD_OPENING, LEAD, LEAD_CLOSING, LEAD_NEXT, LIST_CLOSING, LIST_OPENING, MAIN, NOTHING, OPTIONS, PARAGRAPH, RULE_CLOSING, RULE_OPENING, SOURCES_CLOSING, THOSE_OPENING, TIES_OPENING, TITLE, TOP}
 use Rattle.pb_page.proofs.Grown.{before, before_more, heads}
+use Rattle.pb_reasons.specs.AllTies.{answered_ties}
 use Rattle.pb_reasons.specs.Comparison.{choices_of}
 use Rattle.pb_reasons.specs.Counted.{winners_of}
 use Rattle.pb_reasons.specs.CountedElection.{CountedElectionView}
-use Rattle.pb_reasons.specs.Ties.{ties_of}
 use Rattle.pb_reasons.specs.declared.raise_end.NextRaise.{NextRaise}
 use Rattle.pb_reasons.specs.declared.raise_end.RaiseEnd.{RaiseEnd}
 use Rattle.pb_reasons.specs.declared.raise_end.RaiseEnd.TheVariants.{Over}
-use Rattle.pb_reasons.specs.declared.tie.Tie.{Tie}
+use Rattle.pb_reasons.specs.declared.told_tie.ToldTie.{ToldTie}
 use Rattle.pb_rounds.specs.Count.{no_shares, opening_share}
 use Rattle.pb_rounds.specs.RuleNames.{by_completion, by_grain, by_measure, by_ties, profile_name}
 use Rattle.pb_price.specs.Supporters.{support_in}
@@ -205,7 +205,7 @@ some_entries : (l : Language) (x : CountedElectionView) (places : List ℕ) → 
 some_entries l x [] some = some
 some_entries l x (place ∷ places) some = ne_eqb (length (flat_map (entry l x) (place ∷ places))) 0 (λ is. omega arith)
 
-some_ties : (l : Language) (x : CountedElectionView) (all : List Tie) → length all == 0 ≡ false → length (flat_map (tie l x) all) == 0 ≡ false
+some_ties : (l : Language) (x : CountedElectionView) (all : List ToldTie) → length all == 0 ≡ false → length (flat_map (tie l x) all) == 0 ≡ false
 some_ties l x [] some = some
 some_ties l x (t ∷ all) some = ne_eqb (length (flat_map (tie l x) (t ∷ all))) 0 (λ is. omega arith)
 
@@ -235,13 +235,13 @@ over_is l x next share winners places gone share_is winners_is places_is gone_is
     ∙ ap (λ (p : List ℕ). before (over_said l next x its (beside (winners_of x.counted) p) gone) rest) places_is
     ∙ ap (λ (g : List ℕ). before (over_said l next x its new g) rest) gone_is
 
-pub ties_are : (l : Language) (x : CountedElectionView) (k : ℕ) (all : List Tie) → k ≡ by_ties x.rule.ties key.TIES key.TIES_TIED
-    → all ≡ ties_of x.rule.options.measure (support_in x.rule.options.grain x.election) x.counted → length all == 0 ≡ false → (rest : List ℕ)
+pub ties_are : (l : Language) (x : CountedElectionView) (k : ℕ) (all : List ToldTie) → k ≡ by_ties x.rule.ties key.TIES key.TIES_TIED
+    → all ≡ answered_ties x → length all == 0 ≡ false → (rest : List ℕ)
     → before (heads l TIES_OPENING.now (k ∷ []) ++ (flat_map (tie l x) all ++ own LIST_CLOSING.now)) rest ≡ before (ties_listed l x) rest
 ties_are l x k all k_is is some rest =
     rw (k_is, sym is, some_ties l x all some) (ties_as l (by_ties x.rule.ties key.TIES key.TIES_TIED) (flat_map (tie l x) all) rest)
 
-pub no_ties : (l : Language) (x : CountedElectionView) (all : List Tie) → all ≡ ties_of x.rule.options.measure (support_in x.rule.options.grain x.election) x.counted
+pub no_ties : (l : Language) (x : CountedElectionView) (all : List ToldTie) → all ≡ answered_ties x
     → length all == 0 ≡ true → [] ≡ ties_listed l x
 no_ties l x all is none = rw (sym is, no_items (tie l x) all none) refl
 

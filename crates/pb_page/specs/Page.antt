@@ -14,6 +14,7 @@ use Rattle.pb_page.specs.declared.markup.form.Form.{Form}
 use Rattle.pb_page.specs.declared.markup.divided.Divided.{Divided}
 use Rattle.pb_price.specs.Grain.{in_parts}
 use Rattle.pb_price.specs.Supporters.{cost_at, support_in, support_of}
+use Rattle.pb_reasons.specs.AllTies.{answered_ties}
 use Rattle.pb_reasons.specs.BesideVotes.{beside_votes, elected_by_votes}
 use Rattle.pb_reasons.specs.Counted.{winners_of}
 use Rattle.pb_reasons.specs.Comparison.{choices_of}
@@ -21,14 +22,13 @@ use Rattle.pb_reasons.specs.CountedElection.{CountedElectionView, in_file}
 use Rattle.pb_reasons.specs.Money.{MoneyView, money_of, paid_together}
 use Rattle.pb_reasons.specs.RaiseEnd.{IsRaiseEnd}
 use Rattle.pb_reasons.specs.Reasons.{project_reason}
-use Rattle.pb_reasons.specs.Ties.{ties_of}
 use Rattle.pb_reasons.specs.Totals.{totals_of}
 use Rattle.pb_reasons.specs.declared.raise_end.RaiseEnd.{RaiseEnd}
 use Rattle.pb_reasons.specs.declared.raise_end.RaiseEnd.TheVariants.{Plain, Exhausted, Over}
 use Rattle.pb_reasons.specs.declared.rule_row.RuleRow.{RuleRow}
 use Rattle.pb_reasons.specs.declared.project_reason.Ending.{Ending}
 use Rattle.pb_reasons.specs.declared.project_reason.Ending.TheVariants.{Won, Added, Lost}
-use Rattle.pb_reasons.specs.declared.tie.Tie.{Tie}
+use Rattle.pb_reasons.specs.declared.told_tie.ToldTie.{ToldTie}
 use Rattle.pb_rounds.specs.MostVotes.{is_taken}
 use Rattle.pb_rounds.specs.Count.{no_shares, opening_share}
 use Rattle.pb_rounds.specs.RuleNames.{by_completion, by_grain, by_measure, by_ties, completion_name, fills_up, measure_name}
@@ -189,18 +189,17 @@ module _ (l : Language) (x : CountedElectionView) where
       ++ (listed l key.ONLY_THEN [] (flat_map entry (beside (winners_of x.counted) next.only_then.items))
       ++ listed l key.NO_MORE [] (flat_map entry next.no_more.items))
 
-  -- a tie: its round, or that it was in filling up, the project that won, and the other; and the ties, behind the rule
+  -- a tie: its round, or that it was in filling up, the project that was chosen, and the other; and the ties, behind the rule
   -- for ties, where that is not the order of the file alone
-  abbrev pub tie : Tie → List Part
-  tie t = let r = x.rule in let both = linked x t.winner ∷ linked x t.other ∷ [] in item (option_map_or (λ round. say l
+  abbrev pub tie : ToldTie → List Part
+  tie told = let t = told.tie in let r = x.rule in let both = linked x t.winner ∷ linked x t.other ∷ [] in item (option_map_or (λ round. say l
       (by_measure r.options.measure (by_ties r.ties key.TIE_BY_VOTES key.TIE_BY_VOTES_TIED) (by_ties r.ties key.TIE_BY_COST key.TIE_BY_COST_TIED))
       (number l (codes "round") round ∷ both)) t.round (say l (if no_shares r.options.completion
       then by_ties r.ties key.TIE_WON key.TIE_WON_TIED else by_ties r.ties key.TIE_ADDED key.TIE_ADDED_TIED) both))
 
   unfoldable pub ties : List Part
   ties = let t = x.rule.ties in by_ties t [] (item (say l key.EQUALS (fill (codes "<code>~</code>") (text (ties_name t) ∷ []) ∷ [])))
-      ++ listed l (by_ties t key.TIES key.TIES_TIED) (codes " class='ties'" ∷ [])
-      (flat_map tie (ties_of x.rule.options.measure (support_in x.rule.options.grain x.election) x.counted))
+      ++ listed l (by_ties t key.TIES key.TIES_TIED) (codes " class='ties'" ∷ []) (flat_map tie (answered_ties x))
 
   -- what shares are, as this election has them, in words and in a picture; nothing where nobody voted
   unfoldable pub works : List Part

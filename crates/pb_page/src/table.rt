@@ -315,12 +315,12 @@ const LATER: &[SentenceEntry] = &[
     placed!(
         "rule.tie_by_votes",
         &["round", "winner", "other"],
-        "Round {round}: {winner} was elected. {other} had the same price, but comes later in the file, and was not elected in a later round."
+        "Round {round}: {winner} was elected. {other} had the same price, but comes later in the file."
     ),
     placed!(
         "rule.tie_by_cost",
         &["round", "winner", "other"],
-        "Round {round}: {winner} was elected. {other} had the same price in proportion to its cost, but comes later in the file, and was not elected in a later round."
+        "Round {round}: {winner} was elected. {other} had the same price in proportion to its cost, but comes later in the file."
     ),
     plain!("categories.heading", "The money by category"),
     plain!(
@@ -404,7 +404,7 @@ const LATER: &[SentenceEntry] = &[
     placed!(
         "rule.tie_added",
         &["winner", "other"],
-        "{winner} was added by votes. {other} had as many votes and the same cost, but comes later in the file, and did not win."
+        "{winner} was added by votes. {other} had as many votes and the same cost, but comes later in the file."
     ),
     placed!(
         "budget.by_votes",
@@ -426,7 +426,7 @@ const LATER: &[SentenceEntry] = &[
     placed!(
         "rule.tie_won",
         &["winner", "other"],
-        "{winner} won. {other} had as many votes and the same cost, but comes later in the file, and did not win."
+        "{winner} won. {other} had as many votes and the same cost, but comes later in the file."
     ),
 ];
 
@@ -463,22 +463,22 @@ const TIED: &[SentenceEntry] = &[
     placed!(
         "rule.tie_by_votes_tied",
         &["round", "winner", "other"],
-        "Round {round}: {winner} was elected. {other} had the same price, but comes later by the rule for ties, and was not elected in a later round."
+        "Round {round}: {winner} was elected. {other} had the same price, but comes later by the rule for ties."
     ),
     placed!(
         "rule.tie_by_cost_tied",
         &["round", "winner", "other"],
-        "Round {round}: {winner} was elected. {other} had the same price in proportion to its cost, but comes later by the rule for ties, and was not elected in a later round."
+        "Round {round}: {winner} was elected. {other} had the same price in proportion to its cost, but comes later by the rule for ties."
     ),
     placed!(
         "rule.tie_added_tied",
         &["winner", "other"],
-        "{winner} was added by votes. {other} had as many votes and the same cost, but comes later by the rule for ties, and did not win."
+        "{winner} was added by votes. {other} had as many votes and the same cost, but comes later by the rule for ties."
     ),
     placed!(
         "rule.tie_won_tied",
         &["winner", "other"],
-        "{winner} won. {other} had as many votes and the same cost, but comes later by the rule for ties, and did not win."
+        "{winner} won. {other} had as many votes and the same cost, but comes later by the rule for ties."
     ),
     placed!(
         "rule.equals",

@@ -1,4 +1,4 @@
-//! The ties that the order of equal projects decided.
+//! The pairs of equal projects that the rule for ties separated.
 
 ghost use Rattle.std.specs.Prelude.{◌≡◌, ◌∷◌, [], OnOk, flat_map, if◌then◌else◌, slice_index};
 ghost use Rattle.pb_page.specs.Content.{item, say};
@@ -8,8 +8,7 @@ ghost use Rattle.pb_page.specs.Inner.Value.{at_place, code};
 ghost use Rattle.pb_page.specs.Page.{linked, project_at, tie, ties};
 ghost use Rattle.pb_page.specs.declared.keys.TheConstants as key;
 ghost use Rattle.pb_page.specs.declared.language.Language.{Language};
-ghost use Rattle.pb_price.specs.Supporters.{support_in};
-ghost use Rattle.pb_reasons.specs.Ties.{ties_of};
+ghost use Rattle.pb_reasons.specs.AllTies.{answered_ties};
 ghost use Rattle.pb_rounds.specs.Count.{no_shares};
 ghost use Rattle.pb_rounds.specs.RuleNames.{by_measure, by_ties, ties_name};
 
@@ -23,7 +22,7 @@ use crate::sentences::say_item;
 use crate::templates::{LIST_CLOSING, TIES_OPENING};
 use pb_core::election::Election;
 use pb_core::no_memory::NoMemory;
-use pb_reasons::{CountedElection, Tie, ties_of};
+use pb_reasons::{CountedElection, ToldTie, answered_ties};
 use pb_rounds::measure::Measure;
 use pb_rounds::rule::Rule;
 use pb_rounds::tie_rule::TieRule;
@@ -37,7 +36,7 @@ pub(crate) fn put_ties(
     ensures { OnOk result (Grows page.old.items page.new.items (ties language.now count.now)) }
 {
     put_equals(page, language, &count.rule())?;
-    let told = ties_of(*page.allocator(), count)?;
+    let told = answered_ties(*page.allocator(), count)?;
     let put = put_list(page, language, count, told.as_slice());
     drop(told);
     put
@@ -78,11 +77,9 @@ fn put_list(
     page: &mut Vec<u8>,
     language: &Language,
     count: &CountedElection,
-    told: &[Tie],
+    told: &[ToldTie],
 ) -> Result<(), NoMemory>
-    requires { told.now
-        ≡ ties_of count.now.rule.options.measure
-        (support_in count.now.rule.options.grain count.now.election) count.now.counted }
+    requires { told.now ≡ answered_ties count.now }
     ensures { OnOk result (Grows page.old.items page.new.items (ties_listed language.now count.now)) }
 {
     if told.is_empty() {
@@ -99,7 +96,7 @@ fn put_each(
     page: &mut Vec<u8>,
     language: &Language,
     count: &CountedElection,
-    told: &[Tie],
+    told: &[ToldTie],
 ) -> Result<(), NoMemory>
     ensures { OnOk result (Grows page.old.items page.new.items
         (flat_map (tie language.now count.now) told.now)) }
@@ -115,14 +112,15 @@ fn put_tie(
     page: &mut Vec<u8>,
     language: &Language,
     count: &CountedElection,
-    told: &Tie,
+    told: &ToldTie,
 ) -> Result<(), NoMemory>
     ensures { OnOk result (Grows page.old.items page.new.items (tie language.now count.now told.now)) }
 {
-    let (place, next) = (told.winner, told.other);
+    let tie = told.tie;
+    let (place, next) = (tie.winner, tie.other);
     let winner = project_place(count, place);
     let other = project_place(count, next);
-    match told.round {
+    match tie.round {
         Some(round) => {
             let key = key_of(&count.rule());
             let places = [Place::Number("round", round as u64), winner, other];

@@ -1,16 +1,14 @@
--- The ties of all rounds, round by round.
-use Rattle.std.proofs.Common.{◌≡◌, ℕ, ◌+◌, ◌<◌, ◌≤◌, false, List, [], ◌∷◌, ◌++◌, length, get_or, take, replicate, refl, sym, ◌∙◌, ap, arith}
-use Rattle.std.specs.Prelude.{All, flat_map}
+-- The shares, the rests and the ties of rounds.
+use Rattle.std.proofs.Common.{◌≡◌, ℕ, ◌+◌, ◌<◌, ◌≤◌, false, List, [], ◌∷◌, ◌++◌, Some, length, get_or, map, take, replicate, refl, sym, ◌∙◌, ap, arith}
+use Rattle.std.specs.Prelude.{filter}
 use Rattle.std.specs.List.{range_with_len}
-use Rattle.std.proofs.lemmas.Grind.{flat_map-append}
-use Rattle.std.proofs.lemmas.List.{append-nil, append_assoc, length-map, take_more}
+use Rattle.std.proofs.lemmas.List.{take_more}
 use Rattle.std.proofs.lemmas.Option.{slice_get_read}
 use Rattle.std.proofs.Math.Nat.{mul-le-mul_right}
-use Rattle.pb_core.specs.Election.{ElectionView, IsElection}
+use Rattle.pb_core.specs.Election.{ElectionView}
 use Rattle.pb_price.specs.Price.{largest_share}
-use Rattle.pb_price.specs.Supporters.{SupportView, support_of, supporters_at}
+use Rattle.pb_price.specs.Supporters.{SupportView, supporters_at}
 use Rattle.pb_price.specs.declared.grain.Grain.{Grain}
-use Rattle.pb_price.proofs.BuiltLists.{range_with_len_more}
 use Rattle.pb_rounds.specs.Cheapest.{rests_after}
 use Rattle.pb_rounds.specs.Count.{is_too_fine, share_by, step_of}
 use Rattle.pb_rounds.specs.Counted.{IsCountOf}
@@ -21,11 +19,7 @@ use Rattle.pb_rounds.specs.declared.options.Completion.{Completion}
 use Rattle.pb_rounds.specs.declared.options.Completion.TheVariants.{Plain, Add1, NoShares}
 use Rattle.pb_rounds.specs.declared.options.CountOptions.{CountOptions}
 use Rattle.pb_rounds.proofs.Counted.{fine_in_words}
-use Rattle.pb_reasons.specs.Inner.Rounds.{ties_with}
-use Rattle.pb_reasons.specs.Ties.{ties_in}
-use Rattle.pb_reasons.specs.declared.tie.Tie.{Tie}
-use Rattle.pb_reasons.proofs.Tellable.{count_can_be_told}
-use Rattle.pb_reasons.proofs.TiedRounds.{take_again}
+use Rattle.pb_reasons.specs.Ties.{is_tied, ties_in}
 
 -- ---- a share is at most the largest
 
@@ -65,46 +59,10 @@ rests_more s rests elected i w below here =
     ap (rests_after s rests) (take_more elected i w below ∙ ap (λ v. take i elected ++ v ∷ []) (sym here))
     ∙ rests_after_push s rests (take i elected) w
 
--- ---- the elected are projects
+-- ---- the ties of one round
 
-pub elected_are_known : (e : ElectionView) (options : CountOptions) (o : OutcomeView) → IsElection e → IsCountOf e options o
-    → All (λ w. w.place < length (support_of e).costs) o.elected
-elected_are_known e options o h counted = λ k d below.
-    let known = (count_can_be_told e options o h counted).known k d below in
-    let costs : length (support_of e).costs ≡ length e.projects = simp length-map in
-    omega (arith, known, costs)
-
--- ---- the ties of one round more
-
-module _ (m : Measure) (s : SupportView) (share : ℕ) (elected : List ElectedView) where
-  pub here_is : (round : ℕ) (w : ElectedView) → round < length elected → w ≡ get_or elected round w → (rests : List ℕ)
-      → rests ≡ rests_after s (replicate s.voters share) (take round elected)
-      → ties_with m s elected rests w (round + 1) (length s.costs) ≡ ties_in m s share elected round
-  here_is round w below here rests is =
-      rw (is, slice_get_read elected (length elected) round w refl below here) refl
-
-  pub round_more : (round : ℕ) (w : ElectedView) → round < length elected → w ≡ get_or elected round w → (rests : List ℕ)
-      → rests ≡ rests_after s (replicate s.voters share) (take round elected) → (ties new : List Tie)
-      → ties ≡ take 100 (flat_map (ties_in m s share elected) (range_with_len 0 round))
-      → new ≡ take 100 (ties ++ ties_with m s elected rests w (round + 1) (length s.costs))
-      → new ≡ take 100 (flat_map (ties_in m s share elected) (range_with_len 0 (round + 1)))
-  round_more round w below here rests is ties new so_far found =
-      let before = flat_map (ties_in m s share elected) (range_with_len 0 round) in
-      found ∙ ap (λ (xs : List Tie). take 100 (xs ++ ties_with m s elected rests w (round + 1) (length s.costs))) so_far
-      ∙ take_again 100 before (ties_with m s elected rests w (round + 1) (length s.costs))
-      ∙ ap (λ (xs : List Tie). take 100 (before ++ xs)) (here_is round w below here rests is ∙ sym (append-nil (ties_in m s share elected round)))
-      ∙ ap (λ (xs : List Tie). take 100 xs) (sym (ap (flat_map (ties_in m s share elected)) (range_with_len_more round) ∙ flat_map-append (ties_in m s share elected) (range_with_len 0 round) (round ∷ [])))
-
--- ---- the ties of one added project more
-
-pub added_more : (told : ℕ → List Tie) (places : List ℕ) (i : ℕ) → i < length places → (old ties new : List Tie)
-    → ties ≡ take 100 (old ++ flat_map told (take i places)) → new ≡ take 100 (ties ++ told (get_or places i 0))
-    → new ≡ take 100 (old ++ flat_map told (take (i + 1) places))
-added_more told places i below old ties new so_far put =
-    let before = flat_map told (take i places) in
-    let here = get_or places i 0 in
-    let all : flat_map told (take (i + 1) places) ≡ before ++ told here =
-    ap (flat_map told) (take_more places i 0 below) ∙ flat_map-append told (take i places) (here ∷ [])
-    ∙ ap (λ (xs : List Tie). before ++ xs) (append-nil (told here)) in
-    put ∙ ap (λ (xs : List Tie). take 100 (xs ++ told here)) so_far ∙ take_again 100 (old ++ before) (told here)
-    ∙ ap (λ (xs : List Tie). take 100 xs) (append_assoc old before (told here) ∙ ap (λ (xs : List Tie). old ++ xs) (sym all))
+pub here_is : (m : Measure) (s : SupportView) (share : ℕ) (elected : List ElectedView) (round : ℕ) (w : ElectedView) → round < length elected
+    → w ≡ get_or elected round w → (rests : List ℕ) → rests ≡ rests_after s (replicate s.voters share) (take round elected)
+    → map (λ place. record { round = Some (round + 1); winner = w.place; other = place })
+    (filter (is_tied m s (take (round + 1) elected) rests w) (range_with_len 0 (length s.costs))) ≡ ties_in m s share elected round
+here_is m s share elected round w below here rests is = rw (is, slice_get_read elected (length elected) round w refl below here) refl

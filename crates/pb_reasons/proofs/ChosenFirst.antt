@@ -5,7 +5,7 @@ use Rattle.std.specs.List.{range_with_len}
 use Rattle.std.specs.Option.{option_map_or}
 use Rattle.std.proofs.lemmas.Bool.{and_parts, eqb-false, eqb-true, false≢true, not-true, or_parts}
 use Rattle.std.proofs.lemmas.List.{drop_more, get_or_default, length-map, take-append-drop, take_more}
-use Rattle.std.proofs.lemmas.List.Elements.{All-append, All-filter, All-head, All-map, All-nil, All-tail, filter_passes}
+use Rattle.std.proofs.lemmas.List.Elements.{All-append, All-filter, All-head, All-map, All-nil, All-tail, All-take, filter_passes}
 use Rattle.std.proofs.lemmas.List.Folds.{list_any-append}
 use Rattle.pb_core.specs.Election.{ProjectView}
 use Rattle.pb_core.specs.Order.{position_in}
@@ -13,7 +13,7 @@ use Rattle.pb_core.proofs.Members.{range_below}
 use Rattle.pb_price.proofs.Prices.{is_price_from_at}
 use Rattle.pb_price.proofs.SupporterLists.{cost_positive}
 use Rattle.pb_price.specs.Price.{PriceView, price_at}
-use Rattle.pb_price.specs.Supporters.{SupportView, cost_at, support_in, support_of}
+use Rattle.pb_price.specs.Supporters.{SupportView, support_in, support_of}
 use Rattle.pb_rounds.proofs.Added.{election_is_filled}
 use Rattle.pb_rounds.proofs.Filled.{rule_from_filled}
 use Rattle.pb_rounds.proofs.RunIs.{words_of_run}
@@ -25,7 +25,7 @@ use Rattle.pb_rounds.specs.Run.{ElectedView, RunView, is_elected, outcome_of}
 use Rattle.pb_rounds.specs.declared.measure.Measure.{Measure}
 use Rattle.pb_rounds.specs.declared.rule.FillUp.{FillUp}
 use Rattle.pb_rounds.specs.declared.rule.FillUp.TheVariants.{Nothing, MostVotes}
-use Rattle.pb_reasons.specs.AllTies.{added_ties, all_ties, run_ties, runs_of}
+use Rattle.pb_reasons.specs.AllTies.{added_ties, all_ties, answered_ties, run_ties, runs_of}
 use Rattle.pb_reasons.specs.Counted.{CountedView, counted}
 use Rattle.pb_reasons.specs.CountedElection.{CountedElectionView, IsCountedElection}
 use Rattle.pb_reasons.specs.Inner.AllTies.{is_equal_to, round_ties, ties_at_added, told_with, with_other}
@@ -177,10 +177,21 @@ module _ (x : CountedElectionView) (is : IsCountedElection x) where
       (told_later first (is_equal_to u taken winner)
       (λ position known. equal_later number winner below (get_or_default added number 0 winner below) position))
 
+  all_added_later : All IsChosenFirst (added_ties x)
+  all_added_later = all_in_range (ties_at_added x) (length x.counted.added) added_later
+
   -- in every run, and among the added
-  pub chosen_come_first : All IsChosenFirst (all_ties x)
+  in_all : All IsChosenFirst (all_ties x)
   unfolding all_ties
-  chosen_come_first =
+  in_all =
       All-append IsChosenFirst (flat_map (run_ties x) (range_with_len 0 (runs_of x))) (added_ties x)
-      (all_in_range (run_ties x) (runs_of x) (λ run below. run_later run))
-      (all_in_range (ties_at_added x) (length x.counted.added) added_later)
+      (all_in_range (run_ties x) (runs_of x) (λ run below. run_later run)) all_added_later
+
+  in_answered : All IsChosenFirst (answered_ties x)
+  unfolding answered_ties
+  in_answered =
+      All-take IsChosenFirst 100 (run_ties x x.counted.outcome.raised ++ added_ties x)
+      (All-append IsChosenFirst (run_ties x x.counted.outcome.raised) (added_ties x) (run_later x.counted.outcome.raised) all_added_later)
+
+  pub chosen_come_first : All IsChosenFirst (all_ties x ++ answered_ties x)
+  chosen_come_first = All-append IsChosenFirst (all_ties x) (answered_ties x) in_all in_answered

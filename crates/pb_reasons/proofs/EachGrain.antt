@@ -1,6 +1,6 @@
 -- What is the same however finely a count counts: who supports a project, what it costs in hundredths, and so what is
 -- paid and left at given prices.
-use Rattle.std.proofs.Common.{◌≡◌, ◌∷◌, ◌++◌, ◌-◌, ◌<◌, ℕ, zero, suc, List, [], Option, Some, None, length, refl, ◌∙◌, ap, arith}
+use Rattle.std.proofs.Common.{◌≡◌, ◌∷◌, ◌++◌, ◌-◌, ℕ, zero, suc, List, [], Option, Some, None, refl, ap}
 use Rattle.std.specs.Option.{option_map_or}
 use Rattle.pb_core.specs.Election.{ElectionView}
 use Rattle.pb_price.specs.Supporters.{cost_at, support_in, support_of, supporters_at}

@@ -4,7 +4,7 @@ use Rattle.std.specs.Prelude.{◌==◌, filter, flat_map}
 use Rattle.std.specs.List.{range_with_len}
 use Rattle.std.specs.Option.{option_map_or}
 use Rattle.std.proofs.lemmas.Bool.{eqb-true}
-use Rattle.std.proofs.lemmas.List.Elements.{All-append, All-filter, All-head, All-map, All-nil, All-tail, All-take, filter_passes}
+use Rattle.std.proofs.lemmas.List.Elements.{All-append, All-filter, All-head, All-map, All-nil, All-tail, filter_passes}
 use Rattle.std.proofs.lemmas.List.FromFn.{get_or-range_with_len, length-range_with_len}
 use Rattle.pb_core.specs.Order.{position_in}
 use Rattle.pb_price.specs.Supporters.{support_in, support_of}
@@ -82,10 +82,9 @@ module _ (x : CountedElectionView) (is : IsCountedElection x) where
   round_known run share elected round all =
       let s = support_in x.rule.options.grain x.election in
       let m = x.rule.options.measure in
-      let front = take (round + 1) elected in
-      told_known (ties_in m s share front round)
-      (of_winner round (is_tied m s front (rests_after s (replicate s.voters share) (take round front))) (range_with_len 0 (length s.costs)) (slice_get front round)
-      (got_known (λ (w : ElectedView). w.place < n) (take (round + 1) elected) round (All-take (λ (w : ElectedView). w.place < n) (round + 1) elected all)))
+      told_known (ties_in m s share elected round)
+      (of_winner round (is_tied m s (take (round + 1) elected) (rests_after s (replicate s.voters share) (take round elected))) (range_with_len 0 (length s.costs))
+      (slice_get elected round) (got_known (λ (w : ElectedView). w.place < n) elected round all))
       run (round + 1)
 
   run_known : (run : ℕ) → All IsKnown (run_ties x run)

@@ -22,7 +22,6 @@ pub mod PlaceSums
 pub mod AllWinners
 pub mod TieQueue
 pub mod TiedRounds
-pub mod AddedTies
 pub mod AllTies
 pub mod TieOrder
 pub mod Rooms

@@ -3,7 +3,7 @@ use Rattle.std.proofs.Common.{◌≡◌, ◌≢◌, ◌<◌, ◌+◌, ◌∙◌,
 use Rattle.std.specs.Prelude.{◌==◌, filter, flat_map, slice_index_or}
 use Rattle.std.specs.List.{range_with_len}
 use Rattle.std.proofs.lemmas.Bool.{cases_eq, eq-eqb, ne_eqb, or_left, or_right, true≢false}
-use Rattle.std.proofs.lemmas.List.{get_or-set_other, get_or-set_same, get_or-take, length-map, length-set, length-take, take-take, take_more}
+use Rattle.std.proofs.lemmas.List.{get_or-set_other, get_or-set_same, length-map, length-set, take_more}
 use Rattle.std.proofs.lemmas.List.Folds.{list_any-append}
 use Rattle.std.proofs.lemmas.Option.{none-some}
 use Rattle.pb_price.specs.Price.{HasPayers, PriceView}
@@ -102,15 +102,11 @@ module _ (x : CountedElectionView) (is : IsCountedElection x) where
   round_rows run share elected i w below w_is rests rests_are =
       let s = support_in x.rule.options.grain x.election in
       let m = x.rule.options.measure in
-      let front = take (i + 1) elected in
-      let test = is_tied m s front rests w in
+      let test = is_tied m s (take (i + 1) elected) rests w in
       let first : ToldTie = record { run = run; number = i + 1; tie = record { round = Some (i + 1); winner = w.place; other = w.place } } in
-      let long : i < length front = omega (arith, below, length-take (i + 1) elected) in
-      let here : w ≡ get_or front i w = w_is ∙ sym (get_or-take (i + 1) elected i w (omega arith)) in
-      let before : take i front ≡ take i elected = take-take i (i + 1) elected (omega arith) in
       told_of x first test (length s.costs) is many
       ∙ sym (told_is (Some (i + 1)) w.place x run (i + 1) test (length s.costs) is many)
-      ∙ ap (told x run (i + 1)) (here_is m s share front i w long here rests (rests_are ∙ ap (rests_after s (replicate s.voters share)) (sym before)))
+      ∙ ap (told x run (i + 1)) (here_is m s share elected i w below w_is rests rests_are)
 
   -- the rows of an added project
   pub added_rows : (number winner : ℕ) (taken : List ℕ) → taken ≡ winners_of (record x.counted { added = take (number + 1) x.counted.added })

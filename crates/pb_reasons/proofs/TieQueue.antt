@@ -1,5 +1,5 @@
 -- The queue of the projects that may tie: what is taken out, what goes back, and that the others don't tie.
-use Rattle.std.proofs.Common.{◌≡◌, ℕ, zero, suc, ◌+◌, ◌*◌, ◌<◌, ◌≤◌, Bool, true, false, cond, List, [], ◌∷◌, ◌++◌, length, get_or, map, set, Option, Some, None, refl, sym, ◌∙◌, ap, subst, inl, inr, arith}
+use Rattle.std.proofs.Common.{◌≡◌, ℕ, zero, suc, ◌+◌, ◌*◌, ◌<◌, ◌≤◌, Bool, true, false, cond, List, [], ◌∷◌, ◌++◌, length, get_or, replicate, set, Option, Some, None, refl, sym, ◌∙◌, ap, subst, inl, inr, arith}
 use Rattle.std.specs.Prelude.{◌==◌, All, Contains, filter, max, slice_index_or}
 use Rattle.std.specs.List.{range_with_len}
 use Rattle.std.specs.List.Sorted.{IsStrictlySortedBy}
@@ -11,7 +11,7 @@ use Rattle.std.specs.declared.cmp.Ordering.TheVariants.{Less, Equal, Greater}
 use Rattle.std.proofs.lemmas.Bool.{cases_eq, lt-leb, ne_eqb, or_from, true≢false}
 use Rattle.std.proofs.lemmas.List.{append_assoc, get_or-set_other, get_or-set_same, map-append}
 use Rattle.std.proofs.lemmas.List.Elements.{Contains-get_or}
-use Rattle.std.proofs.lemmas.Option.{none-some, same_Some}
+use Rattle.std.proofs.lemmas.Option.{same_Some}
 use Rattle.std.proofs.Math.Nat.{mul-le-mul, mul-le-mul_left}
 use Rattle.pb_price.specs.Inner.Payment.{nothing}
 use Rattle.pb_price.specs.Price.{HasPayers, PriceView}
@@ -22,14 +22,14 @@ use Rattle.pb_rounds.specs.Inner.Listed.{is_listed}
 use Rattle.pb_rounds.specs.Inner.Progress.{RisesWithin}
 use Rattle.pb_rounds.specs.Inner.Queue.{IsDone, IsFull, IsIn, Rises, places_of}
 use Rattle.pb_rounds.specs.Key.{KeyView, is_before, key_cmp}
-use Rattle.pb_rounds.specs.Run.{ElectedView, is_elected, key_of, weight_of}
+use Rattle.pb_rounds.specs.Run.{ElectedView, key_of, weight_of}
 use Rattle.pb_rounds.specs.declared.measure.Measure.{Measure}
 use Rattle.pb_rounds.proofs.Listed.{contains_from_listed, listed_from_contains, rises_within}
 use Rattle.pb_rounds.proofs.QueueLists.{before_chain, in_either, in_from_listed, in_left, in_right, listed_from_in, put_from, put_is_in, put_keeps, rises_from_sorted, rises_suffix}
-use Rattle.pb_reasons.specs.Inner.Rounds.{AreOpeningBounds, AreTieBounds, IsTieBound, scaled, target, ties_among, ties_with}
+use Rattle.pb_reasons.specs.Inner.Rounds.{AreTieBounds, IsTieBound, scaled, target}
 use Rattle.pb_reasons.specs.Inner.TieQueue.{AreQueued, PutsBound, TakesDue, limit_of}
 use Rattle.pb_reasons.specs.Ties.{is_tied}
-use Rattle.pb_reasons.proofs.TiedRounds.{no_bound_no_tie, no_tie}
+use Rattle.pb_reasons.proofs.TiedRounds.{no_bound_no_tie, no_tie, opening_bound}
 
 -- ---- heads are taken out
 
@@ -180,14 +180,6 @@ those_are_due m s elected rests w ready bounds are queue rest due queued takes =
     (rises_within due 0 (length s.costs) (λ some. omega arith) (due_known m s elected rests w ready bounds are queue rest due queued takes) takes.rise)
     (λ k a b out. untied m s elected rests w ready bounds are queue rest due queued takes k b out)
 
-pub ties_are_due : (m : Measure) (s : SupportView) (elected : List ElectedView) (rests : List ℕ) (w : ElectedView) → IsDivided m s w
-    → (bounds : List (Option PriceView)) → AreTieBounds s elected rests bounds → (queue rest : List KeyView) (due : List ℕ)
-    → AreQueued m s [] bounds queue → TakesDue (limit_of m s w) queue rest due → (round : ℕ)
-    → ties_among m s elected rests w round due ≡ ties_with m s elected rests w round (length s.costs)
-ties_are_due m s elected rests w ready bounds are queue rest due queued takes round =
-    ap (map (λ place. record { round = Some round; winner = w.place; other = place }))
-    (those_are_due m s elected rests w ready bounds are queue rest due queued takes)
-
 -- ---- one project is put back
 
 pub one_put : (m : Measure) (s : SupportView) (later : List ℕ) (bounds : List (Option PriceView)) (queue new : List KeyView) (place : ℕ) (bound : Option PriceView)
@@ -212,15 +204,11 @@ one_put m s later bounds queue new place bound h here long put = record {
 
 -- ---- before the first round
 
-opening_by : (m : Measure) (s : SupportView) (place : ℕ) (bound : PriceView) (queue : List KeyView) → IsIn (key_of m s place nothing) queue
-    → (b : Bool) → cond b None (Some nothing) ≡ Some bound → IsIn (key_of m s place bound) queue
-opening_by m s place bound queue there true e = absurd (none-some bound e)
-opening_by m s place bound queue there false e = subst (λ n. IsIn (key_of m s place n) queue) (same_Some _ _ e) there
-
-pub opening_queued : (m : Measure) (s : SupportView) (elected : List ElectedView) (bounds : List (Option PriceView)) (queue : List KeyView)
-    → AreOpeningBounds (length s.costs) elected bounds → IsFull m s (length s.costs) queue → AreQueued m s [] bounds queue
-opening_queued m s elected bounds queue h full = record {
+pub opening_queued : (m : Measure) (s : SupportView) (bounds : List (Option PriceView)) (queue : List KeyView)
+    → bounds ≡ replicate (length s.costs) (Some nothing) → IsFull m s (length s.costs) queue → AreQueued m s [] bounds queue
+opening_queued m s bounds queue h full = record {
   known = λ k i. (full.sound k i).0;
-  whole = λ place bound known out e. opening_by m s place bound queue (full.whole place known) (is_elected elected place) (sym (h.each place known) ∙ e);
+  whole = λ place bound known out e. subst (λ (n : PriceView). IsIn (key_of m s place n) queue)
+      (same_Some _ _ (sym (opening_bound (length s.costs) place bounds h known) ∙ e)) (full.whole place known);
   rises = full.rises;
 }

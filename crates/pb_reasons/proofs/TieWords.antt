@@ -67,7 +67,7 @@ module _ (m : Measure) (s : SupportView) (elected : List ElectedView) (rests : L
 -- the ties of a round
 module _ (m : Measure) (s : SupportView) (share : ℕ) (elected : List ElectedView) (round : ℕ) where
   abbrev test : ElectedView → ℕ → Bool
-  test w place = is_tied m s elected (rests_after s (replicate s.voters share) (take round elected)) w place
+  test w place = is_tied m s (take (round + 1) elected) (rests_after s (replicate s.voters share) (take round elected)) w place
 
   abbrev tie_with : ElectedView → ℕ → Tie
   tie_with w place = record { round = Some (round + 1); winner = w.place; other = place }

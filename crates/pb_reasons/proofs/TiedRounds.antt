@@ -1,11 +1,10 @@
 -- The ties of a round, project by project.
-use Rattle.std.proofs.Common.{◌≡◌, ℕ, zero, suc, ◌*◌, ◌<◌, ◌≤◌, Bool, true, false, cond, List, [], ◌∷◌, ◌++◌, length, set, take, map, Option, Some, None, refl, subst, sym, ◌∙◌, ap, inl, inr, arith}
-use Rattle.std.specs.Prelude.{◌==◌, IfSome, filter, nat_le, not}
+use Rattle.std.proofs.Common.{◌≡◌, ℕ, zero, suc, ◌*◌, ◌<◌, ◌≤◌, false, List, [], ◌∷◌, ◌++◌, length, replicate, set, take, Option, Some, None, refl, subst, sym, ◌∙◌, ap, inl, inr, arith}
+use Rattle.std.specs.Prelude.{◌==◌, IfSome, nat_le, not, slice_index_or}
 use Rattle.std.specs.Option.{option_map_or}
-use Rattle.std.proofs.lemmas.Bool.{cases_Bool, cases_eq, leb-false, ne_eqb, false≢true, and_right}
-use Rattle.std.proofs.lemmas.List.{append-nil, append_assoc, get_or-set_same, get_or-set_other, length-set, length-take, map-append}
-use Rattle.std.proofs.lemmas.List.Elements.{filter-append}
-use Rattle.std.proofs.lemmas.Option.{none-some, same_Some}
+use Rattle.std.proofs.lemmas.Bool.{cases_Bool, cases_eq, leb-false, ne_eqb, and_right}
+use Rattle.std.proofs.lemmas.List.{get_or-replicate, get_or-set_same, get_or-set_other, length-replicate, length-set}
+use Rattle.std.proofs.lemmas.Option.{none-some}
 use Rattle.std.proofs.Math.Nat.{lt_of_mul-lt-mul_left, mul-le-mul_right}
 use Rattle.pb_price.specs.Inner.Lists.{NoRestRises}
 use Rattle.pb_price.specs.Inner.Payment.{nothing}
@@ -15,9 +14,8 @@ use Rattle.pb_price.proofs.Prices.{at_most_is_below, at_most_trans, is_price_fro
 use Rattle.pb_price.proofs.SupporterLists.{cost_positive}
 use Rattle.pb_rounds.specs.Run.{ElectedView, is_elected, weight_of}
 use Rattle.pb_rounds.specs.declared.measure.Measure.{Measure}
-use Rattle.pb_reasons.specs.Inner.Rounds.{AreOpeningBounds, AreTieBounds, IsTieBound, is_as_good, scaled, target, ties_among}
+use Rattle.pb_reasons.specs.Inner.Rounds.{AreTieBounds, IsTieBound, is_as_good, scaled, target}
 use Rattle.pb_reasons.specs.Ties.{is_tied}
-use Rattle.pb_reasons.specs.declared.tie.Tie.{Tie}
 
 -- ---- one project
 
@@ -103,22 +101,23 @@ module _ (s : SupportView) (elected : List ElectedView) (rests : List ℕ) where
     ];
   }
 
+-- before the first round
+pub opening_bound : (n place : ℕ) (bounds : List (Option PriceView)) → bounds ≡ replicate n (Some nothing) → place < n → slice_index_or bounds place None ≡ Some nothing
+opening_bound n place bounds h known =
+    ap (λ (bs : List (Option PriceView)). slice_index_or bs place None) h ∙ get_or-replicate n place (Some nothing) None known
+
+module _ (s : SupportView) (rests : List ℕ) where
   module _ (is_support : IsSupport s) where
     above_nothing : (place : ℕ) → place < length s.costs → (price : PriceView) → price_at s rests place ≡ Some price → AtMost nothing price
     above_nothing place known price e =
         let some : 0 < price.amount = some_amount_at s rests place (cost_positive s is_support place known) price e in
         inl (omega (arith, some))
 
-    opening_by : (place : ℕ) → place < length s.costs → (b : Bool) → is_elected elected place ≡ b → IsTieBound s elected rests place (cond b None (Some nothing))
-    opening_by place known true is = λ is_not. absurd (false≢true (sym is_not ∙ is))
-    opening_by place known false is_not =
-        (is_not, record { some = omega arith; few = omega arith; alone = λ whole. refl }, above_nothing place known)
-
-    -- before the first round
-    pub opening_are_bounds : (bounds : List (Option PriceView)) → AreOpeningBounds (length s.costs) elected bounds → AreTieBounds s elected rests bounds
+    pub opening_are_bounds : (bounds : List (Option PriceView)) → bounds ≡ replicate (length s.costs) (Some nothing) → AreTieBounds s [] rests bounds
     opening_are_bounds bounds h = record {
-      one_each = h.one_each;
-      each = λ place known. rw (h.each place known) (opening_by place known (is_elected elected place) refl);
+      one_each = ap (λ (bs : List (Option PriceView)). length bs) h ∙ length-replicate (length s.costs) (Some nothing);
+      each = λ place known. subst (IsTieBound s [] rests place) (sym (opening_bound (length s.costs) place bounds h known))
+          (refl, record { some = omega arith; few = omega arith; alone = λ whole. refl }, above_nothing place known);
     }
 
 -- ---- lower rests
@@ -139,45 +138,9 @@ module _ (s : SupportView) (elected : List ElectedView) (before after : List ℕ
   pub tie_bounds_fall : (bounds : List (Option PriceView)) → AreTieBounds s elected before bounds → AreTieBounds s elected after bounds
   tie_bounds_fall bounds h = record { one_each = h.one_each; each = λ place known. bound_falls place _ (h.each place known) }
 
--- ---- one project more
+-- ---- lists that are cut
 
 pub take_again : {X : Type 0} (n : ℕ) (xs ys : List X) → take n (take n xs ++ ys) ≡ take n (xs ++ ys)
 take_again zero xs ys = refl
 take_again (suc n) [] ys = refl
 take_again (suc n) (x ∷ xs) ys = ap (λ zs. x ∷ zs) (take_again n xs ys)
-
-pub short_take : {X : Type 0} (n : ℕ) (xs ys : List X) → xs ≡ take n ys → length xs ≤ n
-short_take n xs ys same = rw same (omega (arith, length-take n ys))
-
--- of what a test passes, each is told as a tie
-module _ (test : ℕ → Bool) (told : ℕ → Tie) (places : List ℕ) (place : ℕ) where
-  with_more : (b : Bool) → test place ≡ b
-      → map told (filter test (places ++ place ∷ [])) ≡ map told (filter test places) ++ map told (cond b (place ∷ []) [])
-  with_more b is =
-      ap (map told) (filter-append test places (place ∷ []) ∙ ap (λ b. filter test places ++ cond b (place ∷ []) []) is)
-      ∙ map-append told (filter test places) (cond b (place ∷ []) [])
-
-  pub told_more : (old ties new : List Tie) → test place ≡ true → ties ≡ take 100 (old ++ map told (filter test places))
-      → new ≡ take 100 (ties ++ told place ∷ []) → new ≡ take 100 (old ++ map told (filter test (places ++ place ∷ [])))
-  told_more old ties new is so_far put =
-      let before = map told (filter test places) in
-      put ∙ ap (λ (xs : List Tie). take 100 (xs ++ told place ∷ [])) so_far
-      ∙ take_again 100 (old ++ before) (told place ∷ [])
-      ∙ ap (λ (xs : List Tie). take 100 xs) (append_assoc old before (told place ∷ []) ∙ ap (λ (xs : List Tie). old ++ xs) (sym (with_more true is)))
-
-  pub not_told_more : (old ties : List Tie) → test place ≡ false → ties ≡ take 100 (old ++ map told (filter test places))
-      → ties ≡ take 100 (old ++ map told (filter test (places ++ place ∷ [])))
-  not_told_more old ties is so_far =
-      so_far ∙ ap (λ (xs : List Tie). take 100 (old ++ xs)) (sym (with_more false is ∙ append-nil (map told (filter test places))))
-
-module _ (m : Measure) (s : SupportView) (elected : List ElectedView) (rests : List ℕ) (w : ElectedView) (round : ℕ) (places : List ℕ) (place : ℕ) where
-  pub tie_more : (old ties new : List Tie) → is_tied m s elected rests w place ≡ true
-      → ties ≡ take 100 (old ++ ties_among m s elected rests w round places)
-      → new ≡ take 100 (ties ++ record { round = Some round; winner = w.place; other = place } ∷ [])
-      → new ≡ take 100 (old ++ ties_among m s elected rests w round (places ++ place ∷ []))
-  tie_more = told_more (is_tied m s elected rests w) (λ place. record { round = Some round; winner = w.place; other = place }) places place
-
-  pub no_tie_more : (old ties : List Tie) → is_tied m s elected rests w place ≡ false
-      → ties ≡ take 100 (old ++ ties_among m s elected rests w round places)
-      → ties ≡ take 100 (old ++ ties_among m s elected rests w round (places ++ place ∷ []))
-  no_tie_more = not_told_more (is_tied m s elected rests w) (λ place. record { round = Some round; winner = w.place; other = place }) places place

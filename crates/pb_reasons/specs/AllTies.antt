@@ -28,12 +28,12 @@ abbrev pub told : CountedElectionView → (run number : ℕ) → List Tie → Li
 told x run number ties = map (λ t. record { run = run; number = number; tie = t })
     (flat_map (λ place. filter (λ t. t.other == place) ties) (in_file x))
 
--- the ties of each round of a run, as if the round were the last: with all that are left then
+-- the ties of each round of a run
 abbrev pub run_ties : CountedElectionView → ℕ → List ToldTie
 run_ties x run = let options = x.rule.options in let share = share_by options.completion options.grain x.election (step_of x.election options) run in
     let elected = (outcome_of options.measure options.grain x.election share).elected in
     flat_map (λ round. told x run (round + 1)
-    (ties_in options.measure (support_in options.grain x.election) share (take (round + 1) elected) round)) (range_with_len 0 (length elected))
+    (ties_in options.measure (support_in options.grain x.election) share elected round)) (range_with_len 0 (length elected))
 
 -- the ties of each added project, as if it were the last
 abbrev pub added_ties : CountedElectionView → List ToldTie
@@ -43,6 +43,10 @@ added_ties x = let c = x.counted in flat_map (λ number. told x c.outcome.raised
 
 unfoldable pub all_ties : CountedElectionView → List ToldTie
 all_ties x = flat_map (run_ties x) (range_with_len 0 (runs_of x)) ++ added_ties x
+
+-- the first hundred of the answered run and of the added
+unfoldable pub answered_ties : CountedElectionView → List ToldTie
+answered_ties x = take 100 (run_ties x x.counted.outcome.raised ++ added_ties x)
 
 -- with just the two projects of a tie exchanged others win, or the count is refused; or the same win
 unfoldable pub Changes : CountedElectionView → Tie → Bool → Type 0

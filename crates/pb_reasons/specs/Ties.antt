@@ -1,5 +1,5 @@
 -- The ties of a count that the order of the projects decided.
-use Rattle.std.specs.Prelude.{ℕ, ◌+◌, ◌*◌, ◌==◌, ◌&&◌, ◌++◌, Bool, false, List, [], None, Some, filter, flat_map}
+use Rattle.std.specs.Prelude.{ℕ, ◌+◌, ◌*◌, ◌==◌, ◌&&◌, Bool, false, List, [], None, Some, filter}
 use Rattle.std.specs.Prelude.{length, map, not, replicate, slice_get, take}
 use Rattle.std.specs.List.{range_with_len}
 use Rattle.std.specs.Option.{option_map_or}
@@ -19,12 +19,13 @@ is_tied m s elected rests winner place = not (is_elected elected place) && optio
     (λ price. price.amount * (winner.exact.payers * weight_of m s winner.place)
     == winner.exact.amount * (price.payers * weight_of m s place)) (price_at s rests place) false
 
--- the ties of a round, from 0, in the order of the projects; its rests are those after the rounds before it
+-- the ties of a round, from 0, in the order of the projects, with those not elected up to then; its rests are those after
+-- the rounds before it
 abbrev pub ties_in : Measure → SupportView → (share : ℕ) (elected : List ElectedView) → (round : ℕ) → List Tie
 ties_in m s share elected round =
     let rests = rests_after s (replicate s.voters share) (take round elected) in option_map_or
     (λ w. map (λ place. record { round = Some (round + 1); winner = w.place; other = place })
-    (filter (is_tied m s elected rests w) (range_with_len 0 (length s.costs)))) (slice_get elected round) []
+    (filter (is_tied m s (take (round + 1) elected) rests w) (range_with_len 0 (length s.costs)))) (slice_get elected round) []
 
 -- the ties of an added project, in the order of the projects: with each that did not win, and has as many votes and
 -- the same cost
@@ -32,9 +33,3 @@ abbrev pub ties_with_added : SupportView → CountedView → (winner : ℕ) → 
 ties_with_added s c winner = map (λ place. record { round = None; winner = winner; other = place })
     (filter (λ place. not (is_taken (winners_of c) place) && ((votes_at s place == votes_at s winner)
     && (cost_at s place == cost_at s winner))) (range_with_len 0 (length s.costs)))
-
--- the first hundred ties: of all rounds, in their order, and then of the added
-unfoldable pub ties_of : Measure → SupportView → CountedView → List Tie
-ties_of m s c = let o = c.outcome in
-    take 100 (flat_map (ties_in m s o.share o.elected) (range_with_len 0 (length o.elected))
-    ++ flat_map (ties_with_added s c) c.added)

@@ -5,29 +5,26 @@ ghost use Rattle.std.specs.Prelude.{◌≡◌, ◌++◌, ◌∷◌, [], ◌≤�
 use crate::told_tie::ToldTie;
 use pb_core::no_memory::NoMemory;
 
-/// The most ties that are told.
-pub(crate) const MOST_ROWS: usize = 100_000;
-
-/// The rows that are told; where there are more, one more than these.
+/// The rows that are told: so many, from the first.
 #[derive(Drop)]
-pub(crate) struct FirstTold {
+pub(crate) struct FirstTold<const MOST: usize> {
     pub rows: Vec<ToldTie>,
-    ghost few: { length rows.items ≤ 100001 },
+    ghost few: { length rows.items ≤ MOST },
 }
 
-impl FirstTold {
-    /// Whether there are more than are told.
-    pub(crate) fn is_over(&self) -> bool
-        ensures { result ≡ true → length self.now.rows.items ≡ 100001 }
+impl<const MOST: usize> FirstTold<MOST> {
+    /// Whether as many are told as are told at most.
+    pub(crate) fn is_full(&self) -> bool
+        ensures { result ≡ true → length self.now.rows.items ≡ MOST }
     {
-        self.rows.len() > MOST_ROWS
+        self.rows.len() >= MOST
     }
 
-    /// Puts a row behind the others, unless there are more than are told.
+    /// Puts a row behind the others, unless as many are told as are told at most.
     pub(crate) fn tell(&mut self, row: ToldTie) -> Result<(), NoMemory>
-        ensures { OnOk result (self.new.rows.items ≡ take 100001 (self.old.rows.items ++ row ∷ [])) }
+        ensures { OnOk result (self.new.rows.items ≡ take MOST (self.old.rows.items ++ row ∷ [])) }
     {
-        if self.rows.len() <= MOST_ROWS {
+        if self.rows.len() < MOST {
             self.rows.push(row)?;
         }
         Ok(())

@@ -10,7 +10,7 @@ ghost use Rattle.pb_core.specs.Order.{IsOrder, in_order};
 ghost use Rattle.pb_price.specs.Supporters.{SupportView, cost_at, cost_in_parts, support_in, support_of, supporters_at, ballot_at};
 ghost use Rattle.pb_rounds.specs.Fairness.{paid_within};
 ghost use Rattle.pb_rounds.specs.MostVotes.{fits, is_taken, votes_at};
-ghost use Rattle.pb_reasons.specs.AllTies.{all_ties, runs_of, different, is_same_pair};
+ghost use Rattle.pb_reasons.specs.AllTies.{all_ties, answered_ties, runs_of, different, is_same_pair};
 ghost use Rattle.pb_reasons.specs.BesideVotes.{elected_by_votes};
 ghost use Rattle.pb_reasons.specs.Counted.{CountedView, IsCountBy, counted, is_selected, winners_of};
 ghost use Rattle.pb_reasons.specs.CountedElection.{CountedElectionView, IsCountedElection};
@@ -22,7 +22,7 @@ ghost use Rattle.pb_rounds.specs.Completed.{IsExhausted};
 ghost use Rattle.pb_reasons.specs.Fairness.{losers, needed, spent};
 ghost use Rattle.pb_reasons.specs.Money.{money_of};
 ghost use Rattle.pb_reasons.specs.Reasons.{paid_for, round_of, voter_payments};
-ghost use Rattle.pb_reasons.specs.Ties.{is_tied, ties_in, ties_of, ties_with_added};
+ghost use Rattle.pb_reasons.specs.Ties.{is_tied, ties_in, ties_with_added};
 ghost use Rattle.pb_reasons.specs.Totals.{totals_of};
 ghost use Rattle.pb_reasons.specs.declared.payment.Payment.{Payment};
 ghost use Rattle.pb_reasons.specs.declared.tie.Tie.{Tie};
@@ -66,18 +66,11 @@ pub fn most_votes_is_its_rule()
         → (c.counted.outcome.elected ≡ []) × (winners_of c.counted ≡ elected_by_votes c.election) }
 {}
 
-/// Only the order of the projects decided the ties of a count: its winner comes before the other project.
-pub fn ties_are_decided_by_place()
-    ensures { (e : ElectionView) (rule : Rule) (o : OutcomeView) → IsCountOf e rule.options o
-        → All (λ (t : Tie). t.winner < t.other) (ties_of rule.options.measure (support_in rule.options.grain e)
-        (counted e rule.fill_up o)) }
-{}
-
 /// In each tie of all ties, those of every run and of the added, the chosen project comes before the other one in the
-/// order of ties.
+/// order of ties; so in those of the answered run.
 pub fn chosen_come_first()
     ensures { (x : CountedElectionView) → IsCountedElection x
-        → All (λ (t : ToldTie). t.tie.winner < t.tie.other) (all_ties x) }
+        → All (λ (t : ToldTie). t.tie.winner < t.tie.other) (all_ties x ++ answered_ties x) }
 {}
 
 /// Where there is no tie at all, no order of the projects has others win: a count by the same rule, of the same election
@@ -93,11 +86,11 @@ pub fn without_ties_no_others_win()
 {}
 
 /// Which ties there are. A project is tied with the winner of a round if it is not elected, and has a price that is as
-/// good: the same, or under measure cost the same for its cost. The ties of a round are those with its winner at the
-/// rests that the rounds before it leave. Those of an added project are with the others that did not win, and have as
-/// many votes and the same cost. Both come in the order of the other projects. A count rests on
-/// one run for each raise up to the answered one, and on one more where that one is not exhausted, so that the next
-/// ended the raises.
+/// good: the same, or under measure cost the same for its cost. The ties of a round are those of its winner with
+/// projects not elected up to then, at the rests that the rounds before it leave. Those of an added project are with
+/// the others that did not win, and have as many votes and the same cost. Both come in the order of the other projects.
+/// A count rests on one run for each raise up to the answered one, and on one more where that one is not exhausted, so
+/// that the next ended the raises.
 pub fn ties_are_their_words()
     ensures tied { (m : Measure) (s : SupportView) (elected : List ElectedView) (rests : List ℕ)
         → (w : ElectedView) (place : ℕ) → (is_tied m s elected rests w place ≡ true)
@@ -106,7 +99,7 @@ pub fn ties_are_their_words()
     ensures round { (m : Measure) (s : SupportView) (share : ℕ) (elected : List ElectedView) (round : ℕ) (t : Tie)
         → Contains (ties_in m s share elected round) t ↔ ((w : ElectedView) × (slice_get elected round ≡ Some w)
         × ((place : ℕ) × (place < length s.costs)
-        × (is_tied m s elected (rests_after s (replicate s.voters share) (take round elected)) w place ≡ true)
+        × (is_tied m s (take (round + 1) elected) (rests_after s (replicate s.voters share) (take round elected)) w place ≡ true)
         × (t ≡ record { round = Some (round + 1); winner = w.place; other = place }))) }
     ensures round_rises { (m : Measure) (s : SupportView) (share : ℕ) (elected : List ElectedView) (round : ℕ)
         → IsStrictlyIncreasing (map (λ (t : Tie). t.other) (ties_in m s share elected round)) }

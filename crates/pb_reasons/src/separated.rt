@@ -1,11 +1,11 @@
-//! All pairs of equal projects that the rule for ties separated.
+//! The pairs of equal projects that the rule for ties separated.
 
 ghost use Rattle.std.specs.Prelude.{◌≡◌, ◌<◌, ◌≤◌, ◌++◌, ◌∷◌, [], All, IfOk, MatchOption, OnOk, Some, filter, length, nat_le};
 ghost use Rattle.std.specs.Prelude.{◌&&◌, ◌==◌, false, not, slice_index_or, take};
 ghost use Rattle.std.specs.List.{range_with_len};
 ghost use Rattle.pb_price.specs.Price.{largest_share};
 ghost use Rattle.pb_price.specs.Supporters.{cost_at, support_in};
-ghost use Rattle.pb_reasons.specs.AllTies.{AreTieRows, added_ties, all_ties, run_ties, runs_of};
+ghost use Rattle.pb_reasons.specs.AllTies.{AreTieRows, added_ties, all_ties, answered_ties, run_ties, runs_of};
 ghost use Rattle.pb_reasons.specs.Inner.AllTies.{IsTieOf, is_equal_to, ties_at_added, told_with, with_other};
 ghost use Rattle.pb_rounds.specs.Cheapest.{IsRun};
 ghost use Rattle.pb_rounds.specs.Count.{share_by, step_of};
@@ -14,13 +14,12 @@ ghost use Rattle.pb_rounds.specs.MostVotes.{is_taken, votes_at};
 use crate::changes::recounts::Recounts;
 use crate::counted_election::CountedElection;
 use crate::exchange::with_changes;
-use crate::first_told::{FirstTold, MOST_ROWS};
+use crate::first_told::FirstTold;
 use crate::raise_end::is_exhausted;
 use crate::replay::pay;
 use crate::tie::Tie;
 use crate::tie_queue::opening_queue;
-use crate::tied_round::TiedRound;
-use crate::ties::{opening_bounds, opening_rests};
+use crate::tied_round::{TiedRound, opening_bounds, opening_rests};
 use crate::told_tie::{ToldTie, ToldTies};
 use crate::winners::flags_of;
 use pb_core::gate::Gate;
@@ -35,6 +34,15 @@ use std::thread::Threads;
 
 /// The most runs whose ties are told.
 const MOST_RUNS: u32 = 1_000;
+
+/// The most ties of all runs that are told.
+const MOST_ROWS: usize = 100_000;
+
+/// One more, which tells that there are others.
+const WITH_ANOTHER: usize = 100_001;
+
+/// The most ties of the answered run that are told.
+const MOST_ANSWERED: usize = 100;
 
 /// All pairs of equal projects that the rule for ties separated, in each run of a count: all raises up to the
 /// answered one are run, and the one beyond it where that one ended the raises. None where these are more than a
@@ -72,6 +80,22 @@ pub fn all_ties<T: Threads + Sync, G: Gate>(
     }))
 }
 
+/// The first hundred pairs of equal projects that the rule for ties separated in the answered run and in filling up.
+///
+/// In a round it looks only at projects whose last known price, which never falls, is not already above a tie: a queue
+/// has them by that price.
+pub fn answered_ties(alloc: Global, count: &CountedElection) -> Result<Vec<ToldTie>, NoMemory>
+    ensures { IfOk result (λ ties. ties.items ≡ answered_ties count.now) }
+{
+    let outcome = count.outcome();
+    let mut told: FirstTold<MOST_ANSWERED> = FirstTold {
+        rows: Vec::new(alloc),
+    };
+    put_rounds(alloc, count, outcome.raised, outcome, &mut told)?;
+    put_added(alloc, count, &mut told)?;
+    Ok(told.rows)
+}
+
 /// How many runs a count rests on.
 fn runs_of(alloc: Global, count: &CountedElection) -> Result<u32, NoMemory>
     ensures { IfOk result (λ runs. runs ≡ runs_of count.now) }
@@ -102,7 +126,7 @@ fn separated<T: Threads + Sync, G: Gate>(
 {
     // What is true of every count is so of this one.
     let _election = count.election();
-    let mut told = FirstTold {
+    let mut told: FirstTold<WITH_ANOTHER> = FirstTold {
         rows: Vec::new(recounts.alloc),
     };
     for run in 0..runs {
@@ -117,13 +141,13 @@ fn put_run<T: Threads + Sync, G: Gate>(
     recounts: &Recounts<T, G>,
     count: &CountedElection,
     run: u32,
-    told: &mut FirstTold,
+    told: &mut FirstTold<WITH_ANOTHER>,
 ) -> Result<(), NoMemory>
     requires by { recounts.now.rule ≡ count.now.rule }
     requires made { run < runs_of count.now }
     ensures { OnOk result (told.new.rows.items ≡ take 100001 (told.old.rows.items ++ run_ties count.now run)) }
 {
-    if told.is_over() {
+    if told.is_full() {
         return Ok(());
     }
     let (rt, alloc, options) = (recounts.rt, recounts.alloc, recounts.rule.options);
@@ -153,29 +177,29 @@ fn share_after(count: &CountedElection, run: u32) -> Money
 }
 
 /// Puts the ties of the rounds of a run behind the others.
-fn put_rounds(
+fn put_rounds<const MOST: usize>(
     alloc: Global,
     count: &CountedElection,
     run: u32,
     outcome: &Outcome,
-    told: &mut FirstTold,
+    told: &mut FirstTold<MOST>,
 ) -> Result<(), NoMemory>
     requires share { outcome.now.share ≡ share_by count.now.rule.options.completion count.now.rule.options.grain
         count.now.election (step_of count.now.election count.now.rule.options) run }
     requires small { outcome.now.share ≤ largest_share }
     requires is_run { IsRun count.now.rule.options.measure
         (support_in count.now.rule.options.grain count.now.election) outcome.now.share outcome.now.elected outcome.now.rests }
-    ensures { OnOk result (told.new.rows.items ≡ take 100001 (told.old.rows.items ++ run_ties count.now run)) }
+    ensures { OnOk result (told.new.rows.items ≡ take MOST (told.old.rows.items ++ run_ties count.now run)) }
 {
     // What is true of every count is so of this one.
     let _election = count.election();
     let (supporters, measure) = (count.supporters(), count.rule().options.measure);
     let elected = outcome.elected.as_slice();
-    let mut bounds = opening_bounds(alloc, &elected[..0], supporters.projects() as usize)?;
+    let mut bounds = opening_bounds(alloc, supporters.projects() as usize)?;
     let mut queue = opening_queue(alloc, measure, supporters)?;
     let mut rests = opening_rests(alloc, outcome.share, supporters.voters())?;
     for (before, winner) in elected.iter().enumerate() {
-        if told.is_over() {
+        if told.is_full() {
             return Ok(());
         }
         bounds[winner.place as usize] = None;
@@ -185,7 +209,6 @@ fn put_rounds(
             elected: &elected[..before + 1],
             rests: &rests,
             winner: *winner,
-            number: before + 1,
         };
         let others = round.others(alloc, &mut bounds, &mut queue)?;
         let first = first_of(run, before + 1, Some(before + 1), winner.place);
@@ -216,15 +239,15 @@ fn first_of(run: u32, number: usize, round: Option<usize>, winner: u32) -> ToldT
 }
 
 /// Puts the ties with these other projects behind those that stand there, in the order of the file, as far as they are
-/// told, and one more.
-fn put_others(
+/// told.
+fn put_others<const MOST: usize>(
     alloc: Global,
-    told: &mut FirstTold,
+    told: &mut FirstTold<MOST>,
     count: &CountedElection,
     first: ToldTie,
     others: &[u32],
 ) -> Result<(), NoMemory>
-    ensures { OnOk result (told.new.rows.items ≡ take 100001 (told.old.rows.items
+    ensures { OnOk result (told.new.rows.items ≡ take MOST (told.old.rows.items
         ++ told_with count.now first (is_taken others.now))) }
 {
     if others.is_empty() {
@@ -257,8 +280,12 @@ fn with_other(first: ToldTie, other: u32) -> ToldTie
 }
 
 /// Puts the ties of the added behind the others.
-fn put_added(alloc: Global, count: &CountedElection, told: &mut FirstTold) -> Result<(), NoMemory>
-    ensures { OnOk result (told.new.rows.items ≡ take 100001 (told.old.rows.items ++ added_ties count.now)) }
+fn put_added<const MOST: usize>(
+    alloc: Global,
+    count: &CountedElection,
+    told: &mut FirstTold<MOST>,
+) -> Result<(), NoMemory>
+    ensures { OnOk result (told.new.rows.items ≡ take MOST (told.old.rows.items ++ added_ties count.now)) }
 {
     for number in 0..count.added().len() {
         put_one_added(alloc, count, number, told)?;
@@ -267,15 +294,18 @@ fn put_added(alloc: Global, count: &CountedElection, told: &mut FirstTold) -> Re
 }
 
 /// Puts the ties of the added project with this number, from 0, behind the others.
-fn put_one_added(
+fn put_one_added<const MOST: usize>(
     alloc: Global,
     count: &CountedElection,
     number: usize,
-    told: &mut FirstTold,
+    told: &mut FirstTold<MOST>,
 ) -> Result<(), NoMemory>
     requires known { number < length count.now.counted.added }
-    ensures { OnOk result (told.new.rows.items ≡ take 100001 (told.old.rows.items ++ ties_at_added count.now number)) }
+    ensures { OnOk result (told.new.rows.items ≡ take MOST (told.old.rows.items ++ ties_at_added count.now number)) }
 {
+    if told.is_full() {
+        return Ok(());
+    }
     // What is true of every count is so of this one.
     let _election = count.election();
     let winner = count.added()[number];

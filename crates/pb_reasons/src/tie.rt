@@ -1,8 +1,8 @@
 //! A tie.
 
 /// A tie that the order of the projects decided. In a round: two projects whose prices were as good as each other, of
-/// which the round elected one, and no later round the other. In filling up by votes: two projects with as many votes
-/// and the same cost, of which one was added, and the other did not win.
+/// which the round elected one. In filling up by votes: two projects with as many votes and the same cost, of which one
+/// was added first.
 #[derive(Clone, Copy)]
 pub struct Tie {
     /// The number of the round, from 1; none in filling up.

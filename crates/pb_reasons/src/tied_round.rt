@@ -1,7 +1,8 @@
 //! The ties of one round.
 
-ghost use Rattle.std.specs.Prelude.{◌≡◌, ◌++◌, [], ◌*◌, ◌<◌, ◌≤◌, IfOk, OnOk, Some, filter, length, map, take};
+ghost use Rattle.std.specs.Prelude.{◌≡◌, [], ◌*◌, ◌<◌, ◌≤◌, IfOk, OnOk, Some, filter, length, replicate};
 ghost use Rattle.std.specs.List.{range_with_len};
+ghost use Rattle.pb_price.specs.Inner.Payment.{nothing};
 ghost use Rattle.pb_price.specs.Price.{AreRests, HasPayers};
 ghost use Rattle.pb_price.specs.Supporters.{IsSupport};
 ghost use Rattle.pb_reasons.specs.Inner.Rounds.{AreTieBounds, IsTieBound, scaled, target};
@@ -9,8 +10,6 @@ ghost use Rattle.pb_reasons.specs.Inner.TieQueue.{AreQueued, limit_of};
 ghost use Rattle.pb_reasons.specs.Ties.{is_tied};
 ghost use Rattle.pb_rounds.specs.Run.{weight_of};
 
-use crate::first_ties::FirstTies;
-use crate::tie::Tie;
 use crate::tie_queue::{put_bound, take_due, weight_of};
 use pb_core::money::Money;
 use pb_core::no_memory::NoMemory;
@@ -32,8 +31,6 @@ pub(crate) struct TiedRound<'a> {
     /// What is left to each voter before the round.
     pub(crate) rests: &'a [Money],
     pub(crate) winner: Elected,
-    /// The number of the round, from 1.
-    pub(crate) number: usize,
     ghost known: { winner.place < length supporters.now.costs },
     ghost payers: { HasPayers supporters.now winner.exact },
     ghost are_rests: { AreRests supporters.now.voters rests.now },
@@ -111,17 +108,6 @@ impl<'a> TiedRound<'a> {
         }
     }
 
-    /// The tie with the project at this place.
-    fn tie(&self, place: u32) -> Tie
-        ensures { result ≡ record { round = Some self.now.number; winner = self.now.winner.place; other = place } }
-    {
-        Tie {
-            round: Some(self.number),
-            winner: self.winner.place,
-            other: place,
-        }
-    }
-
     /// What a lower bound that leaves room for a tie does not come after.
     fn limit(&self) -> Key
         ensures limit { result ≡ limit_of self.now.measure self.now.supporters.now self.now.winner }
@@ -165,18 +151,26 @@ impl<'a> TiedRound<'a> {
         drop(due);
         Ok(others)
     }
+}
 
-    /// Puts the ties with these projects behind those of the rounds before, as far as so many are told.
-    pub(crate) fn tell(&self, others: &[u32], ties: &mut FirstTies) -> Result<(), NoMemory>
-        ensures { OnOk result (ties.new.ties.items ≡ take 100 (ties.old.ties.items
-            ++ map (λ place. record { round = Some self.now.number; winner = self.now.winner.place; other = place })
-            others.now)) }
-    {
-        for place in others {
-            ties.tell(self.tie(*place))?;
-        }
-        Ok(())
-    }
+/// What is left to each of this many voters before the first round.
+pub(crate) fn opening_rests(
+    alloc: Global,
+    share: Money,
+    voters: u32,
+) -> Result<Vec<Money>, NoMemory>
+    ensures { IfOk result (λ rests. rests.items ≡ replicate voters share) }
+{
+    let rests = vec![in alloc; share; voters as usize]?;
+    Ok(rests)
+}
+
+/// For each of this many projects 0, which is a lower bound of every price.
+pub(crate) fn opening_bounds(alloc: Global, projects: usize) -> Result<Vec<Option<Price>>, NoMemory>
+    ensures { IfOk result (λ bounds. bounds.items ≡ replicate projects (Some nothing)) }
+{
+    let bounds = vec![in alloc; Some(Price::whole(Money(0))); projects]?;
+    Ok(bounds)
 }
 
 /// An amount, so many times.

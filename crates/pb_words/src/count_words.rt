@@ -55,7 +55,7 @@ pub fn too_many_runs_words(alloc: Global, path: Option<&str>) -> Said {
     let mut out = WordsWriter::new(alloc);
     out.fill(
         "{}: the count has more than 1000 runs (one for each raise), so its ties are not listed. `pb_app page` \
-        shows those of a winner and a loser in the run that decided.\n",
+        shows those of the run that decided.\n",
         &[Name(path)],
     );
     out.finish()

@@ -24,12 +24,12 @@ use Rattle.pb_page.specs.declared.templates.TheConstants.{OTHERS_OPENING, PASSED
 use Rattle.pb_page.specs.declared.markup.divided.Divided.{Divided}
 use Rattle.pb_price.specs.Grain.{in_parts}
 use Rattle.pb_price.specs.Supporters.{cost_at, support_in, support_of}
+use Rattle.pb_reasons.specs.AllTies.{answered_ties}
 use Rattle.pb_reasons.specs.BesideVotes.{beside_votes, elected_by_votes}
 use Rattle.pb_reasons.specs.Counted.{winners_of}
 use Rattle.pb_reasons.specs.CountedElection.{CountedElectionView}
 use Rattle.pb_reasons.specs.Comparison.{choices_of}
 use Rattle.pb_reasons.specs.Money.{MoneyView, money_of, paid_together}
-use Rattle.pb_reasons.specs.Ties.{ties_of}
 use Rattle.pb_reasons.specs.Totals.{totals_of}
 use Rattle.pb_reasons.specs.declared.payment.Payment.{Payment}
 use Rattle.pb_reasons.specs.declared.project_reason.Ending.{Ending}
@@ -111,7 +111,7 @@ equals l r = by_ties r.ties [] (item (say l key.EQUALS (code (ties_name r.ties) 
 
 abbrev pub ties_listed : Language → CountedElectionView → List Part
 ties_listed l x = listed l (by_ties x.rule.ties key.TIES key.TIES_TIED) (own (codes " class='ties'"))
-    (flat_map (tie l x) (ties_of x.rule.options.measure (support_in x.rule.options.grain x.election) x.counted))
+    (flat_map (tie l x) (answered_ties x))
 
 abbrev pub works_said : Language → (k budget voters : ℕ) → (opening : Divided) → List Part
 works_said l k budget voters opening = paragraph (say l k (amount l.costs (codes "budget") budget

@@ -30,7 +30,7 @@ told_with x first ties = map (λ place. with_other first (position_in x.order pl
 -- the ties of a round, from 0, of a run at this share that elects these
 abbrev pub round_ties : CountedElectionView → (run share : ℕ) → List ElectedView → ℕ → List ToldTie
 round_ties x run share elected round = told x run (round + 1)
-    (ties_in x.rule.options.measure (support_in x.rule.options.grain x.election) share (take (round + 1) elected) round)
+    (ties_in x.rule.options.measure (support_in x.rule.options.grain x.election) share elected round)
 
 -- those of an added project, from 0
 abbrev pub ties_at_added : CountedElectionView → ℕ → List ToldTie

@@ -1,7 +1,7 @@
-use Rattle.std.proofs.Common.{◌≡◌, ◌<◌, ◌+◌, ◌∙◌, ◌++◌, ℕ, List, None, ap, arith, length, map, refl, slice_index, slice_index_or, subst, take}
+use Rattle.std.proofs.Common.{◌≡◌, ◌<◌, ◌+◌, ◌∙◌, ◌++◌, ℕ, List, None, ap, arith, length, map, refl, slice_index, slice_index_or, subst, sym, take}
 use Rattle.std.specs.Prelude.{OnOk, filter}
 use Rattle.std.specs.List.{range_with_len}
-use Rattle.std.proofs.lemmas.List.{length-map}
+use Rattle.std.proofs.lemmas.List.{length-map, take_at}
 use Rattle.pb_price.specs.Supporters.{SupportView, support_of}
 use Rattle.pb_rounds.specs.MostVotes.{is_taken}
 use Rattle.pb_rounds.specs.Outcome.{OutcomeView}
@@ -15,7 +15,7 @@ use Rattle.pb_reasons.proofs.RoundTies.{added_rows, front_taken}
 use Rattle.pb_reasons.proofs.separated.put_one_added.Goals as goal
 
 pub equals-requires : goal.equals-requires
-equals-requires c =
+equals-requires g c =
     let x = c.args.count.now in
     let is : IsCountedElection x = c.election-election.ensures.is_counted in
     let at : slice_index_or x.counted.added c.args.number 0 < length x.election.projects = added_are_known x is c.args.number 0 c.requires.known in
@@ -23,8 +23,11 @@ equals-requires c =
     let known : slice_index_or x.counted.added c.args.number 0 < length (support_of x.election).costs = omega (arith, at, costs) in
     record { known = rw (c.added.ensures, c.supporters.ensures) known }
 
+pub returns-then-is_full : goal.returns-then-is_full
+returns-then-is_full g c = sym (take_at c.args.told.now.rows.items _ g.row.MOST (c.is_full.ensures c.if-is_full.true))
+
 pub returns : goal.returns
-returns c =
+returns g c =
     let x = c.args.count.now in
     let is : IsCountedElection x = c.election-election.ensures.is_counted in
     let number = c.args.number in
@@ -54,4 +57,4 @@ returns c =
     ap (λ (f : ToldTie). told_with x f (is_taken c.as_slice.result.now)) first_is
     ∙ ap (λ (others : List ℕ). told_with x (row x.counted.outcome.raised x.counted.added) (is_taken others)) others_are
     ∙ added_rows x is number winner taken taken_are refl in
-    subst (λ (rows : List ToldTie). OnOk c.put_others-put.result (c.put_others-put.new.told.rows.items ≡ take 100001 (c.args.told.now.rows.items ++ rows))) rows c.put_others-put.ensures
+    subst (λ (rows : List ToldTie). OnOk c.put_others-put.result (c.put_others-put.new.told.rows.items ≡ take g.row.MOST (c.args.told.now.rows.items ++ rows))) rows c.put_others-put.ensures

@@ -1,4 +1,4 @@
-use Rattle.std.proofs.Common.{◌≡◌, ◌<◌, ◌≤◌, ◌+◌, ◌∙◌, ◌++◌, [], ℕ, List, Some, ap, arith, drop, get_or, length, replicate, subst, subst₂, sym, take}
+use Rattle.std.proofs.Common.{◌≡◌, ◌<◌, ◌+◌, ◌∙◌, ◌++◌, [], ℕ, List, Some, ap, arith, drop, get_or, length, replicate, subst, subst₂, sym, take}
 use Rattle.std.specs.Prelude.{◌-◌, filter, flat_map}
 use Rattle.std.specs.List.{range_with_len}
 use Rattle.pb_price.proofs.BuiltLists.{range_with_len_more}
@@ -27,13 +27,11 @@ use Rattle.pb_reasons.proofs.TiedRounds.{opening_are_bounds, tie_bounds_fall}
 use Rattle.pb_reasons.proofs.separated.put_rounds.Goals as goal
 
 pub loop-before-init : goal.loop-before-init
-loop-before-init c =
+loop-before-init g c =
     let x = c.args.count.now in
     let s = support_in x.rule.options.grain x.election in
     let o = c.args.outcome.now in
     let t = c.supporters-supporters.result.now in
-    let es = c.as_slice-elected.result.now in
-    let elected : es ≡ o.elected = c.as_slice-elected.ensures.value ∙ ap (λ (v : OutcomeView). v.elected) c.outcome.view_is in
     let share : c.outcome.inside.share ≡ o.share = ap (λ (v : OutcomeView). v.share) c.outcome.view_is in
     let rests : c.in_ok-rests.rests.items ≡ replicate s.voters o.share =
     c.in_ok-rests.ensures ∙ ap (λ n. replicate n c.outcome.inside.share) (c.voters.ensures.voters ∙ ap (λ (t : SupportView). t.voters) c.supporters-supporters.ensures)
@@ -43,15 +41,15 @@ loop-before-init c =
     record {
       rests = rests;
       are_rests = subst (AreRests s.voters) (sym rests) (opening_rests s o.share c.requires.small);
-      bounds = subst₂ (λ (t : SupportView) (es : List ElectedView). AreTieBounds t (take 0 es) c.in_ok-rests.rests.items c.in_ok-bounds.bounds.items)
-          c.supporters-supporters.ensures elected (opening_are_bounds t (take 0 es) c.in_ok-rests.rests.items c.projects.ensures.is_support c.in_ok-bounds.bounds.items opening);
+      bounds = subst (λ (t : SupportView). AreTieBounds t [] c.in_ok-rests.rests.items c.in_ok-bounds.bounds.items)
+          c.supporters-supporters.ensures (opening_are_bounds t c.in_ok-rests.rests.items c.projects.ensures.is_support c.in_ok-bounds.bounds.items opening);
       queued = subst₂ (λ (m : Measure) (t : SupportView). AreQueued m t [] c.in_ok-bounds.bounds.items c.in_ok-queue.queue.keys) measure c.supporters-supporters.ensures
-          (opening_queued c.rule.result.options.measure t (take 0 es) c.in_ok-bounds.bounds.items c.in_ok-queue.queue.keys opening c.in_ok-queue.ensures);
-      told = far_none 100001 c.args.told.now.rows.items c.args.told.now.few;
+          (opening_queued c.rule.result.options.measure t c.in_ok-bounds.bounds.items c.in_ok-queue.queue.keys opening c.in_ok-queue.ensures);
+      told = far_none g.row.MOST c.args.told.now.rows.items c.args.told.now.few;
     }
 
-pub returns-then-is_over : goal.returns-then-is_over
-returns-then-is_over c =
+pub returns-then-is_full : goal.returns-then-is_full
+returns-then-is_full g c =
     let x = c.args.count.now in
     let o = c.args.outcome.now in
     let i = c.loop-before.before in
@@ -59,18 +57,15 @@ returns-then-is_over c =
     let old = c.args.told.now.rows.items in
     let elected : c.as_slice-elected.result.now ≡ o.elected = c.as_slice-elected.ensures.value ∙ ap (λ (v : OutcomeView). v.elected) c.outcome.view_is in
     let below : i < length o.elected = subst (λ (es : List ElectedView). i < length es) elected c.loop-before-test.true in
-    let full : length told ≡ 100001 = c.is_over.ensures c.if-is_over.true in
+    let full : length told ≡ g.row.MOST = c.is_full.ensures c.if-is_full.true in
     let (more, all) : (more : ℕ) × (i + more ≡ length o.elected) = (length o.elected - i, omega (arith, below)) in
-    far_full 100001 (round_ties x c.args.run o.share o.elected) old told i more full c.loop-before.invariant.told
-    ∙ ap (λ n. take 100001 (old ++ flat_map (round_ties x c.args.run o.share o.elected) (range_with_len 0 n))) all
-    ∙ ap (λ (rows : List ToldTie). take 100001 (old ++ rows))
+    far_full g.row.MOST (round_ties x c.args.run o.share o.elected) old told i more full c.loop-before.invariant.told
+    ∙ ap (λ n. take g.row.MOST (old ++ flat_map (round_ties x c.args.run o.share o.elected) (range_with_len 0 n))) all
+    ∙ ap (λ (rows : List ToldTie). take g.row.MOST (old ++ rows))
     (run_rows x c.election-election.ensures.is_counted c.args.run o.share o.elected o.rests c.requires.is_run c.requires.share)
 
-pub opening_bounds-requires : goal.opening_bounds-requires
-opening_bounds-requires c = λ k d below. absurd (omega (arith, below))
-
 pub index_mut-requires : goal.index_mut-requires
-index_mut-requires c =
+index_mut-requires g c =
     let x = c.args.count.now in
     let o = c.args.outcome.now in
     let i = c.loop-before.before in
@@ -83,7 +78,7 @@ index_mut-requires c =
     omega (arith, known, place, c.loop-before.invariant.bounds.one_each, c.loop-before.bounds.ok.0)
 
 pub invariant_of-round-clause-known : goal.invariant_of-round-clause-known
-invariant_of-round-clause-known c =
+invariant_of-round-clause-known g c =
     let x = c.args.count.now in
     let o = c.args.outcome.now in
     let i = c.loop-before.before in
@@ -96,7 +91,7 @@ invariant_of-round-clause-known c =
     subst (λ (t : SupportView). c.winner.inside.place < length t.costs) (sym c.supporters-supporters.ensures) (omega (arith, known, place))
 
 pub invariant_of-round-clause-payers : goal.invariant_of-round-clause-payers
-invariant_of-round-clause-payers c =
+invariant_of-round-clause-payers g c =
     let x = c.args.count.now in
     let o = c.args.outcome.now in
     let i = c.loop-before.before in
@@ -108,7 +103,7 @@ invariant_of-round-clause-payers c =
     subst₂ (λ (t : SupportView) (v : ElectedView). HasPayers t v.exact) (sym c.supporters-supporters.ensures) (sym c.winner.view_is) has
 
 pub others-requires-clause-bounds : goal.others-requires-clause-bounds
-others-requires-clause-bounds c =
+others-requires-clause-bounds g c =
     let x = c.args.count.now in
     let o = c.args.outcome.now in
     let i = c.loop-before.before in
@@ -122,7 +117,7 @@ others-requires-clause-bounds c =
     (winner_bounds (support_in x.rule.options.grain x.election) o.elected i w below w_is c.loop-before.rests.items c.loop-before.bounds.items known c.loop-before.invariant.bounds)
 
 pub others-requires-clause-queued : goal.others-requires-clause-queued
-others-requires-clause-queued c =
+others-requires-clause-queued g c =
     let x = c.args.count.now in
     let o = c.args.outcome.now in
     let i = c.loop-before.before in
@@ -137,7 +132,7 @@ others-requires-clause-queued c =
     x.rule.options.measure c.loop-before.queue.keys c.loop-before.invariant.queued)
 
 pub of-requires : goal.of-requires
-of-requires c =
+of-requires g c =
     let x = c.args.count.now in
     let o = c.args.outcome.now in
     let i = c.loop-before.before in
@@ -150,7 +145,7 @@ of-requires c =
     subst (λ (t : SupportView). c.winner.inside.place < length t.costs) (sym c.supporters-supporters.ensures) (omega (arith, known, place))
 
 pub pay-requires-clause-known : goal.pay-requires-clause-known
-pay-requires-clause-known c =
+pay-requires-clause-known g c =
     let x = c.args.count.now in
     let o = c.args.outcome.now in
     let i = c.loop-before.before in
@@ -167,7 +162,7 @@ pay-requires-clause-known c =
     (ap length c.deref_mut.ensures.value ∙ c.loop-before.invariant.are_rests.one_each ∙ sym (ap (λ (t : SupportView). t.voters) c.supporters-supporters.ensures))
 
 pub pay-requires-clause-rise : goal.pay-requires-clause-rise
-pay-requires-clause-rise c =
+pay-requires-clause-rise g c =
     let x = c.args.count.now in
     let o = c.args.outcome.now in
     let i = c.loop-before.before in
@@ -183,7 +178,7 @@ pay-requires-clause-rise c =
     supporters_increase t c.of.ensures.is_support c.winner.inside.place here c.of.result.now c.of.ensures.supporters
 
 pub loop-before-preserved : goal.loop-before-preserved
-loop-before-preserved c =
+loop-before-preserved g c =
     let x = c.args.count.now in
     let is : IsCountedElection x = c.election-election.ensures.is_counted in
     let s = support_in x.rule.options.grain x.election in
@@ -223,8 +218,8 @@ loop-before-preserved c =
     ap (λ (f : ToldTie). told_with x f (is_taken c.as_slice.result.now)) first_is
     ∙ ap (λ (others : List ℕ). told_with x (first w.place) (is_taken others)) others_are
     ∙ round_rows x is c.args.run o.share o.elected i w below w_is rests c.loop-before.invariant.rests in
-    let put : c.put_others.new.told.rows.items ≡ take 100001 (c.loop-before.told.rows.items ++ round_ties x c.args.run o.share o.elected i) =
-    c.in_ok-put_others.ensures ∙ ap (λ (rows : List ToldTie). take 100001 (c.loop-before.told.rows.items ++ rows)) rows in
+    let put : c.put_others.new.told.rows.items ≡ take g.row.MOST (c.loop-before.told.rows.items ++ round_ties x c.args.run o.share o.elected i) =
+    c.in_ok-put_others.ensures ∙ ap (λ (rows : List ToldTie). take g.row.MOST (c.loop-before.told.rows.items ++ rows)) rows in
     record {
       rests = rw whole (charged_is ∙ ap (charged (supporters_at s w.place) w.price) c.loop-before.invariant.rests
           ∙ sym (rests_more s start o.elected i w below w_is));
@@ -232,19 +227,19 @@ loop-before-preserved c =
       bounds = rw (whole, charged_is) (tie_bounds_fall s (take (i + 1) o.elected) rests (charged (supporters_at s w.place) w.price rests)
           (charged_falls (supporters_at s w.place) w.price rests) _ (rw (supporters, elected, c.deref.ensures.value) at c.in_ok-others.ensures.bounds));
       queued = rw (c.rule.ensures, supporters) at c.in_ok-others.ensures.queued;
-      told = subst (λ (ns : List ℕ). c.put_others.new.told.rows.items ≡ take 100001 (c.args.told.now.rows.items ++ flat_map (round_ties x c.args.run o.share o.elected) ns))
+      told = subst (λ (ns : List ℕ). c.put_others.new.told.rows.items ≡ take g.row.MOST (c.args.told.now.rows.items ++ flat_map (round_ties x c.args.run o.share o.elected) ns))
           (sym (range_with_len_more i))
-          (far_rows 100001 (round_ties x c.args.run o.share o.elected) (range_with_len 0 i) i c.args.told.now.rows.items c.loop-before.told.rows.items _ c.loop-before.invariant.told put);
+          (far_rows g.row.MOST (round_ties x c.args.run o.share o.elected) (range_with_len 0 i) i c.args.told.now.rows.items c.loop-before.told.rows.items _ c.loop-before.invariant.told put);
     }
 
 pub returns : goal.returns
-returns c =
+returns g c =
     let x = c.args.count.now in
     let o = c.args.outcome.now in
     let elected : c.as_slice-elected.result.now ≡ o.elected = c.as_slice-elected.ensures.value ∙ ap (λ (v : OutcomeView). v.elected) c.outcome.view_is in
     let own : c.loop-before.before ≡ length c.as_slice-elected.result.now = omega (arith, c.loop-before-test.false, c.loop-before.auto.before-end) in
     let all : c.loop-before.before ≡ length o.elected = own ∙ ap (λ (es : List ElectedView). length es) elected in
     c.loop-before.invariant.told
-    ∙ ap (λ n. take 100001 (c.args.told.now.rows.items ++ flat_map (round_ties x c.args.run o.share o.elected) (range_with_len 0 n))) all
-    ∙ ap (λ (rows : List ToldTie). take 100001 (c.args.told.now.rows.items ++ rows))
+    ∙ ap (λ n. take g.row.MOST (c.args.told.now.rows.items ++ flat_map (round_ties x c.args.run o.share o.elected) (range_with_len 0 n))) all
+    ∙ ap (λ (rows : List ToldTie). take g.row.MOST (c.args.told.now.rows.items ++ rows))
     (run_rows x c.election-election.ensures.is_counted c.args.run o.share o.elected o.rests c.requires.is_run c.requires.share)

@@ -1,4 +1,4 @@
-use Rattle.std.proofs.Common.{◌≡◌, ◌∙◌, ap, subst, sym}
+use Rattle.std.proofs.Common.{◌∙◌, ap, subst, sym}
 use Rattle.pb_price.specs.Supporters.{SupportView}
 use Rattle.pb_price.specs.declared.grain.Grain.{Grain}
 use Rattle.pb_reasons.specs.CountedElection.{CountedElectionView}

@@ -1,0 +1,12 @@
+META
+key;value
+budget;6
+vote_type;approval
+PROJECTS
+project_id;cost
+a;2
+b;4
+VOTES
+voter_id;vote
+v1;b
+v2;a,b
