@@ -2,10 +2,14 @@
 
 use crate::faulty_record::LINE_ENDS;
 use crate::prelude::*;
-use crate::unknown_texts::{LATE_PROJECT, WEB_FORM, is_cut_code};
+use crate::unknown_texts::{
+    LATE_PROJECT, ODD_LETTER, OF_OTHER_ALPHABET, WEB_FORM, WRITTEN_TWICE, is_cut_code,
+};
+use crate::unknown_words::is_of_other_alphabet;
 use pb_core::money::Money;
+use pb_read::Column;
 use pb_witness::cause::Cause;
-use pb_witness::changed::{Difference, is_digits, is_one_of};
+use pb_witness::changed::{Difference, has_word, is_digits, is_one_of};
 use pb_witness::faulty_record::{FaultyRecord, has_other_line_end, is_spaced_mark};
 use pb_witness::fields::raw_text;
 use pb_witness::known::FoundCause;
@@ -25,6 +29,19 @@ pub(crate) const SPACED: &str = "Delete the space between `;` and the quotation 
 /// What to do about a vote of zeros and ones.
 pub(crate) const OF_MARKS: &str =
     "The vote is a row of zeros and ones: it may have a 1 for each project that the voter chose, in the order of a list. If so, find out that order, and write in all votes the ids of the projects with a 1. If not, look at the ballots.\n";
+
+/// What to do about votes with commas as in an address of the web, with marks of a program before them, with ids and names, and as
+/// a list of PHP.
+const OF_ADDRESS: &str =
+    "The vote is written as in an address of the web: `%2C` is a comma. Write `,` in its place, in all votes.\n";
+
+const ESCAPED_COMMAS: &str = "A program wrote a `\\` before each comma. Delete it, in all votes.\n";
+
+const NAMES_BETWEEN: &str =
+    "The vote has ids and what they stand for, with `;#` between them, as SharePoint writes them. Write the ids alone, with `,` between them.\n";
+
+const OF_PHP: &str =
+    "The vote is a list as PHP writes it: `s:2:\"12\"` is the text 12. Write these texts alone, with `,` between them.\n";
 
 /// What to do about unknown ids that are Roman numerals.
 const ROMAN: &str =
@@ -55,7 +72,21 @@ pub(crate) fn vote_cause(vote: &str, is_open: bool) -> Option<&'static str> {
     } else if is_of_marks(vote) {
         Some(OF_MARKS)
     } else {
-        None
+        written_by(vote)
+    }
+}
+
+/// What to do about a vote that is written as a program writes lists, if it is.
+fn written_by(vote: &str) -> Option<&'static str> {
+    let is_of_php = vote.starts_with("a:") && has_word(vote, ";s:");
+    if has_word(vote, "%2c") {
+        Some(OF_ADDRESS)
+    } else if has_word(vote, "\\,") {
+        Some(ESCAPED_COMMAS)
+    } else if has_word(vote, ";#") {
+        Some(NAMES_BETWEEN)
+    } else {
+        is_of_php.then_some(OF_PHP)
     }
 }
 
@@ -90,6 +121,11 @@ fn is_like_by_letters(one: &str, other: &str) -> bool {
     one.len() == other.len() && one.as_bytes().iter().zip(other.as_bytes()).all(is_like)
 }
 
+/// Whether a character is a mark above or below the letter before it.
+fn is_mark(c: char) -> bool {
+    matches!(u32::from(c), 0x300..=0x36f)
+}
+
 /// Whether an id has only letters of Roman numerals.
 fn is_roman(id: &str) -> bool {
     id.as_bytes()
@@ -120,6 +156,18 @@ impl<R: Files> Case<'_, R> {
         let line = line_of(self.text, row.mark);
         out.fill(OR_A_LETTER, &[Quoted(row.id.as_str()), Number(line)]);
         true
+    }
+
+    /// What to do about an id with this letter, which no project's id has.
+    pub(crate) fn odd_text(&self, letter: char) -> &'static str {
+        let has_mark = |place: u32| self.id_of(place).contains(is_mark);
+        if is_mark(letter) || (!letter.is_ascii() && (0..self.projects()).any(has_mark)) {
+            WRITTEN_TWICE
+        } else if is_of_other_alphabet(letter) {
+            OF_OTHER_ALPHABET
+        } else {
+            ODD_LETTER
+        }
     }
 
     /// Whether all ids that no project has are Roman numerals, several and one of two letters or more, and those of the projects are
@@ -182,7 +230,14 @@ impl<R: Files> Case<'_, R> {
 
     /// Puts which column of PROJECTS, by its place, has all unknown ids.
     fn put_elsewhere(&self, out: &mut WordsWriter, place: usize) {
-        if let Some(names) = self.text.row_at(self.faulty.seen.project_names) {
+        let Some(names) = self.text.row_at(self.faulty.seen.project_names) else {
+            return;
+        };
+        if text_at(&names, place).eq_ignore_ascii_case(Column::Cost.name()) {
+            out.put(
+                "All ids that no project has stand in column `cost`: the names `project_id` and `cost` may be exchanged. Compare some votes with the ballots. If the ballots have the ids of that column, exchange the two names. If they differ, get the votes again.\n",
+            )
+        } else {
             out.fill(
                 "All ids that no project has stand in column {}. Compare some votes with the ballots. If they differ, get the votes again. If the ballots have the ids of that column, call it `project_id`, and the other one `comment`.\n",
                 &[Quoted(text_at(&names, place))],

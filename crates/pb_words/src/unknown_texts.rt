@@ -23,6 +23,13 @@ pub(crate) const LISTED: &str =
 pub(crate) const ODD_LETTER: &str =
     "This contains {}, which no id in PROJECTS contains. It may be another kind of dash or letter, a code for a missing value, or what a program put there, as € for `(e)`. Compare the id with those. Ask whoever made the file what it means.\n";
 
+/// What to do about a letter of another alphabet that may look like one of the ids'; and one that is written in two ways.
+pub(crate) const OF_OTHER_ALPHABET: &str =
+    "This contains {}, a letter of another alphabet, which may look like one of the ids in PROJECTS. Compare the id with those by eye. If it looks like one of them, and the ballot has it, write that one. If not, ask whoever made the file what it means.\n";
+
+pub(crate) const WRITTEN_TWICE: &str =
+    "This contains {}, which no id in PROJECTS contains. A letter such as \u{e4} can be one character, or an a and a mark, and looks the same. Compare the id with those in PROJECTS by eye. If it looks like one of them, and the ballot has it, write that one. If not, ask whoever made the file what it means.\n";
+
 /// What to do about a letter of another alphabet, where the ids are letters.
 pub(crate) const OTHER_ALPHABET: &str =
     "Ballots may have the letters of another alphabet in its own order (\u{410}, \u{411}, \u{412} for A, B, C): then \u{412}, which looks like B, is the third. Ask which project each letter is.\n";

@@ -6,8 +6,8 @@ use crate::read_texts::NOTE;
 use crate::row_causes::vote_cause;
 use crate::unknown_texts::{
     ALL_WITHDRAWN, COUNTED_ON, EXAMPLE, FOR_A_BOX, LAST_ROW, LISTED, NAMES, NOT_RENUMBERED,
-    ODD_LETTER, ONE_BEFORE, OTHER_ALPHABET, PART, READ_AS, RENUMBERED, TRIAL, TURNOUT, TWICE,
-    WORD_BESIDE, difference, is_cut_code, remedy_of, what_of,
+    ONE_BEFORE, OTHER_ALPHABET, PART, READ_AS, RENUMBERED, TRIAL, TURNOUT, TWICE, WORD_BESIDE,
+    difference, is_cut_code, remedy_of, what_of,
 };
 use pb_read::Column;
 use pb_witness::cause::{Cause, comes_next, odd_letter};
@@ -386,7 +386,7 @@ impl<R: Files> Case<'_, R> {
             let from = id.trim_start_matches(|c: char| c != letter);
             let behind = from.split_once(letter).unwrap_or(("", "")).1;
             let odd = from.strip_suffix(behind).unwrap_or(from);
-            out.fill(ODD_LETTER, &[Quoted(odd)])
+            out.fill(self.odd_text(letter), &[Quoted(odd)])
         }
     }
 
@@ -490,6 +490,6 @@ fn once(id: &str) -> Option<&str> {
 }
 
 /// Whether a character is a letter of an alphabet such as the Greek or the Cyrillic one, and no Latin letter.
-fn is_of_other_alphabet(c: char) -> bool {
+pub(crate) fn is_of_other_alphabet(c: char) -> bool {
     matches!(u32::from(c), 0x370..=0x1dff) && c.is_alphabetic()
 }
