@@ -158,6 +158,23 @@ impl<R: Files> Case<'_, R> {
         true
     }
 
+    /// Whether nothing certain is known of why this id is unknown.
+    pub(crate) fn is_open(&self, cause: Cause) -> bool {
+        is_cut_code(self.faulty.piece())
+            || matches!(
+                cause,
+                Cause::Unknown
+                    | Cause::Near
+                    | Cause::OtherForm
+                    | Cause::OddLetter
+                    | Cause::Word
+                    | Cause::OtherElection
+                    | Cause::Nothing
+                    | Cause::Shifted
+                    | Cause::Alike(Difference::Front, _)
+            )
+    }
+
     /// What to do about an id with this letter, which no project's id has.
     pub(crate) fn odd_text(&self, letter: char) -> &'static str {
         let has_mark = |place: u32| self.id_of(place).contains(is_mark);

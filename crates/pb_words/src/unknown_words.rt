@@ -7,7 +7,7 @@ use crate::row_causes::vote_cause;
 use crate::unknown_texts::{
     ALL_WITHDRAWN, COUNTED_ON, EXAMPLE, FOR_A_BOX, LAST_ROW, LISTED, NAMES, NOT_RENUMBERED,
     ONE_BEFORE, OTHER_ALPHABET, PART, READ_AS, RENUMBERED, TRIAL, TURNOUT, TWICE, WORD_BESIDE,
-    difference, is_cut_code, remedy_of, what_of,
+    difference, remedy_of, what_of,
 };
 use pb_read::Column;
 use pb_witness::cause::{Cause, comes_next, odd_letter};
@@ -79,19 +79,7 @@ impl<R: Files> Case<'_, R> {
         if self.put_two_ways(out, &found) {
             return;
         }
-        let is_open = is_cut_code(self.faulty.piece())
-            || matches!(
-                found.cause,
-                Cause::Unknown
-                    | Cause::Near
-                    | Cause::OtherForm
-                    | Cause::OddLetter
-                    | Cause::Word
-                    | Cause::OtherElection
-                    | Cause::Nothing
-                    | Cause::Shifted
-                    | Cause::Alike(Difference::Front, _)
-            );
+        let is_open = self.is_open(found.cause);
         let may_be = is_open || found.cause == Cause::Name;
         if may_be && self.faulty.is_listed(self.text, self.known.witness) {
             return out.put(LISTED);
