@@ -321,9 +321,9 @@ class Cleaner:
 
     @functools.lru_cache(1 << 16)        # ids repeat
     def mended_piece(self, piece):
-        """What stands between commas in a vote as it is mended, and what had to be mended in it."""
+        """A piece of a vote as it is mended, and what was; marks alone stay, as they may mean the vote above."""
         text = seen(piece)
-        bare = seen(text.strip(QUOTES)) if self.letters.isdisjoint(QUOTES) else text
+        bare = seen(text.strip(QUOTES)) or text if self.letters.isdisjoint(QUOTES) else text
         after = bare if bare in self.ids else self.floats.get(bare, bare)
         kinds = {UNSEEN: text != trimmed(piece), 'quotation marks': bare != text, 'point and zero': after != bare}
         return after, [*filter(kinds.get, kinds)]

@@ -43,6 +43,13 @@ const NAMES_BETWEEN: &str =
 const OF_PHP: &str =
     "The vote is a list as PHP writes it: `s:2:\"12\"` is the text 12. Write these texts alone, with `,` between them.\n";
 
+/// What people write for the vote above, and what to do about it.
+const DITTOS: &str =
+    "\"|\"\"|''|\u{b4}\u{b4}|\u{201c}|\u{201d}|\u{201e}|\u{3003}|-\"-|do|do.|dto|dto.|ditto|idem|jw|j.w.|s.o.|as above|same|same as above";
+
+const DITTO: &str =
+    "This may stand for the vote above. Look at the ballots of all such rows, and write the ids that these voters chose. Don't delete it before that.\n";
+
 /// What to do about unknown ids that are Roman numerals.
 const ROMAN: &str =
     "These ids may be Roman numerals, such as IV for 4. Compare some of these votes with the ballots. If so, write the ids of PROJECTS in their place. If not, look at all of these ballots, and write the ids that are meant.\n";
@@ -71,6 +78,8 @@ pub(crate) fn vote_cause(vote: &str, is_open: bool) -> Option<&'static str> {
         Some(WEB_FORM)
     } else if is_of_marks(vote) {
         Some(OF_MARKS)
+    } else if is_one_of(DITTOS, vote.trim()) {
+        Some(DITTO)
     } else {
         written_by(vote)
     }
