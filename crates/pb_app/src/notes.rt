@@ -1,9 +1,9 @@
 //! What a run tells of what it read, beside its result.
 
-use pb_oddities::warnings::Warnings;
 use pb_read::ReadFault;
 use pb_rounds::rule::Rule;
 use pb_script::EntryCounts;
+use pb_warnings::warnings::Warnings;
 use pb_witness::rule_counts::RuleCounts;
 use std::alloc::Global;
 

@@ -14,9 +14,9 @@ use crate::what_if::what_if;
 use crate::words::is_quiet;
 use pb_command_line::{Asked, PageRun, Task, refuses_page};
 use pb_commands::{AppFault, Counting, Table};
-use pb_oddities::warnings::Warnings;
 use pb_rounds::rule::Rule;
 use pb_streams::{End, Kinship, Output, ProgressLine, RunRefusal, Telling, Typing};
+use pb_warnings::warnings::Warnings;
 use std::io::Write;
 
 /// What is asked for, and what was read of it first.

@@ -21,9 +21,9 @@ use pb_commands::run_ties::run_ties;
 use pb_commands::{AppFault, CountedBy, Demand, Digests, Table, write_digested, write_out};
 use pb_core::gate::NoGate;
 use pb_faults::RunText;
-use pb_oddities::warnings::Warnings;
 use pb_read::read_pb;
 use pb_streams::{Hex, LineCount, Shown, open_both, open_shown};
+use pb_warnings::warnings::Warnings;
 use std::io::Write;
 use std::mem;
 

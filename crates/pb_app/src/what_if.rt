@@ -6,9 +6,9 @@ use pb_command_line::{OneChange, WhatIfRun, Whose};
 use pb_commands::{
     AppFault, Changes, WhatIfFault, election_of, losers_text, what_if_text, write_out,
 };
-use pb_oddities::warnings::Warnings;
 use pb_reasons::Change;
 use pb_streams::{End, RunRefusal};
+use pb_warnings::warnings::Warnings;
 use pb_words::Said;
 use pb_words::what_if_words::{no_cost_words, no_project_words, too_many_voters_words};
 use std::alloc::Global;

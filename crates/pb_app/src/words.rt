@@ -9,11 +9,12 @@ use pb_desk::desk::MOST_CLERKS;
 use pb_durable::file_beside::read_file_beside;
 use pb_export::ExportFault;
 use pb_faults::RunText;
-use pb_oddities::warnings::Warnings;
 use pb_rounds::count_fault::CountFault;
 use pb_rounds::rule::Rule;
 use pb_script::ScriptFault;
 use pb_streams::{End, ProgressLine, RunRefusal, behind_link};
+use pb_warnings::warning_words::{rule_words, warning_words};
+use pb_warnings::warnings::Warnings;
 use pb_witness::audited::AuditPaths;
 use pb_witness::text::is_file;
 use pb_words::belonging_words::other_file_words;
@@ -29,7 +30,6 @@ use pb_words::serve_words::{
     bad_rows_words, changed_words, locked_words, open_desk_words, spelling_words, unanswered_words,
 };
 use pb_words::tally_words::{by_rule_words, no_ballot_words, tally_words};
-use pb_words::warning_words::{rule_words, warning_words};
 use pb_words::{Said, mistaken_words, open_words, said, say, say_words, unread_words, write_words};
 use std::alloc::{AllocError, Global};
 use std::fs;

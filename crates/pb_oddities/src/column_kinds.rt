@@ -1,17 +1,15 @@
 //! What a column of PROJECTS or VOTES may have that no count reads, as its name says.
 
 use crate::prelude::*;
-use pb_witness::changed::{
-    begins, first_word, has_digit, has_one_of, has_part, has_word, is_one_of,
-};
+use pb_seen::changed::{begins, first_word, has_digit, has_one_of, has_part, has_word, is_one_of};
 
 /// What columns of VOTES are called that have points, and then those that say how many ballots a row is.
-pub(crate) const NUMBERS: &str =
+pub const NUMBERS: &str =
     "points|score|weight|weights|count|ballots|ballot_count|num_ballots|number_of_ballots|\
     number_of_votes|voters|quantity|times|freq|_freq|n|n_break|papers|anzahl|count(*)";
 
 /// How many of them give points.
-pub(crate) const POINTS: usize = 2;
+pub const POINTS: usize = 2;
 
 /// What columns are called that say which rows are valid, and how names of further ones begin, such as one
 /// with the day on which a project was withdrawn, but for those with a word of something else.
@@ -46,16 +44,16 @@ const CHECKS: &str =
     "assessment|opinion|admitted|admissible|legal|lawful|check|legal_check|formal_check|legal_opinion|formal_opinion|\
     opinia|ocena_formalna";
 
-pub(crate) const PASSED: &str =
+pub const PASSED: &str =
     "positive|passed|pass|admitted|accepted|approved|legal|lawful|admissible|feasible|ok|pozytywna|pozytywny|positiv";
 
-pub(crate) const FAILED: &str =
+pub const FAILED: &str =
     "negative|failed|fail|not passed|not admitted|rejected|refused|not accepted|not approved|illegal|not legal|unlawful|\
     inadmissible|not admissible|unfeasible|infeasible|not feasible|not ok|negatywna|negatywny|negativ";
 
 /// What columns are called that have remarks, which no list of words knows; how remarks begin that say that their row does
 /// not count, and what may stand behind that.
-pub(crate) const NOTES: &str =
+pub const NOTES: &str =
     "remark|remarks|comment|comments|note|notes|uwagi|bemerkung|bemerkungen|anmerkung|poznámka|poznamka|observación|observacion|\
     observaciones|observation|observations|remarque|remarques|nota|notas|opmerking";
 
@@ -67,14 +65,20 @@ const NOT_COUNTED: &str =
 const BEHIND: &str = "|by|on|in|from|since|of|because|as|-|\u{2013}";
 
 /// What columns, and keys of META, are called that name a district.
-pub(crate) const DISTRICT: &str = "district|subunit|ward";
+pub const DISTRICT: &str = "district|subunit|ward";
 
 /// What columns are called that have currencies.
 const CURRENCIES: &str =
     "currency|currencies|waluta|waehrung|währung|devise|moneda|valuta|mena|měna";
 
+/// Columns that hold none unless they have lists of projects, though their values may be as ids are.
+pub const OF_VOTERS: &str =
+    "age|age_group|sex|gender|voting_method|channel|station|polling_station|ward|district|\
+    subdistrict|neighborhood|unit|subunit|education|votes|class|school_class|klasa|form|group|\
+    year_group|team|house|building|room|table|desk|urn";
+
 /// Words in the name of a column of costs that may be later ones.
-pub(crate) const LATER: &str =
+pub const LATER: &str =
     "after|corrected|correction|verified|verification|revised|updated|new|amended|changed";
 
 /// Parts of the name of a column that may have the dates of the votes, and of one that has other dates.
@@ -84,7 +88,7 @@ const OF_OTHER_DATES: &str = "birth|born|regist|since|member|expir";
 
 /// What stands in a column.
 #[derive(Clone, Copy, PartialEq, Eq)]
-pub(crate) enum Has {
+pub enum Has {
     Points,
     /// How many ballots a row is.
     Ballots,
@@ -106,7 +110,7 @@ pub(crate) enum Has {
 }
 
 /// Whether a remark begins with words which say that its row does not count.
-pub(crate) fn says_not_counted(remark: &str) -> bool {
+pub fn says_not_counted(remark: &str) -> bool {
     let begin = remark
         .split(|c: char| ",;:.!(".contains(c))
         .next()
@@ -118,7 +122,7 @@ pub(crate) fn says_not_counted(remark: &str) -> bool {
 }
 
 /// Whether a column of this name says which rows are valid, or has remarks.
-pub(crate) fn is_of_validity(name: &str) -> bool {
+pub fn is_of_validity(name: &str) -> bool {
     let is_begun = BEGINNINGS.split('|').any(|word| begins(name, word));
     is_one_of(VALID, name)
         || is_one_of(NOTES, name)
@@ -138,7 +142,7 @@ fn says_state(name: &str) -> bool {
 
 impl Has {
     /// The form of the oddity that a value of it is, among those of a column that says what should count.
-    pub(crate) fn form(self, is_vote: bool) -> usize {
+    pub fn form(self, is_vote: bool) -> usize {
         match self {
             Has::Currencies => 2,
             Has::Rounds => 4,
@@ -162,7 +166,7 @@ impl Has {
     }
 
     /// What a column of this name has, if that is known.
-    pub(crate) fn by(name: &str, section: Section) -> Option<Has> {
+    pub fn by(name: &str, section: Section) -> Option<Has> {
         let is_votes = matches!(section, Section::Votes);
         let is_later = has_word(name, "cost") && has_one_of(LATER, name);
         if is_one_of(NOTES, name) {

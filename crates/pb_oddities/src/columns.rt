@@ -3,13 +3,13 @@
 use crate::column_kinds::{FAILED, Has, NUMBERS, PASSED, POINTS, says_not_counted};
 use crate::prelude::*;
 use crate::row::{Limits, NEAR, NEXT, day_of};
-use pb_witness::changed::{has_word, is_digits, is_one_of};
+use pb_seen::changed::{has_word, is_digits, is_one_of};
 
 /// The fewest dates of votes that META excludes.
 const FEWEST_DATES: u64 = 5;
 
 /// How many columns of a section are looked at: an office's sheet has fewer.
-pub(crate) const MOST_COLUMNS: usize = 100;
+pub const MOST_COLUMNS: usize = 100;
 
 /// What a column says of rows that count, or do not.
 const STATES: &str =
@@ -56,18 +56,18 @@ struct FurtherColumn {
 
 /// The columns of a section that no count reads.
 #[derive(Drop)]
-pub(crate) struct FurtherColumns {
+pub struct FurtherColumns {
     alloc: Global,
     /// Where the row of column names begins.
     header: Mark,
     all: Vec<FurtherColumn>,
     /// Whether something may be said of one of them.
-    pub(crate) are_open: bool,
+    pub are_open: bool,
 }
 
 impl FurtherColumns {
     /// Those among the column names of a section, which begin here.
-    pub(crate) fn of(
+    pub fn of(
         alloc: Global,
         names: &ByteRecord,
         header: Mark,
@@ -116,7 +116,7 @@ impl FurtherColumns {
     }
 
     /// Takes a row, which is odd so where it is the first of a column that says what should count.
-    pub(crate) fn take(&mut self, row: &Row<'_>, found: &mut Oddities) -> Result<(), AllocError> {
+    pub fn take(&mut self, row: &Row<'_>, found: &mut Oddities) -> Result<(), AllocError> {
         self.are_open = false;
         for column in self.all.iter_mut() {
             if column.is_open {
@@ -128,7 +128,7 @@ impl FurtherColumns {
     }
 
     /// Takes the end of the section.
-    pub(crate) fn end(&self, found: &mut Oddities) {
+    pub fn end(&self, found: &mut Oddities) {
         for column in &self.all {
             let is_mixed = column.other > 0 && column.other < column.count;
             if column.has == Has::Costs && column.is_open && is_mixed {
@@ -288,8 +288,20 @@ impl FurtherColumn {
     }
 }
 
+/// The last place of a column's name, and how often it stands in a row.
+pub fn places_of(row: &ByteRecord, column: Column) -> (usize, u64) {
+    let (mut last, mut count) = (0usize, 0u64);
+    for place in 0..row.len() {
+        if text_at(row, place).eq_ignore_ascii_case(column.name()) {
+            last = place;
+            count = count.saturating_add(1);
+        }
+    }
+    (last, count)
+}
+
 /// Whether a value is a currency or says of how many an amount is: each of its words is one for that.
-pub(crate) fn is_money(value: &str) -> bool {
+pub fn is_money(value: &str) -> bool {
     let mut words = value.split(|c: char| c.is_whitespace() || "().,/".contains(c));
     !value.is_empty() && words.all(|word| word.is_empty() || is_one_of(UNITS, word))
 }

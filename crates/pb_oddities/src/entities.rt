@@ -1,8 +1,8 @@
 //! Letters of a web page, such as `&uuml;`, whose `;` cut a field.
 
 use crate::prelude::*;
-use pb_witness::changed::{is_digits, is_one_of};
-use pb_witness::fields::has_byte;
+use pb_seen::changed::{is_digits, is_one_of};
+use pb_seen::fields::has_byte;
 
 /// The names of such letters and signs, and what stands behind one letter in the others.
 const NAMES: &str =
@@ -12,7 +12,7 @@ const ENDS: &str = "uml|acute|grave|circ|tilde|cedil|caron|slash|ring|strok|ogon
 
 /// Takes a row of PROJECTS or VOTES below so many column names, which begin here. It is odd so if a field other than its last
 /// ends so; of one with more fields there is another word.
-pub(crate) fn take_entity(row: &Row<'_>, (names, header): (usize, Mark), found: &mut Oddities) {
+pub fn take_entity(row: &Row<'_>, (names, header): (usize, Mark), found: &mut Oddities) {
     if row.record.len() > names || !has_byte(row.record.as_slice(), b'&') {
         return;
     }

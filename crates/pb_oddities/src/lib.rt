@@ -1,46 +1,17 @@
-//! What is accepted in a .pb file and probably not meant: `Warnings` look on while pb_read reads it, and collect it.
+//! What is accepted in a .pb file and probably not meant: what was found, and what its columns may have.
 //!
 //! Nothing but that each call returns is proved of this, and that of each kind the first record taken stays. No result can
-//! change by it but by `--strict`, which refuses a file for a warning.
+//! change by it.
 #![tactic(auto)]
 
-mod alike;
-mod approvals;
-mod behind_vote;
-mod beside_vote;
-mod brackets;
-mod carried_forward;
-mod choices;
-mod column_kinds;
-mod columns;
-mod copies;
-mod crosses;
-mod entities;
-mod filled_down;
-mod last_vote;
-mod meta_oddities;
-mod names_row;
+pub mod chance;
+pub mod column_kinds;
+pub mod columns;
+pub mod entities;
+pub mod kept;
+pub mod names_row;
 pub mod oddities;
-mod one_each;
-mod out_of_order;
-mod pairs;
-mod parts;
-mod persons;
-mod phones;
 mod prelude;
-mod project_oddities;
-mod proxies;
-mod rankings;
-mod row;
-mod runs;
-mod same_voters;
-mod ticked;
-mod turnout;
-mod twice_in_vote;
-mod twins;
+pub mod row;
+pub mod totals;
 pub mod unread;
-mod value_columns;
-mod void_ids;
-mod vote_oddities;
-mod voter_lists;
-pub mod warnings;

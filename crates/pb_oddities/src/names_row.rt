@@ -1,12 +1,12 @@
 //! Column names behind which, on the same line, the first row of the section stands.
 
 use crate::prelude::*;
-use pb_witness::firsts::names_other;
-use pb_witness::swallowed::{columns_of, place_of_row};
+use pb_seen::firsts::names_other;
+use pb_seen::swallowed::{columns_of, place_of_row};
 
 /// A row of column names, and whether the first row may stand behind it.
 #[derive(Clone, Copy)]
-pub(crate) struct NamesRow {
+pub struct NamesRow {
     /// It, as odd for the field of that row which shows this, if one does.
     odd: Option<Odd>,
     /// How many names there are then, and the most fields of a row below.
@@ -16,12 +16,7 @@ pub(crate) struct NamesRow {
 
 impl NamesRow {
     /// These names of a section, which begin here. No row was read yet.
-    pub(crate) fn of(
-        names: &ByteRecord,
-        mark: Mark,
-        section: Section,
-        projects: &Firsts,
-    ) -> NamesRow {
+    pub fn of(names: &ByteRecord, mark: Mark, section: Section, projects: &Firsts) -> NamesRow {
         let place = place_of_row(names, section, projects);
         NamesRow {
             odd: place.map(|place| Odd::of_column(Oddity::SwallowedRows, mark, place).in_form(2)),
@@ -31,12 +26,12 @@ impl NamesRow {
     }
 
     /// Takes a row below.
-    pub(crate) fn take(&mut self, row: &ByteRecord) {
+    pub fn take(&mut self, row: &ByteRecord) {
         self.most = self.most.max(row.len());
     }
 
     /// Takes the end of the section: no row may have more fields than there are names.
-    pub(crate) fn end(&self, found: &mut Oddities) {
+    pub fn end(&self, found: &mut Oddities) {
         found.take_some(self.odd.filter(|_| self.most <= self.columns));
     }
 }

@@ -191,7 +191,7 @@ impl Odd {
     }
 
     /// The same, which repeats this earlier one.
-    pub(crate) fn repeats(self, earlier: Odd) -> Odd {
+    pub fn repeats(self, earlier: Odd) -> Odd {
         Odd {
             before: Some(earlier.mark),
             ..self
@@ -204,7 +204,7 @@ impl Odd {
     }
 
     /// The first of several rows that are odd so, measured by how many there are: it, or the one before it.
-    pub(crate) fn behind(self, before: Option<Odd>) -> Odd {
+    pub fn behind(self, before: Option<Odd>) -> Odd {
         let first = before.unwrap_or(self.by(0));
         first.by(first.number.saturating_add(1))
     }
@@ -225,9 +225,9 @@ pub struct Oddities {
     /// Whether the file has no row of VOTES, as that of a desk that has not opened.
     pub has_no_votes: bool,
     /// Whether META says how many rows VOTES has.
-    pub(crate) has_number: bool,
+    pub has_number: bool,
     /// Whether a row of VOTES was refused, which may have named a project that no other row names.
-    pub(crate) refuses_votes: bool,
+    pub refuses_votes: bool,
     /// Whether the budget or a cost has one or two decimals.
     pub has_decimals: bool,
     /// Whether `min_length` is more than `max_length`.
@@ -298,7 +298,7 @@ impl Oddities {
     }
 
     /// Gives those of a kind that are odd in the first of these forms the second.
-    pub(crate) fn reform(&mut self, oddity: Oddity, forms: (usize, usize))
+    pub fn reform(&mut self, oddity: Oddity, forms: (usize, usize))
         ensures firsts { self.new.firsts ≡ self.old.firsts }
         ensures counts { self.new.counts ≡ self.old.counts }
         ensures kinds { self.new.kinds ≡ self.old.kinds }
@@ -312,13 +312,13 @@ impl Oddities {
     }
 
     /// Whether it is kept that this record is odd so, in any form.
-    pub(crate) fn tells_of(&self, odd: Odd) -> bool {
+    pub fn tells_of(&self, odd: Odd) -> bool {
         let is_it = |other: &Odd| other.oddity == odd.oddity && other.mark.at == odd.mark.at;
         self.found.iter().any(is_it)
     }
 
     /// Takes an odd record, if there is one.
-    pub(crate) fn take_some(&mut self, odd: Option<Odd>)
+    pub fn take_some(&mut self, odd: Option<Odd>)
         ensures kinds { self.new.kinds ≡ self.old.kinds }
     {
         if let Some(odd) = odd {
@@ -327,7 +327,7 @@ impl Oddities {
     }
 
     /// Takes a text that no count reads, unless its column or key is odd otherwise.
-    pub(crate) fn take_unread(&mut self, odd: Odd) -> Result<(), AllocError>
+    pub fn take_unread(&mut self, odd: Odd) -> Result<(), AllocError>
         ensures firsts { self.new.firsts ≡ self.old.firsts }
         ensures counts { self.new.counts ≡ self.old.counts }
         ensures kinds { self.new.kinds ≡ self.old.kinds }
@@ -344,7 +344,7 @@ impl Oddities {
     }
 
     /// Takes these, by where they stand.
-    pub(crate) fn take_in_order(&mut self, mut all: Vec<Odd>) -> Result<(), AllocError> {
+    pub fn take_in_order(&mut self, mut all: Vec<Odd>) -> Result<(), AllocError> {
         let sorted = all.sort_by_key(|odd: &Odd| odd.mark.at);
         for odd in &all {
             self.take(*odd);

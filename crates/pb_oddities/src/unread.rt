@@ -1,12 +1,11 @@
 //! Texts that no count reads, of which words alone ask whether they say what should count: in columns of PROJECTS
 //! and VOTES and keys of META that are not usual, and in values of META that name a project or a voter.
 
-use crate::behind_vote::OF_VOTERS;
-use crate::column_kinds::{Has, NUMBERS};
+use crate::column_kinds::{Has, NUMBERS, OF_VOTERS};
 use crate::columns::MOST_COLUMNS;
 use crate::prelude::*;
-use pb_witness::amounts::whole_number;
-use pb_witness::changed::{has_digit, has_one_of, is_one_of};
+use pb_seen::amounts::whole_number;
+use pb_seen::changed::{has_digit, has_one_of, is_one_of};
 
 /// What columns are called whose texts say nothing of whether the row counts, or how, beside those of voters.
 const USUAL: &str =
@@ -39,17 +38,17 @@ struct UnreadColumn {
 
 /// The columns of a section that no count reads.
 #[derive(Drop)]
-pub(crate) struct Unread {
+pub struct Unread {
     /// Where the row of column names begins.
     header: Mark,
     columns: Vec<UnreadColumn>,
     /// Whether one of them has no text yet.
-    pub(crate) are_open: bool,
+    pub are_open: bool,
 }
 
 impl Unread {
     /// Those with these names, which begin here.
-    pub(crate) fn of(
+    pub fn of(
         alloc: Global,
         names: &ByteRecord,
         header: Mark,
@@ -70,7 +69,7 @@ impl Unread {
     }
 
     /// Takes a row that is accepted.
-    pub(crate) fn take(&mut self, row: &Row<'_>) {
+    pub fn take(&mut self, row: &Row<'_>) {
         self.are_open = false;
         for column in self.columns.iter_mut() {
             if column.first.is_some() {
@@ -86,7 +85,7 @@ impl Unread {
     }
 
     /// Takes the end of the section. Of a column that is odd otherwise nothing more is said.
-    pub(crate) fn end(&self, found: &mut Oddities) -> Result<(), AllocError> {
+    pub fn end(&self, found: &mut Oddities) -> Result<(), AllocError> {
         for odd in self.columns.iter().filter_map(|column| column.first) {
             if found.is_of_check() {
                 found.take_unread(odd)?;
@@ -113,7 +112,7 @@ fn has_letter(text: &str) -> bool {
 
 /// The values of META that no count reads, by the ids that may stand in them.
 #[derive(Drop)]
-pub(crate) struct UnreadKeys {
+pub struct UnreadKeys {
     alloc: Global,
     /// Words with a digit and a letter, each with the place of its row among those that may be spoken of.
     words: IdTable,
@@ -123,7 +122,7 @@ pub(crate) struct UnreadKeys {
 
 impl UnreadKeys {
     /// No value yet.
-    pub(crate) fn new(alloc: Global) -> UnreadKeys {
+    pub fn new(alloc: Global) -> UnreadKeys {
         UnreadKeys {
             alloc,
             words: IdTable::new(alloc),
@@ -133,11 +132,7 @@ impl UnreadKeys {
     }
 
     /// Takes a key with a value, whose row begins here.
-    pub(crate) fn take(
-        &mut self,
-        (key, value): (&str, &str),
-        mark: Mark,
-    ) -> Result<(), AllocError> {
+    pub fn take(&mut self, (key, value): (&str, &str), mark: Mark) -> Result<(), AllocError> {
         let place = u32::try_from(self.rows.len()).unwrap_or(u32::MAX);
         let mut has_ids = false;
         for word in value.split(|c: char| !c.is_alphanumeric() && c != '-' && c != '_') {
@@ -164,7 +159,7 @@ impl UnreadKeys {
 
     /// Takes the end of the file: of each id in one of them its row is odd, and each that sets a limit; for a check each that
     /// is not usual.
-    pub(crate) fn end(&self, election: &Election, found: &mut Oddities) -> Result<(), AllocError> {
+    pub fn end(&self, election: &Election, found: &mut Oddities) -> Result<(), AllocError> {
         let mut is_said = Vec::new(self.alloc);
         is_said.resize(self.rows.len(), false)?;
         if self.has_words {

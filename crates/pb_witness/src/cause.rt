@@ -1,15 +1,15 @@
 //! Why a vote names an id that no project has.
 
-use crate::amounts::whole_number;
-use crate::changed::{
-    Difference, has_digit, how_differs, is_date, is_decimal, is_empty_list, is_nothing, is_power,
-    is_tick, is_word, without_hidden,
-};
-use crate::ids::Ids;
 use crate::projects::{By, Projects};
 use crate::unknown::Unknown;
 use crate::witness::Witness;
 use pb_read::Column;
+use pb_seen::amounts::{comes_next, whole_number};
+use pb_seen::changed::{
+    Difference, has_digit, how_differs, is_date, is_decimal, is_empty_list, is_nothing, is_power,
+    is_tick, is_word, without_hidden,
+};
+use pb_seen::ids::Ids;
 use std::alloc::AllocError;
 use std::str;
 
@@ -392,24 +392,6 @@ pub(crate) fn are_shifted(witness: &Witness, projects: &Projects) -> bool {
     let id = one.id.as_str();
     (comes_next(id, last.id.as_str()) && !is_named(0))
         || (comes_next(first.id.as_str(), id) && !is_named(last_place))
-}
-
-/// Whether an id has the number behind that of another one, or the letter.
-pub fn comes_next(id: &str, before: &str) -> bool {
-    let ((front, number), (other_front, other)) = (order_of(id), order_of(before));
-    front == other_front && number == other.saturating_add(1)
-}
-
-/// What is before the number at the end of an id, or its last letter, and this number, or the letter's.
-pub(crate) fn order_of(id: &str) -> (&str, u64) {
-    let front = id.trim_end_matches(|c: char| c.is_ascii_digit());
-    match id.strip_prefix(front).and_then(whole_number) {
-        Some(number) => (front, number),
-        None => {
-            let last = id.chars().last().unwrap_or(' ');
-            (id.trim_end_matches(last), u64::from(u32::from(last)))
-        }
-    }
 }
 
 /// The first character of an id that no project's id has, and that is no letter or digit of ASCII.

@@ -1,13 +1,13 @@
 //! Where in a file something else stands that explains a fault: unknown ids in another column, rows that are
 //! missing between others, amounts that lost a mark.
 
-use crate::cause::order_of;
-use crate::changed::has_thousandths;
 use crate::faulty_record::FaultyRecord;
 use crate::known::Known;
 use crate::prelude::*;
 use crate::records::TextRecords;
 use crate::witness::Witness;
+use pb_seen::amounts::order_of;
+use pb_seen::changed::has_thousandths;
 
 /// The fewest unknown ids that all stand in one column.
 const FEWEST: usize = 2;

@@ -1,18 +1,18 @@
 //! A record of a .pb file that was refused, and what can be known of it.
 
 use crate::cause::is_subject;
-use crate::changed::{
-    differ_in_form, has_digit, has_word, is_digits, is_nothing, is_power, letters_of,
-    without_hidden,
-};
-use crate::fields::{JoinedBy, has_more, joined};
-use crate::heads::{OddHead, head_of, is_column, odd_head_of, section_of};
-use crate::ids::Ids;
 use crate::prelude::*;
 use crate::quote::Span;
 use crate::records::TextRecords;
-use crate::seen::Seen;
 use pb_read::Refusal;
+use pb_seen::changed::{
+    differ_in_form, has_digit, has_word, is_digits, is_hidden, is_nothing, is_power, letters_of,
+    without_hidden,
+};
+use pb_seen::fields::{JoinedBy, has_more, joined};
+use pb_seen::heads::{OddHead, head_of, is_column, odd_head_of, section_of};
+use pb_seen::ids::Ids;
+use pb_seen::seen::Seen;
 
 /// Characters that end a line elsewhere.
 const OTHER_LINE_ENDS: &str = "\u{b}\u{c}\u{85}\u{2028}\u{2029}";
@@ -413,21 +413,6 @@ pub(crate) fn piece_of(vote: &str, place: usize) -> &str {
         return vote;
     }
     vote.split(',').nth(place).unwrap_or("").trim()
-}
-
-/// Whether a character is a control character, or one that is not seen or turns the direction of a line.
-pub fn is_hidden(code: u32) -> bool {
-    match code {
-        0..=0x1f | 0x7f..=0x9f | 0xad | 0x61c | 0xfeff => true,
-        0x200b..=0x200f | 0x2028..=0x202e | 0x2060..=0x206f => true,
-        0xfff9..=0xfffb | 0xe0000..=0xe007f => true,
-        _ => false,
-    }
-}
-
-/// Whether a text has no such character but line ends.
-pub fn is_plain(text: &str) -> bool {
-    !text.contains(|c: char| c != '\n' && is_hidden(u32::from(c)))
 }
 
 /// Whether a text has a code of two bytes for a letter, such as `=C3=A9`.

@@ -1,7 +1,6 @@
 //! What is known of a file in which a record was refused.
 
 use crate::cause::{Cause, are_shifted, cause_of};
-use crate::changed::{has_time, is_nothing, is_shortened};
 use crate::elsewhere::elsewhere;
 use crate::faulty_record::FaultyRecord;
 use crate::prelude::*;
@@ -10,6 +9,7 @@ use crate::unknown::{Unknown, Votes};
 use crate::voters::{FirstRows, first_rows};
 use crate::witness::Witness;
 use pb_read::Refusal;
+use pb_seen::changed::{has_time, is_nothing, is_shortened};
 
 /// What is found in a file when it is read again.
 #[derive(Drop)]

@@ -1,8 +1,8 @@
 //! The rows that were read last of requests that come in pieces, and whether the last one goes on.
 
-use crate::mark::Mark;
 use crate::quote::State;
 use crate::records::TextRecords;
+use pb_seen::mark::Mark;
 use std::alloc::Global;
 
 /// The most bytes of the rows that are kept.

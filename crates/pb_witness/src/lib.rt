@@ -6,32 +6,22 @@
 //! the categories that `PageNotes` keeps, and no result can change by it.
 #![tactic(auto)]
 
-pub mod amounts;
 pub mod audited;
 pub mod cause;
-pub mod changed;
 pub mod desk_answer;
 pub mod elsewhere;
 pub mod failures;
 pub mod faulty_record;
-pub mod fields;
-pub mod firsts;
-pub mod heads;
-pub mod ids;
-pub mod keys;
 pub mod known;
 pub mod last_rows;
-pub mod mark;
+pub mod late_meta;
 mod moved_cells;
 pub mod page_notes;
 mod prelude;
 pub mod projects;
 pub mod quote;
 pub mod records;
-pub mod rows;
 pub mod rule_counts;
-pub mod seen;
-pub mod swallowed;
 pub mod text;
 pub mod unknown;
 pub mod unwritable;

@@ -1,10 +1,10 @@
 //! Rows of column names that are two, and lists of projects among the votes.
 
-use crate::changed::differ_in_form;
 use crate::faulty_record::FaultyRecord;
-use crate::ids::Ids;
 use crate::prelude::*;
 use crate::witness::Witness;
+use pb_seen::changed::differ_in_form;
+use pb_seen::ids::Ids;
 
 impl FaultyRecord {
     /// Whether the row below these column names has no first field, and ids of projects in several others.

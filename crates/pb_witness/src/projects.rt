@@ -1,10 +1,10 @@
 //! The rows of PROJECTS, read again for what an unknown id may mean.
 
-use crate::cause::order_of;
-use crate::changed::{form_of, has_digit, is_date, is_digits, is_power, plain, with_digits};
 use crate::prelude::*;
 use crate::records::TextRecords;
 use crate::witness::Witness;
+use pb_seen::amounts::order_of;
+use pb_seen::changed::{form_of, has_digit, is_date, is_digits, is_power, plain, with_digits};
 
 /// The place that a text has which several projects share.
 const SHARED: u32 = u32::MAX;

@@ -1,8 +1,8 @@
 //! The text that words speak of. Where it is a file it is read again.
 
-use crate::fields::{JoinedBy, joined, number_in};
 use crate::prelude::*;
 use crate::records::TextRecords;
+use pb_seen::fields::{JoinedBy, joined, number_in};
 use std::io::{Seek, SeekFrom};
 use std::{fs, str};
 

@@ -1,9 +1,9 @@
 //! The votes that are refused since they name an id that no project has, by that id.
 
-use crate::amounts::whole_number;
-use crate::changed::{is_empty_list, is_in_brackets};
 use crate::prelude::*;
 use pb_read::MOST_FAULTS;
+use pb_seen::amounts::whole_number;
+use pb_seen::changed::{is_empty_list, is_in_brackets};
 
 /// So many of the refused votes are shown.
 const SHOWN: usize = 3;

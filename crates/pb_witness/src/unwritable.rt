@@ -1,8 +1,8 @@
 //! Ids that a .pb file can't have, or that no vote of one can name.
 
-use crate::heads::is_head;
 use crate::prelude::*;
 use pb_read::read_pb;
+use pb_seen::heads::is_head;
 
 /// The first voter of a journal, if it is a file that can be read again, whose id is the name of a section.
 pub fn voter_like_a_heading<R: Files>(journal: &Text<'_, R>) -> Result<Option<String>, AllocError> {

@@ -1,10 +1,10 @@
 //! Where the first rows of the voters stand whose ids are repeated.
 
 use crate::faulty_record::FaultyRecord;
-use crate::fields::is_blank;
 use crate::prelude::*;
 use crate::records::TextRecords;
 use crate::witness::Witness;
+use pb_seen::fields::is_blank;
 
 /// Where the rows of some voters stand.
 #[derive(Drop)]

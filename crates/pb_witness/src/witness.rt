@@ -1,14 +1,14 @@
 //! Who looks on while a .pb file is read, and keeps what words need of what the reader refuses.
 
-use crate::amounts::has_thousands_mark;
-use crate::changed::is_nothing;
 use crate::faulty_record::{FaultyRecord, piece_of};
-use crate::ids::Ids;
 use crate::prelude::*;
-use crate::rows::VoteRows;
-use crate::seen::Seen;
 use crate::unknown::UnknownIds;
 use pb_read::{MOST_FAULTS, Refusal, VoteColumns, Watch, check_pb};
+use pb_seen::amounts::has_thousands_mark;
+use pb_seen::changed::is_nothing;
+use pb_seen::ids::Ids;
+use pb_seen::rows::VoteRows;
+use pb_seen::seen::Seen;
 
 /// Looks on while a .pb file is read, and keeps what words need of the first 1,000 records that are refused.
 #[derive(Drop)]

@@ -1,7 +1,7 @@
 //! What is said of columns of projects that have two numbers, of which neither is sure to mean yes.
 
 use crate::prelude::*;
-use pb_witness::ids::Ids;
+use pb_seen::ids::Ids;
 
 impl<R: Files> Case<'_, R> {
     /// Puts which two numbers the columns of projects have below these column names, if they have no other text, and these

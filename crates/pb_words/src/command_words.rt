@@ -4,8 +4,8 @@ use crate::meta_words::ONE_CHOICE;
 use crate::prelude::*;
 use crate::read_rules::{is_below_1, is_cost};
 use pb_core::money::Money;
-use pb_witness::changed::{has_thousandths, is_grouped, without_hidden};
-use pb_witness::fields::JoinedBy;
+use pb_seen::changed::{has_thousandths, is_grouped, without_hidden};
+use pb_seen::fields::JoinedBy;
 
 /// The option by which it takes projects without a cost out.
 const DROP_ZERO_COST: &str = " --drop-zero-cost";

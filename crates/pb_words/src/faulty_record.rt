@@ -4,8 +4,8 @@ use crate::prelude::*;
 use crate::read_rules::{NO_AMOUNT, amount_remedy, fine_remedy, put_broken, words_of};
 use crate::section::{NO_NAMES, Names, missing, names_of, wrong_head};
 use pb_read::{Section, Stage};
-use pb_witness::fields::{column_of, has_more, place_of_no_text};
-use pb_witness::heads::{head_of, section_of};
+use pb_seen::fields::{column_of, has_more, place_of_no_text};
+use pb_seen::heads::{head_of, section_of};
 
 /// What to do where VOTES has a column for each project.
 pub(crate) const BY_COLUMN: &str =

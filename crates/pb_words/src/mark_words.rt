@@ -8,24 +8,24 @@ pub(crate) const CLOSE_IT: &str =
     "Delete it, or write a second quotation mark where the text should end. If the text itself has quotation marks, write each of them twice, and put the whole text in quotation marks: `\"Playground \"\"Otter\"\"\"`.\n";
 
 /// Puts where a record stands that was not read again: `standard input: row 32`.
-pub(crate) fn put_record_number<R>(out: &mut WordsWriter, text: &Text<R>, at: u64) {
+pub fn put_record_number<R>(out: &mut WordsWriter, text: &Text<R>, at: u64) {
     out.fill("{}: row {}", &[Name(text.path), Number(at)])
 }
 
 /// Puts where a record begins: `city.pb: line 39`; answers what its bytes say.
-pub(crate) fn put_mark<R: Files>(out: &mut WordsWriter, text: &Text<R>, mark: Mark) -> Span {
+pub fn put_mark<R: Files>(out: &mut WordsWriter, text: &Text<R>, mark: Mark) -> Span {
     let span = span_of(text, mark);
     out.fill("{}: line {}", &[Name(text.path), Number(span.begins)]);
     span
 }
 
 /// The line at which a record begins.
-pub(crate) fn line_of<R: Files>(text: &Text<R>, mark: Mark) -> u64 {
+pub fn line_of<R: Files>(text: &Text<R>, mark: Mark) -> u64 {
     span_of(text, mark).begins
 }
 
 /// Puts whose row it is, where it has an id: `, project "p7"`.
-pub(crate) fn put_subject(out: &mut WordsWriter, subject: &str, id: &str) {
+pub fn put_subject(out: &mut WordsWriter, subject: &str, id: &str) {
     if !id.is_empty() {
         out.fill(", {} {}", &[Own(subject), Quoted(id)]);
     }
@@ -77,7 +77,7 @@ pub(crate) fn put_over(out: &mut WordsWriter, span: Span, is_sentence: bool) -> 
 
 /// Puts which quotation mark makes several lines one field in the record with this mark, with this text behind its
 /// line, where one does; answers whether one does.
-pub(crate) fn put_swallower<R: Files>(
+pub fn put_swallower<R: Files>(
     out: &mut WordsWriter,
     text: &Text<R>,
     mark: Mark,

@@ -4,11 +4,12 @@ use crate::command_words::{put_clean, put_cleaning, put_separate};
 use crate::prelude::*;
 use crate::read_rules::{amount_remedy, fine_remedy, is_below_1, put_broken, put_rule, words_of};
 use pb_read::{Column, MetaKey};
-use pb_witness::changed::{has_thousandths, is_grouped, without_hidden};
+use pb_seen::changed::{has_thousandths, is_grouped, without_hidden};
+use pb_seen::fields::JoinedBy;
+use pb_seen::heads::{OddHead, head_of};
+use pb_seen::keys::Given;
 use pb_witness::elsewhere::small_amount;
-use pb_witness::fields::JoinedBy;
-use pb_witness::heads::{OddHead, head_of, late_meta};
-use pb_witness::keys::Given;
+use pb_witness::late_meta::late_meta;
 
 /// What to do about it in a .pb file, in a script, and in a row that was typed.
 pub(crate) const VOTE: &str =

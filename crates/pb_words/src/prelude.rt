@@ -10,8 +10,8 @@ pub(crate) use crate::words::PlaceholderValue::{
 pub(crate) use crate::words::{PlaceholderValue, Said, WordsWriter, failed, said};
 pub(crate) use csv::ByteRecord;
 pub(crate) use pb_read::ReadKind;
-pub(crate) use pb_witness::fields::{bytes_at, raw_text, text_at};
-pub(crate) use pb_witness::mark::Mark;
+pub(crate) use pb_seen::fields::{bytes_at, raw_text, text_at};
+pub(crate) use pb_seen::mark::Mark;
 pub(crate) use pb_witness::text::Text;
 pub(crate) use std::alloc::Global;
 pub(crate) use std::rt::Files;

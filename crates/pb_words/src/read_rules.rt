@@ -5,7 +5,7 @@ use crate::read_texts::{NOTE, OTHER_TABLE, RULES};
 use crate::unknown_texts::NAMES_AGAIN;
 use pb_core::money::Money;
 use pb_read::Column;
-use pb_witness::changed::{is_grouped, is_nothing, is_one_of, without_hidden};
+use pb_seen::changed::{is_grouped, is_nothing, is_one_of, without_hidden};
 
 /// What may stand beside an amount and is a currency.
 const CURRENCIES: &str =

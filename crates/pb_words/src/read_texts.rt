@@ -2,11 +2,11 @@
 //! to do. They are in the order in which `ReadKind` declares the faults.
 
 /// What to do about a row that may be a note, in each text that has `{}` in its place.
-pub(crate) const NOTE: &str =
+pub const NOTE: &str =
     "Compare the number of rows with the number of ballots or projects. If rows are missing, get the whole table: a note may count pages or rows (`1 of 3`, `12 more`), or name a filter. If a note says which rows do not count, or what signs or amounts mean, ask before you go on. If this is only a heading, a total or a note, delete it.";
 
 /// What to do about voters whose ids are those of projects.
-pub(crate) const OWN_ROWS: &str =
+pub const OWN_ROWS: &str =
     "The ids of votes may stand in rows of their own, each below its voter. Look at the ballots, and write these ids into the column `vote` of their voters. Don't delete or join rows before that.";
 
 /// What to do about a row that may be of another table, in place of a second `{}`.

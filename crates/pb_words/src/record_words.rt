@@ -10,11 +10,11 @@ use crate::row_causes::{ESCAPED, SPACED, cut_cause};
 use crate::section::{due_at_end, end_remedy};
 use crate::unknown_texts::{LATE_PROJECT, is_cut_code};
 use pb_read::Stage;
+use pb_seen::changed::is_one_of;
+use pb_seen::fields::{JoinedBy, column_of};
+use pb_seen::heads::{head_of, section_of};
 use pb_witness::cause::Cause;
-use pb_witness::changed::is_one_of;
 use pb_witness::faulty_record::FaultyRecord;
-use pb_witness::fields::{JoinedBy, column_of};
-use pb_witness::heads::{head_of, section_of};
 use pb_witness::quote::{Span, span_of};
 
 /// What columns are called that have ranks or points.

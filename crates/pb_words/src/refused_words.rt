@@ -4,8 +4,8 @@ use crate::file_words::{FOLDER, NO_MEMORY};
 use crate::mark_words::put_swallower;
 use crate::prelude::*;
 use pb_script::{RollFault, RowRefusal};
+use pb_seen::fields::JoinedBy;
 use pb_witness::failures::is_folder;
-use pb_witness::fields::JoinedBy;
 
 /// A row that a desk refuses by its rules.
 #[derive(Clone, Copy)]

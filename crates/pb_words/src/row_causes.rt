@@ -8,10 +8,10 @@ use crate::unknown_texts::{
 use crate::unknown_words::is_of_other_alphabet;
 use pb_core::money::Money;
 use pb_read::Column;
+use pb_seen::changed::{Difference, has_word, is_digits, is_one_of};
+use pb_seen::fields::raw_text;
 use pb_witness::cause::Cause;
-use pb_witness::changed::{Difference, has_word, is_digits, is_one_of};
 use pb_witness::faulty_record::{FaultyRecord, has_other_line_end, is_spaced_mark};
-use pb_witness::fields::raw_text;
 use pb_witness::known::FoundCause;
 use pb_witness::quote::Span;
 
@@ -27,7 +27,7 @@ pub(crate) const ESCAPED: &str =
 pub(crate) const SPACED: &str = "Delete the space between `;` and the quotation mark.\n";
 
 /// What to do about a vote of zeros and ones.
-pub(crate) const OF_MARKS: &str =
+pub const OF_MARKS: &str =
     "The vote is a row of zeros and ones: it may have a 1 for each project that the voter chose, in the order of a list. If so, find out that order, and write in all votes the ids of the projects with a 1. If not, look at the ballots.\n";
 
 /// What to do about votes with commas as in an address of the web, with marks of a program before them, with ids and names, and as
@@ -67,7 +67,7 @@ fn is_of_boxes(vote: &str) -> bool {
 }
 
 /// Whether a vote is zeros and ones alone, three or more.
-pub(crate) fn is_of_marks(vote: &str) -> bool {
+pub fn is_of_marks(vote: &str) -> bool {
     let is_mark = |piece: &str| matches!(piece.trim(), "0" | "1");
     vote.split(',').count() > 2 && vote.split(',').all(|piece| is_mark(piece))
 }
@@ -101,7 +101,7 @@ fn written_by(vote: &str) -> Option<&'static str> {
 
 /// What to do about a row with more fields than there are column names, if it shows why: line ends of another kind, a code
 /// of a web page, or quotation marks that are not read as such.
-pub(crate) fn cut_cause(record: &ByteRecord, span: Span) -> Option<&'static str> {
+pub fn cut_cause(record: &ByteRecord, span: Span) -> Option<&'static str> {
     if has(record, |field| has_other_line_end(field)) {
         Some(LINE_ENDS)
     } else if has(record, |field| is_cut_code(field)) {

@@ -3,7 +3,7 @@
 use crate::prelude::*;
 use pb_desk::desk::MOST_CLERKS;
 use pb_desk::row_flaw::{Condition, RowFlaw};
-use pb_witness::fields::number_in;
+use pb_seen::fields::number_in;
 
 /// The fields of a script's row.
 pub(crate) const SCRIPT_FIELDS: &[&str] = &["clerk", "request", "voter", "places"];

@@ -9,7 +9,7 @@ use crate::row_words::{SCRIPT_FIELDS, broken, put_clerk_remedy, put_field_count,
 use pb_desk::desk::MOST_CLERKS;
 use pb_desk::row_flaw::{Condition, flaw_of_script_row};
 use pb_script::ScriptFault;
-use pb_witness::fields::{is_of_journal, joined};
+use pb_seen::fields::{is_of_journal, joined};
 use pb_witness::last_rows::LastRows;
 
 /// How a run takes the rows of a script.

@@ -3,9 +3,9 @@
 use crate::faulty_record::BY_COLUMN;
 use crate::read_rules::words_of;
 use pb_read::ReadKind;
+use pb_seen::changed::Difference;
+use pb_seen::changed::Difference::{Hidden, Zeros};
 use pb_witness::cause::Cause;
-use pb_witness::changed::Difference;
-use pb_witness::changed::Difference::{Hidden, Zeros};
 
 pub(crate) const LATE_PROJECT: &str =
     "This row looks like a project. If it is one, move it above the heading VOTES. If not, ask whoever made the file.\n";

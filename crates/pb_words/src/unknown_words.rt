@@ -10,10 +10,11 @@ use crate::unknown_texts::{
     difference, remedy_of, what_of,
 };
 use pb_read::Column;
-use pb_witness::cause::{Cause, comes_next, odd_letter};
-use pb_witness::changed::Difference::{Hidden, Zeros};
-use pb_witness::changed::{Difference, has_one_of, is_one_of, without_hidden};
-use pb_witness::fields::{column_of, number_in};
+use pb_seen::amounts::comes_next;
+use pb_seen::changed::Difference::{Hidden, Zeros};
+use pb_seen::changed::{Difference, has_one_of, is_one_of, without_hidden};
+use pb_seen::fields::{column_of, number_in};
+use pb_witness::cause::{Cause, odd_letter};
 use pb_witness::known::FoundCause;
 use pb_witness::unknown::Votes;
 

@@ -1,7 +1,7 @@
 //! Words that are being written: text from outside is made fit for a terminal.
 
 use pb_core::money::put_amount;
-use pb_witness::faulty_record::{is_hidden, is_plain};
+use pb_seen::changed::{is_hidden, is_plain};
 use std::alloc::{AllocError, Global};
 use std::io::Error;
 use std::str;
@@ -67,7 +67,7 @@ impl WordsWriter {
     }
 
     /// Says that memory was refused.
-    pub(crate) fn fail(&mut self) {
+    pub fn fail(&mut self) {
         self.is_whole = false;
     }
 

@@ -1,0 +1,11 @@
+//! What most files use.
+
+pub(crate) use csv::ByteRecord;
+pub(crate) use pb_core::election::Election;
+pub(crate) use pb_oddities::oddities::{Odd, Oddities};
+pub(crate) use pb_oddities::row::Row;
+pub(crate) use pb_read::{Column, Oddity, Part, Section, Stage};
+pub(crate) use pb_seen::fields::text_at;
+pub(crate) use pb_seen::firsts::Firsts;
+pub(crate) use pb_seen::mark::Mark;
+pub(crate) use std::alloc::{AllocError, Global};
