@@ -96,6 +96,7 @@ PINNED = {
     ("pb_reasons", "Money", "money_of"): ("pb_reasons", "largest_payments_are_their_words"),
     ("pb_reasons", "AllTies", "is_same_pair"): ("pb_reasons", "different_ties_are_their_words"),
     ("pb_reasons", "AllTies", "different"): ("pb_reasons", "different_ties_are_their_words"),
+    ("pb_reasons", "AllTies", "all_ties"): ("pb_reasons", "all_ties_are_their_words"),
     ("pb_reasons", "AllTies", "runs_of"): ("pb_reasons", "ties_are_their_words"),
     ("pb_reasons", "Ties", "is_tied"): ("pb_reasons", "ties_are_their_words"),
     ("pb_reasons", "Ties", "ties_in"): ("pb_reasons", "ties_are_their_words"),

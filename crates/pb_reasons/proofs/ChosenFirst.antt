@@ -190,8 +190,8 @@ module _ (x : CountedElectionView) (is : IsCountedElection x) where
   in_answered : All IsChosenFirst (answered_ties x)
   unfolding answered_ties
   in_answered =
-      All-take IsChosenFirst 100 (run_ties x x.counted.outcome.raised ++ added_ties x)
-      (All-append IsChosenFirst (run_ties x x.counted.outcome.raised) (added_ties x) (run_later x.counted.outcome.raised) all_added_later)
+      let of_run : ToldTie → Bool = λ t. t.run == x.counted.outcome.raised in
+      All-take IsChosenFirst 100 (filter of_run (all_ties x)) (All-filter of_run IsChosenFirst (all_ties x) in_all)
 
   pub chosen_come_first : All IsChosenFirst (all_ties x ++ answered_ties x)
   chosen_come_first = All-append IsChosenFirst (all_ties x) (answered_ties x) in_all in_answered

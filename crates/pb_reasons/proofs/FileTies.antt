@@ -6,7 +6,7 @@ use Rattle.std.proofs.lemmas.Bool.{cases_Bool, cases_eq, eq-eqb, ne_eqb}
 use Rattle.std.proofs.lemmas.List.FromFn.{get_or-range_with_len, length-range_with_len}
 use Rattle.std.proofs.lemmas.Simd.{map-map}
 use Rattle.pb_core.specs.Order.{position_in}
-use Rattle.pb_reasons.specs.AllTies.{told}
+use Rattle.pb_reasons.specs.AllTies.{told_as}
 use Rattle.pb_reasons.specs.CountedElection.{CountedElectionView, IsCountedElection}
 use Rattle.pb_reasons.specs.Inner.AllTies.{told_with}
 use Rattle.pb_reasons.specs.declared.tie.Tie.{Tie}
@@ -86,7 +86,7 @@ module _ (round : Option ℕ) (winner : ℕ) where
 
   -- ties that are told by the other's place in the file
   pub told_is : (x : CountedElectionView) (run number : ℕ) (test : ℕ → Bool) (n : ℕ) → IsCountedElection x → n ≡ length x.election.projects
-      → told x run number (map tie (filter test (range_with_len 0 n))) ≡ told_with x (record { run = run; number = number; tie = tie winner }) test
+      → told_as x run number (map tie (filter test (range_with_len 0 n))) ≡ told_with x (record { run = run; number = number; tie = tie winner }) test
   told_is x run number test n is many =
       let all = length x.election.projects in
       let position = position_in x.order in

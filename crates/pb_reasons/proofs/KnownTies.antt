@@ -11,7 +11,7 @@ use Rattle.pb_price.specs.Supporters.{support_in, support_of}
 use Rattle.pb_rounds.specs.Cheapest.{rests_after}
 use Rattle.pb_rounds.specs.Count.{share_by, step_of}
 use Rattle.pb_rounds.specs.Run.{ElectedView, outcome_of}
-use Rattle.pb_reasons.specs.AllTies.{added_ties, all_ties, run_ties, runs_of, told}
+use Rattle.pb_reasons.specs.AllTies.{added_ties, all_ties, run_ties, runs_of, told_as}
 use Rattle.pb_reasons.specs.CountedElection.{CountedElectionView, IsCountedElection, in_file}
 use Rattle.pb_reasons.specs.Inner.AllTies.{IsTieOf, round_ties, ties_at_added}
 use Rattle.pb_reasons.specs.Ties.{is_tied, ties_in, ties_with_added}
@@ -62,7 +62,7 @@ module _ (x : CountedElectionView) (is : IsCountedElection x) where
       subst (λ other. other < n) (sym (eqb-true _ _ (filter_passes (λ (t : Tie). t.other == place) ties k d within))) below,
     )
 
-    told_known : (run number : ℕ) → All IsKnown (told x run number ties)
+    told_known : (run number : ℕ) → All IsKnown (told_as x run number ties)
     told_known run number =
         All-map IsKnown (λ t. record { run = run; number = number; tie = t }) (flat_map at (in_file x))
         (all_of_each (IsTieOf x.election) at (in_file x) (λ k d below. at_known (get_or (in_file x) k d) (in_file_known k d below)))

@@ -23,6 +23,7 @@ pub mod AllWinners
 pub mod TieQueue
 pub mod TiedRounds
 pub mod AllTies
+mod AllTiesWords
 pub mod TieOrder
 pub mod Rooms
 pub mod Spendings

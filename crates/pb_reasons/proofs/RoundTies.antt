@@ -16,7 +16,7 @@ use Rattle.pb_rounds.specs.Run.{ElectedView, RunView, is_elected, outcome_of}
 use Rattle.pb_rounds.specs.declared.measure.Measure.{Measure}
 use Rattle.pb_rounds.proofs.Payers.{run_has_payers}
 use Rattle.pb_rounds.proofs.RunIs.{only_run}
-use Rattle.pb_reasons.specs.AllTies.{run_ties, told}
+use Rattle.pb_reasons.specs.AllTies.{run_ties, told_as}
 use Rattle.pb_reasons.specs.Counted.{winners_of}
 use Rattle.pb_reasons.specs.CountedElection.{CountedElectionView, IsCountedElection}
 use Rattle.pb_reasons.specs.Inner.AllTies.{is_equal_to, round_ties, ties_at_added, told_with}
@@ -106,7 +106,7 @@ module _ (x : CountedElectionView) (is : IsCountedElection x) where
       let first : ToldTie = record { run = run; number = i + 1; tie = record { round = Some (i + 1); winner = w.place; other = w.place } } in
       told_of x first test (length s.costs) is many
       ∙ sym (told_is (Some (i + 1)) w.place x run (i + 1) test (length s.costs) is many)
-      ∙ ap (told x run (i + 1)) (here_is m s share elected i w below w_is rests rests_are)
+      ∙ ap (told_as x run (i + 1)) (here_is m s share elected i w below w_is rests rests_are)
 
   -- the rows of an added project
   pub added_rows : (number winner : ℕ) (taken : List ℕ) → taken ≡ winners_of (record x.counted { added = take (number + 1) x.counted.added })

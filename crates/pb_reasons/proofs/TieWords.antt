@@ -27,13 +27,13 @@ use Rattle.pb_reasons.specs.declared.payment.Payment.{Payment}
 use Rattle.pb_reasons.specs.declared.tie.Tie.{Tie}
 
 -- what a list has that is made of another
-from_map : {X Y : Type 0} (f : X → Y) (d : X) (xs : List X) (y : Y) → Contains (map f xs) y → (x : X) × Contains xs x × (f x ≡ y)
+pub from_map : {X Y : Type 0} (f : X → Y) (d : X) (xs : List X) (y : Y) → Contains (map f xs) y → (x : X) × Contains xs x × (f x ≡ y)
 from_map f d xs y (k, below, here) =
     let within : k < length xs = omega (arith, below, length-map xs f) in
     let x = get_or xs k d in
     (x, (k, within, get_or_default xs k x d within), sym (get_or-map f xs k d y within) ∙ here)
 
-to_map : {X Y : Type 0} (f : X → Y) (xs : List X) (x : X) → Contains xs x → Contains (map f xs) (f x)
+pub to_map : {X Y : Type 0} (f : X → Y) (xs : List X) (x : X) → Contains xs x → Contains (map f xs) (f x)
 to_map f xs x (k, below, here) = (k, omega (arith, below, length-map xs f), get_or-map f xs k x (f x) below ∙ ap f here)
 
 others_are : (f : ℕ → Tie) → ((place : ℕ) → (f place).other ≡ place) → (places : List ℕ) → map (λ (t : Tie). t.other) (map f places) ≡ places
@@ -152,7 +152,7 @@ kept_was_there y x kept ys true later (suc k, below, here) =
     let (j, within, there) = later (k, omega (arith, below), here) in (suc j, omega (arith, within), there)
 kept_was_there y x kept ys false later found = let (j, within, there) = later found in (suc j, omega (arith, within), there)
 
-was_there : {X : Type 0} (p : X → Bool) (xs : List X) (x : X) → Contains (filter p xs) x → Contains xs x
+pub was_there : {X : Type 0} (p : X → Bool) (xs : List X) (x : X) → Contains (filter p xs) x → Contains xs x
 was_there p [] x found = found
 was_there p (y ∷ ys) x found = kept_was_there y x (filter p ys) ys (p y) (was_there p ys x) found
 
@@ -160,7 +160,7 @@ kept_by : {X : Type 0} (y x : X) (kept : List X) (b : Bool) → Contains kept x 
 kept_by y x kept true (k, below, here) = (suc k, omega (arith, below), here)
 kept_by y x kept false found = found
 
-is_kept : {X : Type 0} (p : X → Bool) (xs : List X) (x : X) → Contains xs x → p x ≡ true → Contains (filter p xs) x
+pub is_kept : {X : Type 0} (p : X → Bool) (xs : List X) (x : X) → Contains xs x → p x ≡ true → Contains (filter p xs) x
 is_kept p [] x (k, below, here) passes = absurd (omega (arith, below))
 is_kept p (y ∷ ys) x (zero, below, here) passes = rw (ap p here ∙ passes) (zero, omega arith, here)
 is_kept p (y ∷ ys) x (suc k, below, here) passes = kept_by y x (filter p ys) (p y) (is_kept p ys x (k, omega (arith, below), here) passes)

@@ -24,29 +24,29 @@ runs_of x = let raised = x.counted.outcome.raised in
     raised + (if is_some (count_of x.election (record x.rule.options { max_raises = raised })) then 1 else 2)
 
 -- these ties of a run, with this number, in the order in which the other projects stand in the file
-abbrev pub told : CountedElectionView → (run number : ℕ) → List Tie → List ToldTie
-told x run number ties = map (λ t. record { run = run; number = number; tie = t })
+abbrev pub told_as : CountedElectionView → (run number : ℕ) → List Tie → List ToldTie
+told_as x run number ties = map (λ t. record { run = run; number = number; tie = t })
     (flat_map (λ place. filter (λ t. t.other == place) ties) (in_file x))
 
 -- the ties of each round of a run
 abbrev pub run_ties : CountedElectionView → ℕ → List ToldTie
 run_ties x run = let options = x.rule.options in let share = share_by options.completion options.grain x.election (step_of x.election options) run in
     let elected = (outcome_of options.measure options.grain x.election share).elected in
-    flat_map (λ round. told x run (round + 1)
+    flat_map (λ round. told_as x run (round + 1)
     (ties_in options.measure (support_in options.grain x.election) share elected round)) (range_with_len 0 (length elected))
 
 -- the ties of each added project, as if it were the last
 abbrev pub added_ties : CountedElectionView → List ToldTie
-added_ties x = let c = x.counted in flat_map (λ number. told x c.outcome.raised (number + 1) (ties_with_added
+added_ties x = let c = x.counted in flat_map (λ number. told_as x c.outcome.raised (number + 1) (ties_with_added
     (support_of x.election) (record c { added = take (number + 1) c.added }) (slice_index c.added number)))
     (range_with_len 0 (length c.added))
 
 unfoldable pub all_ties : CountedElectionView → List ToldTie
 all_ties x = flat_map (run_ties x) (range_with_len 0 (runs_of x)) ++ added_ties x
 
--- the first hundred of the answered run and of the added
+-- the first hundred of those of the answered run, the added ones too
 unfoldable pub answered_ties : CountedElectionView → List ToldTie
-answered_ties x = take 100 (run_ties x x.counted.outcome.raised ++ added_ties x)
+answered_ties x = take 100 (filter (λ t. t.run == x.counted.outcome.raised) (all_ties x))
 
 -- with just the two projects of a tie exchanged others win, or the count is refused; or the same win
 unfoldable pub Changes : CountedElectionView → Tie → Bool → Type 0

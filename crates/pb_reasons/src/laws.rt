@@ -2,7 +2,7 @@
 
 ghost use Rattle.std.specs.Prelude.{◌≡◌, ◌≢◌, [], ◌⊎◌, ◌↔◌, ◌+◌, ◌-◌, ◌*◌, ◌<◌, ◌≤◌, ℕ, All, AllPairs, Contains};
 ghost use Rattle.std.specs.Prelude.{List, false, length, map, slice_index, sum_by, ◌∷◌, ◌++◌, ◌==◌, None, Some};
-ghost use Rattle.std.specs.Prelude.{filter, replicate, slice_get, take, true};
+ghost use Rattle.std.specs.Prelude.{filter, is_some, replicate, slice_get, take, true};
 ghost use Rattle.std.specs.List.{Any};
 ghost use Rattle.std.specs.List.Sorted.{IsStrictlyIncreasing};
 ghost use Rattle.pb_core.specs.Election.{ElectionView, IsElection};
@@ -19,6 +19,7 @@ ghost use Rattle.pb_price.specs.Grain.{in_parts};
 ghost use Rattle.pb_price.specs.declared.grain.Grain.TheVariants.{Fine, Hundredths};
 ghost use Rattle.pb_rounds.specs.Cheapest.{rests_after};
 ghost use Rattle.pb_rounds.specs.Completed.{IsExhausted};
+ghost use Rattle.pb_rounds.specs.Count.{share_by, step_of};
 ghost use Rattle.pb_reasons.specs.Fairness.{losers, needed, spent};
 ghost use Rattle.pb_reasons.specs.Money.{money_of};
 ghost use Rattle.pb_reasons.specs.Reasons.{paid_for, round_of, voter_payments};
@@ -30,7 +31,7 @@ ghost use Rattle.pb_reasons.specs.declared.told_tie.ToldTie.{ToldTie};
 ghost use Rattle.pb_rounds.specs.Counted.{IsCountFault, IsCountOf};
 ghost use Rattle.pb_rounds.specs.Outcome.{OutcomeView};
 ghost use Rattle.pb_rounds.specs.declared.count_fault.CountFault.TheVariants.{RaisesSpent};
-ghost use Rattle.pb_rounds.specs.Run.{ElectedView, is_elected, payment_of, weight_of};
+ghost use Rattle.pb_rounds.specs.Run.{ElectedView, is_elected, outcome_of, payment_of, weight_of};
 ghost use Rattle.pb_rounds.specs.declared.measure.Measure.{Measure};
 ghost use Rattle.pb_rounds.specs.declared.options.Completion.TheVariants.{Add1, NoShares};
 ghost use Rattle.pb_rounds.specs.declared.rule.FillUp.TheVariants.{MostVotes};
@@ -114,6 +115,26 @@ pub fn ties_are_their_words()
         → runs_of x ≡ o.raised + 1)
         × (x.rule.options.completion ≡ Add1 → (¬ IsExhausted (support_in x.rule.options.grain x.election) x.election.budget o.elected)
         → runs_of x ≡ o.raised + 2) }
+{}
+
+/// Which ties are told, and in which order: each tie of a round of a run, with the numbers of the run, from 0, and of the
+/// round, from 1; and each tie of an added project, with the number of the answered run and the project's number among the
+/// added, from 1. They come run by run, round by round, and in the order in which the other projects stand in the file;
+/// those of the added come last.
+pub fn all_ties_are_their_words()
+    ensures told { (x : CountedElectionView) (t : ToldTie) → IsCountedElection x → let o = x.rule.options in
+        let share = share_by o.completion o.grain x.election (step_of x.election o) t.run in
+        let elected = (outcome_of o.measure o.grain x.election share).elected in let c = x.counted in
+        Contains (all_ties x) t ↔ (((t.run < runs_of x) × ((round : ℕ) × (t.number ≡ round + 1)
+        × Contains (ties_in o.measure (support_in o.grain x.election) share elected round) t.tie))
+        ⊎ ((t.run ≡ c.outcome.raised) × ((number : ℕ) × (number < length c.added) × (t.number ≡ number + 1)
+        × Contains (ties_with_added (support_of x.election) (record c { added = take (number + 1) c.added })
+        (slice_index c.added number)) t.tie))) }
+    ensures in_order { (x : CountedElectionView) → IsCountedElection x → AllPairs (λ (t u : ToldTie).
+        ((is_some t.tie.round ≡ true) × (u.tie.round ≡ None))
+        ⊎ ((is_some t.tie.round ≡ is_some u.tie.round) × ((t.run < u.run) ⊎ ((t.run ≡ u.run)
+        × ((t.number < u.number) ⊎ ((t.number ≡ u.number)
+        × (slice_index x.order t.tie.other < slice_index x.order u.tie.other))))))) (all_ties x) }
 {}
 
 /// Which ties are different. Two are of the same pair if they have the same winner and the same other project. One tie

@@ -5,7 +5,7 @@ use Rattle.std.specs.List.{list_any, range_with_len}
 use Rattle.pb_core.specs.Election.{ElectionView}
 use Rattle.pb_core.specs.Order.{position_in}
 use Rattle.pb_price.specs.Supporters.{SupportView, cost_at, support_in, support_of}
-use Rattle.pb_reasons.specs.AllTies.{Changes, different, is_same_pair, told}
+use Rattle.pb_reasons.specs.AllTies.{Changes, different, is_same_pair, told_as}
 use Rattle.pb_reasons.specs.Counted.{winners_of}
 use Rattle.pb_reasons.specs.CountedElection.{CountedElectionView, IsCountedElection}
 use Rattle.pb_reasons.specs.Inner.Comparing.{AreFlags}
@@ -29,12 +29,12 @@ told_with x first ties = map (λ place. with_other first (position_in x.order pl
 
 -- the ties of a round, from 0, of a run at this share that elects these
 abbrev pub round_ties : CountedElectionView → (run share : ℕ) → List ElectedView → ℕ → List ToldTie
-round_ties x run share elected round = told x run (round + 1)
+round_ties x run share elected round = told_as x run (round + 1)
     (ties_in x.rule.options.measure (support_in x.rule.options.grain x.election) share elected round)
 
 -- those of an added project, from 0
 abbrev pub ties_at_added : CountedElectionView → ℕ → List ToldTie
-ties_at_added x number = told x x.counted.outcome.raised (number + 1) (ties_with_added (support_of x.election)
+ties_at_added x number = told_as x x.counted.outcome.raised (number + 1) (ties_with_added (support_of x.election)
     (record x.counted { added = take (number + 1) x.counted.added }) (slice_index x.counted.added number))
 
 -- a project is not taken, and has the votes and the cost of another one

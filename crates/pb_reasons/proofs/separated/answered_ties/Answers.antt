@@ -7,6 +7,7 @@ use Rattle.pb_rounds.specs.Outcome.{OutcomeView}
 use Rattle.pb_reasons.specs.AllTies.{added_ties, answered_ties, run_ties}
 use Rattle.pb_reasons.specs.declared.told_tie.ToldTie.{ToldTie}
 use Rattle.pb_reasons.proofs.AllTies.{small_share}
+use Rattle.pb_reasons.proofs.AllTiesWords.{answered_are}
 use Rattle.pb_reasons.proofs.TiedRounds.{take_again}
 use Rattle.pb_reasons.proofs.separated.answered_ties.Goals as goal
 
@@ -35,3 +36,4 @@ returns c =
     (c.in_ok-put_rounds.ensures ∙ ap (λ (old : List ToldTie). take 100 (old ++ run_ties x c.outcome.inside.raised)) c.new.ensures.items
     ∙ ap (λ run. take 100 (run_ties x run)) raised)
     ∙ take_again 100 (run_ties x x.counted.outcome.raised) (added_ties x)
+    ∙ ap (take 100) (sym (answered_are x))
