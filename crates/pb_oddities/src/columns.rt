@@ -8,6 +8,14 @@ use pb_seen::changed::{has_word, is_digits, is_one_of};
 /// The fewest dates of votes that META excludes.
 const FEWEST_DATES: u64 = 5;
 
+/// The fewest rows that all name one other district than META.
+const FEWEST_VOTERS: u64 = 8;
+
+/// The forms of an oddity by a district that all rows have, and META has not, and by a currency.
+const OTHER_DISTRICT: usize = 12;
+
+const OTHER_CURRENCY: usize = 13;
+
 /// How many columns of a section are looked at: an office's sheet has fewer.
 pub const MOST_COLUMNS: usize = 100;
 
@@ -168,6 +176,9 @@ impl FurtherColumn {
             }
             Has::Ballots => {}
             Has::Currencies if value.is_empty() => {}
+            Has::Currencies if self.first.is_none() && differs(row.currency, value) => {
+                self.tell(odd.in_form(OTHER_CURRENCY), found)
+            }
             Has::Valid
             | Has::ValidOrMore
             | Has::Rounds
@@ -183,7 +194,7 @@ impl FurtherColumn {
                 self.within = self.within.saturating_add(1);
             }
             Has::Districts if value.is_empty() || has_word(value, row.district) => {}
-            Has::Districts => self.further = Some(odd.behind(self.further)),
+            Has::Districts => return self.take_district(value, is_vote, odd),
         }
         Ok(())
     }
@@ -261,6 +272,17 @@ impl FurtherColumn {
         }
     }
 
+    /// Takes a district that is not META's; whether all voters have the same one is seen where there are several.
+    fn take_district(&mut self, value: &str, is_vote: bool, odd: Odd) -> Result<(), AllocError> {
+        if self.further.is_none() && is_vote {
+            self.value.push_str(value)?;
+        }
+        let is_same = value.eq_ignore_ascii_case(self.value.as_str());
+        self.other = self.other.saturating_add(u64::from(!is_same));
+        self.further = Some(odd.behind(self.further));
+        Ok(())
+    }
+
     /// The first row with another value, as odd so if three others for each such are what they should be, or if nearly all dates
     /// are far from META's.
     fn told(&self, odd: Odd) -> Option<Odd> {
@@ -269,11 +291,13 @@ impl FurtherColumn {
             && self.other >= FEWEST_DATES
             && self.other.saturating_mul(10) >= self.count.saturating_mul(9);
         let are_most = self.within >= odd.number.saturating_mul(3);
+        let is_other = self.within == 0 && self.other == 0 && odd.number >= FEWEST_VOTERS;
         match self.has {
             Has::Units => Some(odd),
             Has::Dates if are_far => Some(odd),
             Has::Dates if are_most && self.within >= FEWEST_DATES => Some(odd.in_form(OUTSIDE)),
             Has::Districts if are_most => Some(odd),
+            Has::Districts if is_other => Some(odd.in_form(OTHER_DISTRICT)),
             _ => None,
         }
     }
@@ -304,6 +328,11 @@ pub fn places_of(row: &ByteRecord, column: Column) -> (usize, u64) {
 pub fn is_money(value: &str) -> bool {
     let mut words = value.split(|c: char| c.is_whitespace() || "().,/".contains(c));
     !value.is_empty() && words.all(|word| word.is_empty() || is_one_of(UNITS, word))
+}
+
+/// Whether META names a currency, and a row another one.
+fn differs(currency: &str, value: &str) -> bool {
+    !currency.is_empty() && !value.eq_ignore_ascii_case(currency)
 }
 
 /// Whether a value is the answer of a check.

@@ -92,8 +92,9 @@ pub struct Row<'a> {
     pub names: &'a Firsts,
     /// What META asks of it.
     pub limits: &'a Limits,
-    /// The district that META names; empty if it names none.
+    /// The district and the currency that META names; empty if it names none.
     pub district: &'a str,
+    pub currency: &'a str,
     /// The places of the projects that its vote names.
     pub ballot: &'a [u32],
 }

@@ -9,5 +9,7 @@ pub mod carried_forward;
 pub mod meta_oddities;
 mod prelude;
 pub mod project_oddities;
+pub mod sums;
 pub mod twins;
 pub mod value_columns;
+pub mod withdrawn;

@@ -1,6 +1,7 @@
 //! What in META can change a result, and what META says that other warnings rest on.
 
 use crate::prelude::*;
+use crate::sums::{is_below_costs, is_below_most, may_be_sum, sum_below_budget};
 use pb_core::money_fault::MoneyFault;
 use pb_core::project::Project;
 use pb_oddities::column_kinds::{DISTRICT, LATER};
@@ -19,14 +20,6 @@ const NO_DISTRICT: &str =
     leftover|remaining|rest|reserve|available|previous|last|next|year|final|id|phase|code|number|no|\
     version|share|edition|eur|euro|usd|gbp|pln|chf|czk|huf|ron|bgn|sek|nok|dkk|isk|uah|rub|try|cad|aud|\
     jpy|cny|krw|inr|brl|mxn|zar|capita|resident|inhabitant|person|head|citizen|household|voter|pupil";
-
-/// The fewest projects of which most should not cost more than the budget.
-const MANY: usize = 5;
-
-/// The fewest projects whose sum may stand in place of an amount, and the most digits of one.
-const SUMMED: usize = 4;
-
-const DIGITS: u32 = 18;
 
 /// What META's third column is called if it has values of keys.
 const VALUES: &str =
@@ -74,8 +67,9 @@ pub struct MetaOddities {
     third_is_other: bool,
     /// The fewest ballots that have to approve a project, where META says so.
     pub fewest: Option<u64>,
-    /// The district that the file is of; empty if META names none.
+    /// The district that the file is of, and the currency of its amounts; empty if META names none.
     pub district: String,
+    pub currency: String,
     /// The value of `rule`; empty if there is none.
     rule: String,
     rule_mark: Mark,
@@ -106,6 +100,7 @@ impl MetaOddities {
             third_is_other: false,
             fewest: None,
             district: String::new(alloc),
+            currency: String::new(alloc),
             rule: String::new(alloc),
             rule_mark: Mark::start(),
             budget: Mark::start(),
@@ -205,13 +200,13 @@ impl MetaOddities {
         } else if value.is_empty() && has_used_key(key) {
             found.take(Odd::of_key(Oddity::RepeatedKey, mark).in_form(9));
         } else if key.eq_ignore_ascii_case("rule") {
-            let rule = String::from_str(self.alloc, value)?;
-            drop(mem::replace(&mut self.rule, rule));
+            put_in_place(self.alloc, &mut self.rule, value)?;
             self.rule_mark = mark;
         } else {
             if is_one_of(DISTRICT, key) {
-                let district = String::from_str(self.alloc, value)?;
-                drop(mem::replace(&mut self.district, district));
+                put_in_place(self.alloc, &mut self.district, value)?;
+            } else if key.eq_ignore_ascii_case("currency") {
+                put_in_place(self.alloc, &mut self.currency, value)?;
             }
             self.take_further(key, value, mark);
             if is_of_length(key) {
@@ -305,77 +300,6 @@ fn take_broken(oddity: Oddity, claim: Option<ClaimedNumber>, count: u64, found: 
         limit: claim.number,
         ..Odd::of_key(oddity, claim.mark).by(count).in_form(form)
     });
-}
-
-/// Whether there are projects, and the budget is less than what each of them costs.
-fn is_below_costs(election: &Election) -> bool {
-    let count = above_budget(election);
-    count > 0 && count == election.projects().len()
-}
-
-/// Whether there are five projects or more, and the budget is less than what more than half of them cost.
-fn is_below_most(election: &Election) -> bool {
-    let count = election.projects().len();
-    count >= MANY && above_budget(election).saturating_mul(2) > count
-}
-
-/// How many projects cost more than the budget.
-fn above_budget(election: &Election) -> usize {
-    let budget = election.budget().0;
-    let projects = election.projects().iter();
-    projects.filter(|project| project.cost().0 > budget).count()
-}
-
-/// Whether these projects, four or more, of which most cost something else than the one before, cost just this amount
-/// together, and it is not rounder than their costs: then it may be their sum.
-pub fn may_be_sum(projects: &[Project], amount: u64) -> bool {
-    let (mut sum, mut before, mut differ) = (0u64, 0u64, 0usize);
-    for project in projects {
-        let cost = project.cost().0;
-        sum = sum.saturating_add(cost);
-        differ = differ.saturating_add(usize::from(cost != before));
-        before = cost;
-    }
-    if sum != amount || projects.len() < SUMMED || differ.saturating_mul(2) <= projects.len() {
-        return false;
-    }
-    projects
-        .iter()
-        .all(|project| zeros_of(amount) <= zeros_of(project.cost().0))
-}
-
-/// In how many zeros an amount ends, in hundredths.
-fn zeros_of(amount: u64) -> u64 {
-    let (mut rest, mut zeros) = (amount, 0u64);
-    for _ in 0..DIGITS {
-        if rest == 0 || rest % 10 != 0 {
-            return zeros;
-        }
-        rest /= 10;
-        zeros = zeros.saturating_add(1);
-    }
-    zeros
-}
-
-/// What all projects cost together.
-pub fn sum_of_costs(election: &Election) -> u64 {
-    let projects = election.projects().iter();
-    projects.fold(0, |sum: u64, project| sum.saturating_add(project.cost().0))
-}
-
-/// What all projects cost together, if there are any and it is less than a hundredth of the budget; or less
-/// than a tenth, and a hundredth of the budget is more than each cost, as where the budget is in cents.
-fn sum_below_budget(election: &Election) -> Option<(u64, usize)> {
-    let (sum, budget) = (sum_of_costs(election), election.budget().0);
-    let are_below = |times: u64, amount: u64| amount.saturating_mul(times) < budget;
-    let mut projects = election.projects().iter();
-    let are_all_below = projects.all(|project| are_below(100, project.cost().0));
-    match sum {
-        0 => None,
-        _ if are_below(100, sum) => Some((sum, 0)),
-        _ if are_below(10, sum) && are_all_below => Some((sum, 1)),
-        _ => None,
-    }
 }
 
 /// The row of a key that may be meant for `max_length`, if this is not there, and some ballots name more projects, but
@@ -495,4 +419,10 @@ fn approvals_of(election: &Election) -> u64 {
 fn hundredths(value: &str) -> Option<u64> {
     let Money(hundredths) = Money::read(value).ok()?;
     (hundredths > 0).then_some(hundredths)
+}
+
+/// Puts a text in place of another.
+fn put_in_place(alloc: Global, text: &mut String, other: &str) -> Result<(), AllocError> {
+    drop(mem::replace(text, String::from_str(alloc, other)?));
+    Ok(())
 }

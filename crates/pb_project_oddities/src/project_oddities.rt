@@ -3,19 +3,18 @@
 use crate::approvals::Approvals;
 use crate::begun::take_begun;
 use crate::carried_forward::ProjectsAbove;
-use crate::meta_oddities::{may_be_sum, sum_of_costs};
 use crate::prelude::*;
+use crate::sums::{largest_in_thousands, may_be_sum, sum_of_costs};
 use crate::twins::Twins;
 use crate::value_columns::ValueColumns;
+use crate::withdrawn::says_withdrawn;
 use pb_oddities::columns::FurtherColumns;
 use pb_oddities::entities::take_entity;
 use pb_oddities::names_row::NamesRow;
 use pb_oddities::totals::has_total;
 use pb_oddities::unread::Unread;
 use pb_seen::amounts::{has_decimals, has_thousands_mark, whole_number};
-use pb_seen::changed::{
-    begins, first_word, has_digit, has_one_of, has_part, is_digits, is_one_of, is_power, last_word,
-};
+use pb_seen::changed::{begins, has_digit, is_digits, is_one_of, is_power};
 use pb_seen::fields::{has_byte, has_lines};
 use pb_seen::firsts::names_other;
 
@@ -35,13 +34,10 @@ const FEWEST_VOTERS: usize = 3;
 /// What columns are called that name a part of the city.
 const DISTRICTS: &str = "district|subdistrict|neighborhood|subunit";
 
-/// What the name of a project says that can't win, and what may stand behind that.
-const WITHDRAWN: &str =
-    "withdrawn|rejected|cancelled|canceled|disqualified|wycofany|wycofane|odrzucony|odrzucone|\
-    zurückgezogen|abgelehnt|staženo|odstoupeno|zrušeno|retirado|retirada|rechazado|anulado|ritirato|ritirata|annullato|\
-    retiré|retirée|annulé|annulée|ingetrokken|vervallen|peruttu|tilbagetrukket|återkallad|visszavonva";
-
-const SAID_BY: &str = "by|on|in|from|since";
+/// What columns are called that say where a project is.
+const PLACES: &str =
+    "street|address|location|place|site|ulica|adres|lokalizacja|strasse|straße|adresse|standort|ort|rue|lieu|calle|direccion|\
+    dirección|ubicacion|ubicación|via|indirizzo|luogo|misto|místo|lokalita";
 
 /// What the name of an answer is that stands for no project, or how it begins.
 const NO_PROJECT: &str =
@@ -50,15 +46,17 @@ const NO_PROJECT: &str =
 
 const NO_PROJECTS: &str = "none of |against all|neither of ";
 
+/// What the name of an answer is that stands for all projects.
+const ALL_PROJECTS: &str =
+    "all|all of the above|all of these|all projects|every project|alle|alle projekte|alle genannten|wszystkie|wszystkie projekty|\
+    wszystkie powyższe|tous|tous les projets|todos|todas|todos los proyectos|tutti|tutti i progetti|všechny|všechny projekty";
+
 /// What the name of a test is, or how it begins.
 const TESTS: &str =
     "test|testing|test project|testprojekt|dummy|dummy project|placeholder|sample project|example project|xxx|tbd";
 
 const OF_TESTS: &str =
     "test project |asdf|qwerty|lorem ipsum|do not publish|do not count|delete me";
-
-/// Signs in a name that is struck out.
-const STRUCK_OUT: &str = "<s>|<del>|<strike>|~~|\u{336}";
 
 /// What is kept of a project.
 #[derive(Clone, Copy)]
@@ -86,8 +84,9 @@ pub struct ProjectOddities {
     name: Option<usize>,
     votes: Option<usize>,
     selected: Option<usize>,
-    /// The first column that names a part of the city.
+    /// The first column that names a part of the city, and the first that says where a project is.
     district: Option<usize>,
+    place: Option<usize>,
     /// The fewest ballots that have to approve a project, where META says so.
     fewest: Option<u64>,
     twins: Twins,
@@ -111,6 +110,7 @@ impl ProjectOddities {
         projects: &Firsts,
     ) -> Result<ProjectOddities, AllocError> {
         let is_of_district = |place: &usize| is_one_of(DISTRICTS, text_at(names, *place));
+        let is_of_place = |place: &usize| is_one_of(PLACES, text_at(names, *place));
         Ok(ProjectOddities {
             alloc,
             names: names.len(),
@@ -120,6 +120,7 @@ impl ProjectOddities {
             votes: column_of(names, "votes"),
             selected: column_of(names, "selected"),
             district: (0..names.len()).find(is_of_district),
+            place: (0..names.len()).find(is_of_place),
             fewest,
             twins: Twins::new(alloc),
             further: FurtherColumns::of(alloc, names, header, Section::Projects)?,
@@ -137,6 +138,7 @@ impl ProjectOddities {
         if has_thousands_mark(row.value()) {
             found.take(row.odd(Oddity::ThousandsMark));
         }
+        self.take_thousands(row, found);
         if row.has_key(row.bytes().0) {
             found.take(row.odd(Oddity::FooterRow).in_form(5));
         }
@@ -145,7 +147,8 @@ impl ProjectOddities {
         self.first_row.take(row.record);
         let name = row.at(self.name.unwrap_or(usize::MAX));
         let district = row.at(self.district.unwrap_or(usize::MAX));
-        self.twins.take(row, (name, district), found)?;
+        let place = row.at(self.place.unwrap_or(usize::MAX));
+        self.twins.take(row, name, (district, place), found)?;
         self.values.take(row)?;
         self.unread.take(row);
         if says_withdrawn(name) {
@@ -165,12 +168,25 @@ impl ProjectOddities {
         Ok(())
     }
 
+    /// Takes a row, which is odd so if its cost has three digits at most, and the name behind it just three.
+    fn take_thousands(&self, row: &Row<'_>, found: &mut Oddities) {
+        let odd = row.odd(Oddity::ThousandsMark).in_form(1);
+        let behind = odd.value_place.saturating_add(1);
+        let (cost, name) = (row.value(), row.at(behind));
+        let are_digits = is_digits(cost) && is_digits(name);
+        if self.name == Some(behind) && are_digits && cost.len() <= 3 && name.len() == 3 {
+            found.take(odd.at(behind));
+        }
+    }
+
     /// Takes the name of a project, which is odd so if it is that of an answer for none or of a test.
     fn take_name(&mut self, name: &str, odd: Odd, found: &mut Oddities) {
         if is_one_of(NO_PROJECT, name) {
             self.none = Some(odd.in_form(9).behind(self.none));
         } else if begins_as(NO_PROJECTS, name) {
             found.take(odd.in_form(9));
+        } else if is_one_of(ALL_PROJECTS, name) {
+            found.take(odd.in_form(12));
         } else if is_one_of(TESTS, name) || begins_as(OF_TESTS, name) {
             found.take(odd.in_form(10));
         }
@@ -220,6 +236,7 @@ impl ProjectOddities {
     ) -> Result<(), AllocError> {
         self.take_total(election, found);
         self.take_costs(election, found);
+        self.take_in_thousands(election, found)?;
         let compares = self.votes.is_some() && !has_fault;
         let approvals = Approvals::of(self.alloc, election)?;
         let supporters = approvals.all.as_slice();
@@ -305,6 +322,24 @@ impl ProjectOddities {
         found.take_some(counted.map(|odd| odd.in_form(8)));
     }
 
+    /// Takes the costs that are probably in thousands, where others are not.
+    fn take_in_thousands(
+        &self,
+        election: &Election,
+        found: &mut Oddities,
+    ) -> Result<(), AllocError> {
+        let largest = largest_in_thousands(self.alloc, election.projects())?;
+        let mut first = None;
+        for (row, project) in self.accepted.iter().zip(election.projects()) {
+            if largest.is_some_and(|largest| project.cost().0 <= largest) {
+                first = Some(row.odd.as_a(Oddity::ThousandsMark).in_form(2).behind(first));
+            }
+        }
+        let first = first.filter(|odd: &Odd| !found.tells_of(odd.as_a(Oddity::FooterRow)));
+        found.take_some(first);
+        Ok(())
+    }
+
     /// Takes the first or the last row if it is probably a total.
     fn take_total(&self, election: &Election, found: &mut Oddities) {
         let (Some(first), Some(last)) = (self.accepted.first(), self.accepted.last()) else {
@@ -379,49 +414,9 @@ fn take_comma(odd: Odd, id: &str, projects: &Firsts, found: &mut Oddities) {
     }
 }
 
-/// Whether the name of a project says that it is withdrawn or the like: with such a word in capitals at its end, or at the
-/// start of a part of it, or struck out.
-fn says_withdrawn(name: &str) -> bool {
-    for (place, piece) in name.split(|c: char| "()[]".contains(c)).enumerate() {
-        for part in piece.split(|c: char| ",/\u{2013}\u{2014}".contains(c)) {
-            let tail = part.rsplit_once(" - ").map_or("", |(_, tail)| tail);
-            if begins_withdrawn(part, name, place > 0) || begins_withdrawn(tail, name, false) {
-                return true;
-            }
-        }
-    }
-    is_loud(last_word(name), name) || is_struck_out(name)
-}
-
-/// Whether a name has a sign by which it is struck out: first whether it has a byte of one, which few have.
-fn is_struck_out(name: &str) -> bool {
-    let is_of_sign = |byte: &u8| matches!(*byte, b'<' | b'~' | 0xcc);
-    name.as_bytes().iter().any(is_of_sign) && has_part(STRUCK_OUT, name)
-}
-
 /// Whether a name begins as one of these does.
 fn begins_as(words: &str, name: &str) -> bool {
     words.split('|').any(|start| begins(name, start))
-}
-
-/// Whether a part of a name begins with such a word, which is alone, in capitals, or has a sign or a number behind it, or `by` or
-/// the like (outside brackets with a number).
-fn begins_withdrawn(part: &str, name: &str, is_inside: bool) -> bool {
-    let (first, rest) = first_word(part);
-    let word = first.trim_matches(|c: char| "*:!-".contains(c));
-    if !is_one_of(WITHDRAWN, word) {
-        return false;
-    }
-    let next = first_word(rest).0;
-    let is_said = is_one_of(SAID_BY, next) && (is_inside || has_digit(rest));
-    let is_apart = word.len() < first.len() || matches!(next, "" | "-") || has_digit(next);
-    is_apart || is_said || is_loud(word, name)
-}
-
-/// Whether a word says so in capitals, and not the whole name is written so.
-fn is_loud(word: &str, name: &str) -> bool {
-    let is_small = |c: char| c.is_lowercase();
-    is_one_of(WITHDRAWN, word) && name.contains(is_small) && !word.contains(is_small)
 }
 
 /// Whether the project at this place costs as much as all others together, and no ballot approves it.

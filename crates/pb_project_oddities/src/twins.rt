@@ -27,12 +27,13 @@ impl Twins {
         }
     }
 
-    /// Takes a project with this name, in this part of the city. One with a name is odd if an earlier one has
+    /// Takes a project with this name, in this part of the city and at this place. One with a name is odd if an earlier one has
     /// its name and its cost, and an id that differs only by zeros before a number, white space or case.
     pub fn take(
         &mut self,
         row: &Row<'_>,
-        (name, district): (&str, &str),
+        name: &str,
+        (district, where_it_is): (&str, &str),
         found: &mut Oddities,
     ) -> Result<(), AllocError> {
         let odd = row.odd(Oddity::RepeatedKey).in_form(1);
@@ -50,7 +51,7 @@ impl Twins {
             Some((first, its)) if its == cost => found.take(odd.repeats(first)),
             _ => {}
         }
-        let key = joined(self.alloc, name, district)?;
+        let key = joined(self.alloc, joined(self.alloc, name, district)?, where_it_is)?;
         if let Some(first) = self.names.insert(self.alloc, key.as_str(), place)? {
             self.again.push((first, place))?;
         }

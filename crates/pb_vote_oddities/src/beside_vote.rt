@@ -104,8 +104,9 @@ impl BesideVote {
             return;
         }
         self.is_open = false;
+        let has_vote = !row.ballot().is_empty();
         for column in self.columns.iter_mut() {
-            let is_full = !bytes_at(row.record, column.place).is_empty();
+            let is_full = has_vote && !bytes_at(row.record, column.place).is_empty();
             if column.is_open() && !(is_full && column.waits()) {
                 column.take(self.alloc, row, self.header, above);
             }
@@ -184,9 +185,10 @@ impl OtherColumn {
         self.is_of_votes || self.last_empty.is_open || self.crosses.is_open || self.is_of_text()
     }
 
-    /// Whether only a row that has nothing in it can say something.
+    /// Whether only a row can say something that has nothing in it, or no vote.
     fn waits(&self) -> bool {
-        self.last_empty.waits() && !(self.is_of_votes || self.crosses.is_open || self.is_of_text())
+        let is_of_empty = self.last_empty.is_open && !self.last_empty.waits();
+        !(is_of_empty || self.crosses.is_open || self.is_of_text())
     }
 
     fn is_of_text(&self) -> bool {

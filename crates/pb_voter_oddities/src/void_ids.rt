@@ -1,7 +1,8 @@
-//! Voters' ids with a word such as `void` or `test`, where nearly all ids have a number, and those that are two numbers,
-//! where nearly all are one.
+//! Voters' ids with a word such as `void`, `test` or `total`, where nearly all ids have a number, those that are two numbers,
+//! where nearly all are one, and those that end in a number of times.
 
 use crate::prelude::*;
+use pb_oddities::totals::has_total;
 use pb_seen::amounts::whole_number;
 use pb_seen::changed::{is_digits, is_one_of};
 use pb_seen::fields::has_byte;
@@ -13,6 +14,9 @@ const WORDS: &str =
 
 const SHORTEST: usize = 4;
 
+/// How short a word for a total may be.
+const SHORTEST_TOTAL: usize = 3;
+
 /// How many words of an id are told apart.
 const MOST: usize = 8;
 
@@ -22,7 +26,7 @@ const BETWEEN: &str = "-/&+,\u{2013}";
 /// The fewest ids of two numbers that begin where the one before ends.
 const FEWEST_CHAINED: u64 = 2;
 
-/// The ids with such a word, or two numbers.
+/// The ids with such a word, two numbers, or a number of times.
 #[derive(Clone, Copy)]
 pub struct VoidIds {
     /// The first row with one and a vote, measured by how many there are: by how many words its id has, or at 0 if it has no
@@ -37,6 +41,10 @@ pub struct VoidIds {
     /// The larger number of the last such row, and how many begin with the next one.
     last: Option<u64>,
     chained: u64,
+    /// The first row with a word for a total and one project in its vote, and the first whose id ends in a number of times, each
+    /// measured by how many there are.
+    totals: Option<Odd>,
+    times: Option<Odd>,
 }
 
 impl VoidIds {
@@ -50,6 +58,8 @@ impl VoidIds {
             alone: 0,
             last: None,
             chained: 0,
+            totals: None,
+            times: None,
         }
     }
 
@@ -76,13 +86,26 @@ impl VoidIds {
             *count = count.saturating_add(1);
         }
         self.numbers = self.numbers.saturating_add(u64::from(has_digit));
-        let has_vote = longest >= SHORTEST && !row.ballot().is_empty() && !has_byte(id, b'@');
-        if has_vote && has_void_word(row.id()) {
-            let odd = row.odd(Oddity::NoteRows).in_form(12);
-            let place = if has_digit && words > 1 { words } else { 0 };
-            if let Some(first) = self.firsts.get_mut(place) {
-                *first = Some(odd.at(odd.id_place).behind(*first));
+        if has_digit && ends_in_times(id) {
+            let odd = row.odd(Oddity::SeveralBallots).in_form(6);
+            self.times = Some(odd.at(odd.id_place).behind(self.times));
+        }
+        let may_be_word = longest >= SHORTEST_TOTAL && !has_byte(id, b'@');
+        if may_be_word && !row.ballot().is_empty() {
+            self.take_words(row, longest, if has_digit && words > 1 { words } else { 0 });
+        }
+    }
+
+    /// Takes a row with a vote, whose id has a word of this length at most, by how many words are in it.
+    fn take_words(&mut self, row: &Row<'_>, longest: usize, words: usize) {
+        let odd = row.odd(Oddity::NoteRows);
+        let odd = odd.at(odd.id_place);
+        if longest >= SHORTEST && has_void_word(row.id()) {
+            if let Some(first) = self.firsts.get_mut(words) {
+                *first = Some(odd.in_form(12).behind(*first));
             }
+        } else if row.ballot().len() == 1 && has_total(row.id()) {
+            self.totals = Some(odd.in_form(16).behind(self.totals));
         }
     }
 
@@ -126,6 +149,18 @@ impl VoidIds {
         let is_few = |odd: &Odd| are_numbers && odd.number.saturating_mul(8) <= voters;
         first.filter(is_few)
     }
+
+    /// The first row with a word for a total, if these are two or more, and one in four of so many at most.
+    pub fn total(&self, voters: u64) -> Option<Odd> {
+        let is_few = |odd: &Odd| odd.number > 1 && odd.number.saturating_mul(4) <= voters;
+        self.totals.filter(is_few)
+    }
+
+    /// The first row whose id ends in a number of times, if these are half of so many at most.
+    pub fn bundle(&self, voters: u64) -> Option<Odd> {
+        let is_few = |odd: &Odd| odd.number.saturating_mul(2) <= voters;
+        self.times.filter(is_few)
+    }
 }
 
 /// The earlier row of two, measured by both together.
@@ -144,6 +179,14 @@ fn two_numbers(id: &str) -> Option<(u64, u64)> {
     }
     let (one, other) = (whole_number(one)?, whole_number(other)?);
     (one < other).then_some((one, other))
+}
+
+/// Whether an id ends in a number of times, as `W005 x3`.
+fn ends_in_times(id: &[u8]) -> bool {
+    let mut bytes = id.iter().rev().skip_while(|byte| byte.is_ascii_digit());
+    let is_times = matches!(bytes.next(), Some(b'x' | b'X' | b'*'));
+    let is_apart = matches!(bytes.next(), Some(b' ' | b'-' | b'_' | b'('));
+    is_times && is_apart && id.last().is_some_and(|byte| byte.is_ascii_digit())
 }
 
 /// Whether an id has such a word.

@@ -5,6 +5,7 @@
 //! a warning.
 #![tactic(auto)]
 
+mod later_texts;
 mod prelude;
 mod shared_texts;
 mod vote_oddities;

@@ -115,3 +115,59 @@ pub(crate) const OTHER_PROJECTS: &str = "it has ids of other projects, and is no
 a column of PROJECTS has ids of other projects, and is not read
 If it says that projects exclude each other, or that one takes the place of another, do what your rules say: take out the project \
     that can't win, and its id out of the votes. If it says something else, call it `comment`.";
+
+pub(crate) const A_BUDGET_BESIDE: &str =
+    "{value} is not counted: all projects share the amount of the key `budget`
+a budget beside the key `budget` is not counted: all projects share the amount of that key
+If each district or category has a budget of its own, make a file for each: its budget, its projects, only the \
+    voters who may vote there, and of each vote the ids of its projects.";
+
+pub(crate) const BUDGETS_OF_PARTS: &str =
+    "the different amounts in column {column} are together the budget, and are not read
+the different amounts of a column of PROJECTS are together the budget, and are not read
+If they are budgets of districts or categories, make a file for each: its budget, its projects, only the \
+    voters who may vote there, and of each vote the ids of its projects.";
+
+pub(crate) const CUT_THOUSANDS: &str =
+    "the name is {value}, and the cost has three digits at most: a `;` may have cut the amount
+a project's name has three digits, and its cost three at most: a `;` may have cut the amount
+If so, write the amount in one field, such as `48000`. If not, nothing is wrong.";
+
+pub(crate) const IN_THOUSANDS: &str =
+    "its cost, {value}, may be in thousands, and other costs are not. This concerns {projects}
+a cost may be in thousands, and other costs are not. This concerns {projects}
+Compare these costs with the office's list. Where they are in thousands, write them whole. If they are right, nothing is wrong.";
+
+pub(crate) const ALL_PROJECTS: &str = "its name is that of an answer for all of the projects
+a project's name is that of an answer for all of the projects
+It is counted as a project, and wins money if enough voters chose it. If it is no project, write the ids of all projects in place \
+    of its id in the votes, and delete its row. If it is one, nothing is wrong.";
+
+pub(crate) const OTHER_DISTRICT: &str =
+    "{value}, in column {column}, is not the district that META names, and no row has that one. This concerns {rows}
+all voters are of another district than the one that META names. This concerns {rows}
+These may be the votes of another district, whose projects have the same ids. Compare META, PROJECTS and some votes. If they are \
+    of one vote, as where the district has two names, nothing is wrong.";
+
+pub(crate) const OTHER_CURRENCY: &str =
+    "{value}, in column {column}, is not the currency that META names. The column is ignored
+a project's currency is not the one that META names. The column is ignored
+If the costs are not in the currency of the budget, write all of them in that one. If they are, correct META or the column.";
+
+pub(crate) const SUBTOTAL: &str =
+    "the id, {value}, has a word for a total in it, and the vote names one project. This concerns {rows}
+an id has a word for a total in it, and the vote names one project. This concerns {rows}
+It is counted as a voter. If the row is a total of the rows above, as the number of ballots in a box, delete it. If it is a \
+    ballot, keep it.";
+
+pub(crate) const A_BUNDLE: &str =
+    "the id, {value}, ends in a number of times, and other ids do not. This concerns {rows}
+an id ends in a number of times, and other ids do not. This concerns {rows}
+It is counted as one voter. Ask what the number means. If the row stands for several equal ballots, write a row for each of \
+    them, with an id of its own. If it is one ballot, nothing is wrong.";
+
+pub(crate) const IDS_AS_VOTER: &str =
+    "{value}, in place of a voter's id, is a list of projects' ids, so id and vote may be exchanged. This concerns {rows}
+a voter's id is a list of projects' ids, so id and vote may be exchanged. This concerns {rows}
+Compare these rows with the ballots, and all rows beside them, also those with one id there. Where the two are exchanged, exchange \
+    them back.";

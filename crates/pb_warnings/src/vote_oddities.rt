@@ -9,6 +9,7 @@ use pb_oddities::totals::has_total;
 use pb_oddities::unread::Unread;
 use pb_seen::amounts::whole_number;
 use pb_seen::changed::{form_of, has_digit, has_one_of, is_digits};
+use pb_seen::fields::has_byte;
 use pb_seen::firsts::names_other;
 use pb_seen::rows::VoteRows;
 use pb_vote_oddities::behind_vote::BehindVote;
@@ -34,6 +35,9 @@ use pb_voter_oddities::voter_lists::ends_in_projects;
 
 /// What stands in place of an id below a list that was signed.
 const SIGNED: &str = "signed|signature|podpis|unterschrift";
+
+/// The form of a row whose id is the ids of projects.
+const IDS_FOR_A_VOTER: usize = 7;
 
 /// The fewest rows whose number a last row has.
 const FEWEST_ROWS: u64 = 5;
@@ -65,6 +69,8 @@ pub struct VoteOddities {
     one_each: OneEach,
     persons: Persons,
     void_ids: VoidIds,
+    /// The first row with a vote whose id is a list of projects, measured by how many there are.
+    exchanged: Option<Odd>,
     brackets: Brackets,
     /// Where the last row begins, and what it is.
     last_row: Option<(Mark, Part)>,
@@ -112,6 +118,7 @@ impl VoteOddities {
             one_each: OneEach::of(alloc, names, header)?,
             persons: Persons::of(alloc, names, header),
             void_ids: VoidIds::new(),
+            exchanged: None,
             brackets: Brackets::default(),
             last_row: None,
             empty: 0,
@@ -165,7 +172,11 @@ impl VoteOddities {
 
     /// Takes what a row shows that follows another one, or belongs to it, or to a voter without a row.
     fn take_others(&mut self, row: &Row<'_>, id: &[u8]) -> Result<(), AllocError> {
-        self.runs.take(row)?;
+        if has_byte(id, b',') {
+            self.take_list(row);
+        } else {
+            self.runs.take(row)?;
+        }
         if self.copies.is_open() {
             self.copies.take(row, id)?;
         }
@@ -186,6 +197,14 @@ impl VoteOddities {
             self.persons.take(row)?;
         }
         Ok(())
+    }
+
+    /// Takes a row whose id has a comma: it may be the vote.
+    fn take_list(&mut self, row: &Row<'_>) {
+        if names_other(row.id(), &[], row.projects).is_some() && !row.ballot().is_empty() {
+            let odd = row.odd(Oddity::IdBehindVote).in_form(IDS_FOR_A_VOTER);
+            self.exchanged = Some(odd.at(odd.id_place).behind(self.exchanged));
+        }
     }
 
     /// Takes the id of a row, which may be that of another row, of several voters, or of none.
@@ -351,6 +370,9 @@ impl VoteOddities {
         let is_told = void.is_some_and(|odd| found.tells_of(odd));
         found.take_some(void.filter(|_| !is_told));
         found.take_some(self.void_ids.pair(voters));
+        found.take_some(self.void_ids.total(voters));
+        found.take_some(self.void_ids.bundle(voters));
+        found.take_some(self.exchanged);
         found.take_some(self.persons.odd());
         self.phones.end(election, found)?;
         self.proxies.end(election, found)

@@ -211,7 +211,9 @@ fn put_odd_remedy<R: Files>(out: &mut WordsWriter, text: &Text<R>, odd: &Odd, od
             &[Own(cause.name())],
         ),
         _ if is_length && put_all_break(out, odd, oddities) => {}
-        (None, Oddity::ThousandsMark) if oddities.has_decimals => out.put(BESIDE_DECIMALS),
+        (None, Oddity::ThousandsMark) if oddities.has_decimals && odd.form == 0 => out.put(
+            BESIDE_DECIMALS,
+        ),
         _ => {
             put_text(out, text, odd, (said_of(odd).2, None));
             let is_twice = odd.oddity == Oddity::TwiceInVote && odd.form == 0;

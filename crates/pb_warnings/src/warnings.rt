@@ -107,6 +107,7 @@ impl Warnings {
                     names: &self.witness.ids.names,
                     limits: &self.meta.limits,
                     district: self.meta.district.as_str(),
+                    currency: self.meta.currency.as_str(),
                     ballot: last_ballot(election),
                 };
                 match (part, &mut self.projects, &mut self.votes) {

@@ -67,7 +67,7 @@ pub(crate) fn put_over(out: &mut WordsWriter, span: Span, is_sentence: bool) -> 
         &[Number(closes)],
     );
     let form = if span.is_single {
-        "If each line should be a row of its own, delete the quotation mark on line {} and the one on line {}.\n"
+        "If each line should be a row of its own, delete the quotation mark on line {} and the one on line {}. If such a mark stands for the text above it, write that text in its place.\n"
     } else {
         "If each line should be a row of its own, line {} has one quotation mark too many, or one too few. Then its field may have lost its end: look at the original. The quotation marks on line {} may be right.\n"
     };

@@ -342,7 +342,9 @@ impl<R: Files> Case<'_, R> {
         let marks = self.faulty.marks();
         let is_short = self.faulty.kind() == ReadKind::MissingField;
         let words = if self.is_vote_alone() {
-            "This row has ids of projects alone. If the first is a voter's id, write `;` in place of the first comma. If the row above has no vote, a line end may stand between the two: then join them. If neither, find out whose vote it is.\n"
+            "This row has ids of projects alone. If the row above has no vote, or its vote ends with a comma, a line end may stand between the two: then join them. If not, and the first id is a voter's, write `;` in place of the first comma. If neither, find out whose vote it is.\n"
+        } else if is_short && self.is_wrapped() {
+            "The row above ends with a comma, so a line end may stand in its vote. Look at that voter's ballot. If it has this id too, join the two lines. If not, find out what this line is.\n"
         } else if let Some(marks) = marks {
             match marks {
                 JoinedBy::Tabs =>
@@ -367,6 +369,17 @@ impl<R: Files> Case<'_, R> {
         let (vote, ids) = (self.faulty.at(0), &self.known.witness.ids);
         let is_one = self.faulty.record.len() == 1 && self.faulty.is_of_votes();
         is_one && vote.contains(',') && ids.are_all(vote)
+    }
+
+    /// Whether it is a row of VOTES that has one field with an id of a project, below one that ends with a comma.
+    fn is_wrapped(&self) -> bool {
+        let ids = &self.known.witness.ids.projects;
+        let is_one = self.faulty.record.len() == 1 && self.faulty.is_of_votes();
+        let above = self.text.row_at(self.faulty.seen.last).filter(|_| is_one);
+        let is_open = |row: &ByteRecord| {
+            text_at(row, row.len().saturating_sub(1)).ends_with(',')
+        };
+        ids.has(self.faulty.at(0)) && above.is_some_and(|row| is_open(&row))
     }
 
     /// Puts that a row has more fields than there are column names, and what to do.

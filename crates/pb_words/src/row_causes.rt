@@ -9,7 +9,7 @@ use crate::unknown_words::is_of_other_alphabet;
 use pb_core::money::Money;
 use pb_read::Column;
 use pb_seen::changed::{Difference, has_word, is_digits, is_one_of};
-use pb_seen::fields::raw_text;
+use pb_seen::fields::{column_of, raw_text};
 use pb_witness::cause::Cause;
 use pb_witness::faulty_record::{FaultyRecord, has_other_line_end, is_spaced_mark};
 use pb_witness::known::FoundCause;
@@ -50,6 +50,23 @@ const DITTOS: &str =
 const DITTO: &str =
     "This may stand for the vote above. Look at the ballots of all such rows, and write the ids that these voters chose. Don't delete it before that.\n";
 
+/// What to do about a vote that is a formula, and about one that is a number with two decimals.
+const OF_CELLS: &str =
+    "`=` begins a formula, so this may name a cell of the table, and no project. Get the votes again, as values.\n";
+
+const TWO_DECIMALS: &str =
+    "A spreadsheet may have read the votes as numbers with two decimals: `1,3` as 1,30, and 1 as 1,00. Then votes with known ids are wrong too. Get all votes again, as text.\n";
+
+/// What to do about a project's row that stands in another section.
+const SLID_UP: &str =
+    "The row on line {}, in META, begins with this id, and has an amount: it seems to be this project's. If so, move it below the column names of PROJECTS.\n";
+
+const SLID_DOWN: &str =
+    "The first row of VOTES, on line {}, begins with this id, and has an amount: it seems to be this project's. If so, move it above the heading VOTES.\n";
+
+/// How long a project's name is, in bytes, by which its row is told from that of a voter.
+const LONG_NAME: usize = 10;
+
 /// What to do about unknown ids that are Roman numerals.
 const ROMAN: &str =
     "These ids may be Roman numerals, such as IV for 4. Compare some of these votes with the ballots. If so, write the ids of PROJECTS in their place. If not, look at all of these ballots, and write the ids that are meant.\n";
@@ -72,6 +89,18 @@ pub fn is_of_marks(vote: &str) -> bool {
     vote.split(',').count() > 2 && vote.split(',').all(|piece| is_mark(piece))
 }
 
+/// Whether a vote begins as a formula does that names a cell of a table.
+fn is_of_cells(vote: &str) -> bool {
+    let is_begun = |c: char| c.is_ascii_alphabetic() || c == '$';
+    vote.strip_prefix('=')
+        .is_some_and(|cell| cell.starts_with(is_begun))
+}
+
+/// Whether a vote is a whole number with `,00` behind it.
+fn is_of_decimals(vote: &str) -> bool {
+    vote.strip_suffix(",00").is_some_and(is_digits)
+}
+
 /// What to do about a vote that shows by itself why its ids are unknown; `is_open` if nothing else is known of that.
 pub(crate) fn vote_cause(vote: &str, is_open: bool) -> Option<&'static str> {
     if is_open && is_of_boxes(vote) {
@@ -80,6 +109,10 @@ pub(crate) fn vote_cause(vote: &str, is_open: bool) -> Option<&'static str> {
         Some(OF_MARKS)
     } else if is_one_of(DITTOS, vote.trim()) {
         Some(DITTO)
+    } else if is_of_cells(vote) {
+        Some(OF_CELLS)
+    } else if is_open && is_of_decimals(vote) {
+        Some(TWO_DECIMALS)
     } else {
         written_by(vote)
     }
@@ -224,6 +257,8 @@ impl<R: Files> Case<'_, R> {
                 "The row on line {}, below the heading VOTES, looks like this project. Correct that line first.\n",
                 &[Number(line_of(self.text, mark))],
             )
+        } else if let Some((mark, words)) = self.slid_project(self.faulty.piece()) {
+            out.fill(words, &[Number(line_of(self.text, mark))])
         } else if let Some(mark) = self.in_project(self.faulty.piece()) {
             out.fill(
                 "The row of PROJECTS on line {}, which has a fault, has this id in another column: its fields may be in another order. Correct that line first.\n",
@@ -259,9 +294,15 @@ impl<R: Files> Case<'_, R> {
         let Some(names) = self.text.row_at(self.faulty.seen.project_names) else {
             return;
         };
+        let (piece, first) = (self.faulty.piece(), self.id_of(0));
         if text_at(&names, place).eq_ignore_ascii_case(Column::Cost.name()) {
             out.put(
-                "All ids that no project has stand in column `cost`: the names `project_id` and `cost` may be exchanged. Compare some votes with the ballots. If the ballots have the ids of that column, exchange the two names. If they differ, get the votes again.\n",
+                "All ids that no project has stand in column `cost`: the names `project_id` and `cost` may be exchanged, or the votes may have costs in place of ids. Compare some votes with the ballots. If the ballots have the ids of that column, exchange the two names. If they differ, get the votes again.\n",
+            )
+        } else if self.are_of_both() && is_digits(piece) != is_digits(first) {
+            out.fill(
+                "All ids that no project has stand in column {}, and other votes have ids of `project_id`. There may be two lists, as one on paper and one on the web. If so, write in these votes the `project_id` of the row that has this there. If the ballots differ from the votes, get the votes again.\n",
+                &[Quoted(text_at(&names, place))],
             )
         } else {
             out.fill(
@@ -271,11 +312,45 @@ impl<R: Files> Case<'_, R> {
         }
     }
 
+    /// Whether votes that are accepted name projects.
+    fn are_of_both(&self) -> bool {
+        let rows = &self.known.witness.rows;
+        (0..self.projects()).any(|place| rows.is_named(place))
+    }
+
     /// Where a row of VOTES was refused that seems to be the project with this id.
     fn late_row(&self, id: &str) -> Option<Mark> {
         let mut refused = self.known.witness.refused.iter();
         let found = refused.find(|it| it.id() == id && it.is_like_project(self.text))?;
         Some(found.mark)
+    }
+
+    /// Where a row of META, or the first row of VOTES, has this id and an amount where projects have them, and what to do about it:
+    /// one of META with a text behind, one of VOTES with a long one and without a vote.
+    fn slid_project(&self, id: &str) -> Option<(Mark, &'static str)> {
+        let seen = &self.faulty.seen;
+        let names = self.text.row_at(seen.project_names)?;
+        let own = column_of(&names, Column::ProjectId.name())?;
+        let cost = column_of(&names, Column::Cost.name())?;
+        let has_text = |row: &ByteRecord, length: usize| {
+            let is_text = |place: usize| place != own
+                && place != cost
+                && text_at(row, place).len() >= length;
+            (0..row.len()).any(is_text)
+        };
+        let is_it = |row: &ByteRecord| text_at(row, own) == id
+            && Money::read(text_at(row, cost)).is_ok();
+        let is_head = |row: &ByteRecord| text_at(row, 0).eq_ignore_ascii_case("PROJECTS");
+        let (row, mark) = self
+            .text
+            .find(Mark::start(), |row| is_head(row) || is_it(row))?;
+        if !is_head(&row) && has_text(&row, 1) {
+            return Some((mark, SLID_UP));
+        }
+        let (row, mark) = self.text.find(seen.names, |_| true)?;
+        let (_, vote) = self.faulty.places();
+        let is_slid = is_it(&row) && text_at(&row, vote).is_empty() && has_text(&row, LONG_NAME);
+        is_slid.then_some((mark, SLID_DOWN))
     }
 
     /// Where a row of PROJECTS was refused that has this id in one of its fields.
